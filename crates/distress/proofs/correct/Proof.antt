@@ -1,0 +1,66 @@
+use mathlib.Core.Path.{refl}
+use Rattle.layout.specs.laws.Correcting.{correct-early, correct-late}
+use Rattle.distress.specs.Report.{reports}
+use Rattle.distress.specs.Sound.{sound}
+use borrow.Author.Needs.{needs}
+use Rattle.distress.proofs.correct.Statement.{statement}
+use Rattle.distress.proofs.correct.Tie as tie
+
+lead-requires : tie.Need-lead-requires
+lead-requires c κs = search needs
+
+fields-requires : tie.Need-fields-requires
+fields-requires c κs = search needs
+
+admits-requires : tie.Need-admits-requires
+admits-requires c κs = search needs
+
+same-length : tie.Need-same-length
+same-length c = search needs
+
+returns : tie.Need-returns
+unfolding reports
+returns c =
+    let f = c .before .before .before in
+    let a = f .before .before .before .before .args in
+    correct-early reports sound refl (a .buf .now) (a .field) (a .value) (f .before .lead .ensures) (f .fields .ensures .0) (c .before .admits .ensures) (c .if1 .taken)
+
+swap-requires : tie.Need-swap-requires
+swap-requires c κs = search needs
+
+fields-requires-2 : tie.Need-fields-requires-2
+fields-requires-2 c κs = search needs
+
+settle-requires : tie.Need-settle-requires
+settle-requires c κs = search needs
+
+same-length-2 : tie.Need-same-length-2
+same-length-2 c = search needs
+
+returns-2 : tie.Need-returns-2
+unfolding reports
+returns-2 c =
+    let settle = c .before .before in
+    let again = settle .before .before .before in
+    let swap = again .before .before .before .before in
+    let test = swap .before .before in
+    let f = test .before .before .before in
+    let known = f .before .before .before in
+    let a = known .before .args in
+    correct-late reports sound refl (a .buf .now) (a .field) (a .value) (f .before .lead .ensures) (f .fields .ensures .0) (λ i. known .slice-known .given i .fits)
+    (test .before .admits .ensures) (test .if1 .left) (swap .swap .ensures) (again .fields2 .ensures .0) (settle .settle .ensures)
+
+pub correct-spec : {M : Type 1} → statement M
+correct-spec =
+    tie.close
+    (tie.spec
+    lead-requires
+    fields-requires
+    admits-requires
+    same-length
+    returns
+    swap-requires
+    fields-requires-2
+    settle-requires
+    same-length-2
+    returns-2)

@@ -1,0 +1,32 @@
+use mathlib.Core.Path.{refl, sym, ap, _∙_}
+use Rattle.layout.specs.laws.Reading.{read-walked}
+use Rattle.layout.specs.laws.Step.{stuck, clear}
+use Rattle.distress.specs.Report.{reports, answerOf}
+use Rattle.distress.specs.declared.Answer.the-variants.{Good}
+use borrow.Author.Needs.{needs}
+use Rattle.distress.proofs.read.Statement.{statement}
+use Rattle.distress.proofs.read.Tie as tie
+
+lead-requires : tie.Need-lead-requires
+lead-requires c κs = search needs
+
+fields-requires : tie.Need-fields-requires
+fields-requires c κs = search needs
+
+returns : tie.Need-returns
+unfolding reports
+returns c =
+    let f = c .before .before in
+    let s = f .before .before .before .args .s .now in
+    sym (ap answerOf (read-walked reports s refl (f .before .lead .ensures) (f .fields .ensures .0) ∙ stuck (f .fields .result .walk) _ (c .if1 .taken)))
+
+returns-2 : tie.Need-returns-2
+unfolding reports
+returns-2 c =
+    let f = c .before .before in
+    let s = f .before .before .before .args .s .now in
+    let e = read-walked reports s refl (f .before .lead .ensures) (f .fields .ensures .0) in
+    sym (ap answerOf (e ∙ clear (f .fields .result .walk) _ (c .if1 .left)) ∙ ap Good (f .fields .ensures .1))
+
+pub read-spec : {M : Type 1} → statement M
+read-spec = tie.close (tie.spec lead-requires fields-requires returns returns-2)

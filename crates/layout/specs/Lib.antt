@@ -1,0 +1,10 @@
+-- The definitions that contracts cite, and in `laws` what is proved of them for every layout.
+pub mod Fmt
+pub mod Words
+pub mod Message
+pub mod Sign
+pub mod Walk
+pub mod Reading
+pub mod Judging
+pub mod Correcting
+pub mod laws

@@ -1,0 +1,69 @@
+-- What each step of reading answers, from the bytes. Assumes nothing.
+use Prim.Native.Nat.{ℕ, _+_, _/_, _%_, _^_}
+use mathlib.Core.Bool.{Bool, true, false, cond, _&&_, _||_}
+use mathlib.Core.List.{List}
+use lib.Dec.{leb, ltb, eqb}
+use lib.ListN.{length}
+use Rattle.bits.specs.Answers.{within, got}
+use Rattle.layout.specs.Walk.{onward}
+use Rattle.layout.specs.declared.walk.Walk.{Walk}
+
+-- ---- the numbers of faults
+
+abbrev pub ranging : List ℕ → ℕ → ℕ → ℕ → ℕ → ℕ → ℕ
+ranging s at w lo hi c = cond (within (length s) at w) (cond (leb lo (got s at w) && leb (got s at w) hi) 0 c) 1
+
+abbrev pub signing : List ℕ → ℕ → ℕ → ℕ → ℕ → ℕ → ℕ
+signing s at w top bottom none = cond (within (length s) at w) (cond (leb (got s at w) top || leb bottom (got s at w) || eqb (got s at w) none) 0 4) 1
+
+-- ---- the steps
+
+abbrev pub ranged : List ℕ → ℕ → Bool → ℕ → ℕ → ℕ → Walk → Walk
+ranged s w free lo hi c r = onward w free (got s (r .at) w) (ranging s (r .at) w lo hi c) 0 r
+
+abbrev pub signedly : List ℕ → ℕ → ℕ → ℕ → ℕ → Walk → Walk
+signedly s w top bottom none r = onward w true (got s (r .at) w) (signing s (r .at) w top bottom none) 0 r
+
+-- ---- groups: parts that are corrected as one number
+
+-- past a part of w bits from lo to hi
+unfoldable pub parted : List ℕ → ℕ → ℕ → ℕ → Walk → Walk
+parted s w lo hi r = record {
+  at = (r .at + w) % 2 ^ 64;
+  code = cond (eqb (r .code) 0) (ranging s (r .at) w lo hi 4) (r .code);
+  place = cond (eqb (r .code) 0) (r .at) (r .place);
+  v = r .v;
+  seek = r .seek;
+  left = r .left;
+  spot = r .spot;
+  width = r .width;
+}
+
+-- past the whole field, whose parts ended in the walk p
+unfoldable pub grouped : List ℕ → ℕ → Walk → Walk → Walk
+grouped s w p r = let n = onward w true (got s (r .at) w) 0 0 r in record {
+  at = n .at;
+  code = p .code;
+  place = p .place;
+  v = n .v;
+  seek = n .seek;
+  left = n .left;
+  spot = n .spot;
+  width = n .width;
+}
+
+-- the end of the bytes s, at a whole byte
+abbrev pub ended-at : List ℕ → ℕ → Walk → Walk
+ended-at s at r = record {
+  at = at;
+  code = cond (eqb (r .code) 0) (cond (ltb (at / 8) (length s)) 1 0) (r .code);
+  place = cond (eqb (r .code) 0) at (r .place);
+  v = 0;
+  seek = false;
+  left = 0;
+  spot = r .spot;
+  width = cond (r .seek) 0 (r .width);
+}
+
+abbrev pub ended : List ℕ → Walk → Walk
+ended s r = ended-at s (r .at) r

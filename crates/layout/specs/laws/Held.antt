@@ -1,0 +1,46 @@
+-- What accepted values have, field by field. Assumes nothing.
+use mathlib.Core.Path.{_≡_, refl, sym, _∙_}
+use mathlib.Core.Bool.{Bool, true, false, cond, _&&_}
+use mathlib.Core.List.{List, [], _∷_}
+use Prim.Native.Nat.{ℕ, suc, _+_, _<_, _^_}
+use native.Mathlib.Omega.{arith}
+use lib.Dec.{leb}
+use borrow.Author.Tests.{lt-ltb}
+use Rattle.bits.specs.Bits.{digits}
+use Rattle.layout.specs.Fmt.{accepted, good, Fmt, end, field, choice, bytes, write}
+use Rattle.layout.specs.Words.{_‥_, only}
+use Rattle.layout.specs.laws.Judging.{wrong-narrow}
+use Rattle.layout.specs.laws.Reading.{only-one}
+use Rattle.layout.specs.laws.Round.{clash, written, sized-inv}
+use Rattle.layout.specs.laws.Step.{blamed}
+
+-- as many values as fields, each narrow enough and judged good
+abbrev pub Held : Fmt → List ℕ → List ℕ → Type 0
+Held end h [] = Unit
+Held end h (v ∷ vs) = ⊥
+Held (field w j m f) h [] = ⊥
+Held (field w j m f) h (v ∷ vs) = (v < 2 ^ w) × (j h (digits w v) ≡ good) × Held f (v ∷ h) vs
+Held (choice w j f) h [] = ⊥
+Held (choice w j f) h (v ∷ vs) = (v < 2 ^ w) × (j h (digits w v) ≡ good) × Held (f v) (v ∷ h) vs
+Held (bytes f) h [] = ⊥
+Held (bytes f) h (n ∷ vs) = Held (f n) (n ∷ h) vs
+
+pub held : (f : Fmt) (h : List ℕ) (at : ℕ) (vs : List ℕ) (b : List Bool) → write f h at vs ≡ accepted b → Held f h vs
+unfolding write
+held end h at [] b e = tt
+held end h at (v ∷ vs) b e = clash e
+held (field w j m f) h at [] b e = clash e
+held (field w j m f) h at (v ∷ vs) b e = let y = written w j h at v _ b e in (y .narrow, y .fine, held f (v ∷ h) (at + w) vs (y .rest) (y .after))
+held (choice w j f) h at [] b e = clash e
+held (choice w j f) h at (v ∷ vs) b e = let y = written w j h at v _ b e in (y .narrow, y .fine, held (f v) (v ∷ h) (at + w) vs (y .rest) (y .after))
+held (bytes f) h at [] b e = clash e
+held (bytes f) h at (n ∷ vs) b e = held (f n) (n ∷ h) at vs b (sized-inv n at _ e .0)
+
+-- a field of one good value has it
+pub exactly : (w c n : ℕ) (h : List ℕ) (v : ℕ) → v < 2 ^ w → only w (suc c) (n ‥ n) h (digits w v) ≡ good → v ≡ n
+exactly w c n h v l e =
+    only-one n v c (go (leb n v && leb v n) (sym (wrong-narrow w c (n ‥ n) h v l) ∙ rw (lt-ltb v (2 ^ w) l) e))
+  where
+    go : (x : Bool) → blamed (cond x 0 (suc c)) 0 ≡ good → cond x 0 (suc c) ≡ 0
+    go true e = refl
+    go false e = let z : _≡_ {A = ℕ} 0 1 = cc in absurd (omega arith)

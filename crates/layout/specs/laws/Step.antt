@@ -1,0 +1,205 @@
+-- One step of the walk, over any judge: where reading stands at a field, it stands behind it afterwards. Assumes nothing.
+use mathlib.Core.Path.{_≡_, refl, sym, ap, _∙_}
+use mathlib.Core.Bool.{Bool, true, false, cond, _&&_}
+use mathlib.Core.List.{List, [], _∷_}
+use Prim.Native.Nat.{ℕ, zero, suc, _+_, _-_, _*_, _%_, _≤_, _<_, _^_}
+use native.Mathlib.Omega.{arith}
+use native.Mathlib.Nat.{add-zero, add-assoc, le-refl, mod-eq-of-lt}
+use lib.Dec.{leb, eqb}
+use lib.ListN.{length, take, drop, length-take, length-drop}
+use lib.Seq.{length-take-le, take-take, drop-drop}
+use borrow.Author.Tests.{le-leb, lt-leb, leb-true, leb-false, eq-eqb, ne-eqb}
+use Rattle.bits.specs.Bits.{valueOf, bitsOf, fieldAt}
+use Rattle.bits.specs.Answers.{within, got}
+use Rattle.bits.specs.Laws.{length-bits}
+use Rattle.layout.specs.Fmt.{Out, accepted, refused, Fault, good, bad, orBad, Judge, Fmt, field, choice, check, also, readField, read, Spot, none, found, later, where?, spot}
+use Rattle.layout.specs.Walk.{onward}
+use Rattle.layout.specs.Words.{Test, walk, orElse, unless, only, code}
+use Rattle.layout.specs.declared.walk.Walk.{Walk}
+
+-- a refusal sticks
+abbrev pub sticky : {A : Type 0} → Walk → Out A → Out A
+sticky r o = cond (eqb (r .code) 0) o (refused (r .code) (r .place))
+
+pub stuck : {A : Type 0} (r : Walk) (o : Out A) → (r .code ≡ 0 → ⊥) → sticky r o ≡ refused (r .code) (r .place)
+stuck r o h = rw (ne-eqb (r .code) 0 h) refl
+
+pub clear : {A : Type 0} (r : Walk) (o : Out A) → r .code ≡ 0 → sticky r o ≡ o
+clear r o h = rw (eq-eqb (r .code) 0 h) refl
+
+-- where the field stood that was sought, if it may be corrected
+abbrev pub stood : Walk → Spot
+stood r = cond (eqb (r .width) 0) none (found (r .spot) (r .width))
+
+-- where the sought field will be found to stand, if g says where it is from `at` on
+abbrev pub sought : Walk → ℕ → (ℕ → Spot) → Spot
+sought r at g = cond (r .seek) (later at (g (r .left))) (stood r)
+
+-- o is what reading f from `at` on answers, the values before it put in front by k, unless r was refused before;
+-- and the field i of `all` is found by r, or will be.
+pub record Reading (o : Out (List ℕ)) (all : Fmt) (i : ℕ) (s : List ℕ) (f : Fmt) (h : List ℕ) (at : ℕ) (k : List ℕ → List ℕ) (r : Walk) : Type 0 where
+  pub so : o ≡ sticky r (also k (read f h at (drop at (bitsOf s))))
+  pub here : r .at ≡ at
+  pub spots : (vs : List ℕ) → spot all [] (k vs) i ≡ sought r at (spot f h vs)
+  pub slim : r .width ≤ 32
+
+pub also-also : (k : List ℕ → List ℕ) (v : ℕ) (o : Out (List ℕ)) → also k (also (v ∷_) o) ≡ also (λ vs. k (v ∷ vs)) o
+also-also k v (accepted x) = refl
+also-also k v (refused c p) = refl
+
+-- ---- a field's fault, as its judge says it and as a number
+
+-- the judge's fault, or that the field is cut
+abbrev pub flaw : ℕ → (List Bool → Fault) → List Bool → Fault
+flaw w j b = orElse (j (take w b)) (orBad (leb w (length b)) 1)
+
+-- the fault with the number c, i bits in
+abbrev pub blamed : ℕ → ℕ → Fault
+blamed zero i = good
+blamed (suc c) i = bad (suc c) i
+
+pub read-flaw : (w : ℕ) (j : Judge) (h : List ℕ) (at : ℕ) (b : List Bool) (next : ℕ → List Bool → Out (List ℕ))
+    → readField w j h at b next ≡ check (flaw w (j h) b) at (also (valueOf (take w b) ∷_) (next (valueOf (take w b)) (drop w b)))
+unfolding readField
+read-flaw w j h at b next = go (j h (take w b)) (orBad (leb w (length b)) 1) (also (valueOf (take w b) ∷_) (next (valueOf (take w b)) (drop w b)))
+  where
+    go : (x y : Fault) (o : Out (List ℕ)) → check x at (check y at o) ≡ check (orElse x y) at o
+    go good y o = refl
+    go (bad c i) y o = refl
+
+-- a faultless field is there
+flawless : (w : ℕ) (j : List Bool → Fault) (b : List Bool) → flaw w j b ≡ good → w ≤ length b
+flawless w j b = go (j (take w b)) (leb w (length b)) refl
+  where
+    go : (x : Fault) (t : Bool) → leb w (length b) ≡ t → orElse x (orBad t 1) ≡ good → w ≤ length b
+    go x true e h = leb-true w (length b) e
+    go good false e h = let z : _≡_ {A = ℕ} 0 1 = cc in absurd (omega arith)
+    go (bad c i) false e h = let z : _≡_ {A = ℕ} 0 1 = cc in absurd (omega arith)
+
+-- ---- one step
+
+-- the code's step past a field: its value, its fault c and how far in, as the layout judges it
+pub record Steps (s : List ℕ) (at w : ℕ) (j : Judge) (h : List ℕ) (v c i : ℕ) : Type 0 where
+  pub some : 0 < w
+  pub small : w ≤ 32
+  pub reach : at + w < 2 ^ 64
+  pub into : i ≤ w
+  pub same : flaw w (j h) (drop at (bitsOf s)) ≡ blamed c i
+  pub holds : c ≡ 0 → v ≡ valueOf (take w (drop at (bitsOf s)))
+
+later-later : (a b : ℕ) (x : Spot) → later a (later b x) ≡ later (a + b) x
+later-later a b none = refl
+later-later a b (found p u) = ap (λ q. found q u) (sym (add-assoc a b p))
+
+module _ {s : List ℕ} {at w : ℕ} {j : Judge} {h : List ℕ} {v c i : ℕ} (r : Walk) (e : r .at ≡ at) (x : Steps s at w j h v c i) where
+  step-so : (k : List ℕ → List ℕ) (m : Bool) (next : ℕ → List Bool → Out (List ℕ))
+      → sticky r (also k (readField w j h at (drop at (bitsOf s)) next))
+      ≡ sticky (onward w m v c i r) (also (λ vs. k (v ∷ vs)) (next v (drop (at + w) (bitsOf s))))
+  unfolding onward
+  step-so k m next = go (eqb (r .code) 0) refl c refl
+    where
+      b : List Bool
+      b = drop at (bitsOf s)
+
+      go : (t : Bool) → eqb (r .code) 0 ≡ t → (d : ℕ) → c ≡ d
+          → sticky r (also k (readField w j h at b next)) ≡ sticky (onward w m v c i r) (also (λ vs. k (v ∷ vs)) (next v (drop (at + w) (bitsOf s))))
+      go false t d z = simp t
+      go true t zero z =
+          let y : v ≡ valueOf (take w b) = x .holds z in
+          rw (t, z, read-flaw w j h at b next, x .same, z) (rw (← y, drop-drop w at (bitsOf s)) (also-also k v (next v (drop (at + w) (bitsOf s)))))
+      go true t (suc d) z =
+          rw (t, z, read-flaw w j h at b next, x .same, z, e, mod-eq-of-lt (lower (x .into) (x .reach)), ne-eqb (suc d) 0 (λ z. omega arith)) refl
+        where
+          lower : i ≤ w → at + w < 2 ^ 64 → at + i < 2 ^ 64
+          lower p q = omega arith
+
+  step-here : (m : Bool) → onward w m v c i r .at ≡ at + w
+  unfolding onward
+  step-here m = ap (λ a. (a + w) % 2 ^ 64) e ∙ mod-eq-of-lt (x .reach)
+
+  step-slim : (m : Bool) → r .width ≤ 32 → onward w m v c i r .width ≤ 32
+  unfolding onward
+  step-slim m l = go (r .seek && eqb (r .left) 0) m
+    where
+      go : (a b : Bool) → cond a (cond b w 0) (r .width) ≤ 32
+      go true true = x .small
+      go true false = omega arith
+      go false b = l
+
+-- f finds the field, or what g finds behind it
+abbrev pub Passing : ℕ → Bool → (ℕ → Spot) → (ℕ → Spot) → Type 0
+Passing w m f g = (f 0 ≡ where? m w) × ((n : ℕ) → f (suc n) ≡ later w (g n))
+
+pub step-spots : (at w v c i : ℕ) (r : Walk) (m : Bool) (f g : ℕ → Spot) → r .at ≡ at → 0 < w → Passing w m f g
+    → sought r at f ≡ sought (onward w m v c i r) (at + w) g
+unfolding onward
+step-spots at w v c i r m f g e l p = go (r .seek) refl (r .left) refl m (p .0)
+  where
+    nonzero : eqb w 0 ≡ false
+    nonzero = ne-eqb w 0 (λ z. omega arith)
+
+    go : (a : Bool) → r .seek ≡ a → (n : ℕ) → r .left ≡ n → (m : Bool) → f 0 ≡ where? m w → sought r at f ≡ sought (onward w m v c i r) (at + w) g
+    go false ea n en m q = rw ea refl
+    go true ea zero en true q = rw (ea, en, q, nonzero, e, add-zero) refl
+    go true ea zero en false q = rw (ea, en, q) refl
+    go true ea (suc n) en m q =
+        let d : suc n - 1 ≡ n = omega arith in
+        rw (ea, en, p .1 n, ne-eqb (suc n) 0 (λ z. omega arith), d) (later-later at w (g n))
+
+module _ {o : Out (List ℕ)} {all : Fmt} {i : ℕ} {s : List ℕ} {h : List ℕ} {at : ℕ} {k : List ℕ → List ℕ} {r : Walk} {w : ℕ} {j : Judge} where
+  -- over a field
+  pub step : {f : Fmt} {m : List ℕ → Bool} {v c q : ℕ} → Reading o all i s (field w j m f) h at k r → Steps s at w j h v c q
+      → Reading o all i s f (v ∷ h) (at + w) (λ vs. k (v ∷ vs)) (onward w (m h) v c q r)
+  unfolding read spot
+  step {f} {m} {v} {c} {q} e x = record {
+    so = e .so ∙ step-so r (e .here) x k (m h) (λ v b. read f (v ∷ h) (at + w) b);
+    here = step-here r (e .here) x (m h);
+    spots = λ vs. e .spots (v ∷ vs) ∙ step-spots at w v c q r (m h) (spot (field w j m f) h (v ∷ vs)) (spot f (v ∷ h) vs) (e .here) (x .some) (refl, λ n. refl);
+    slim = step-slim r (e .here) x (m h) (e .slim);
+  }
+
+  -- over a field that decides what follows
+  pub step-choice : {f : ℕ → Fmt} {v c q : ℕ} → Reading o all i s (choice w j f) h at k r → Steps s at w j h v c q
+      → Reading o all i s (f v) (v ∷ h) (at + w) (λ vs. k (v ∷ vs)) (onward w false v c q r)
+  unfolding read spot
+  step-choice {f} {v} {c} {q} e x = record {
+    so = e .so ∙ step-so r (e .here) x k false (λ v b. read (f v) (v ∷ h) (at + w) b);
+    here = step-here r (e .here) x false;
+    spots = λ vs. e .spots (v ∷ vs) ∙ step-spots at w v c q r false (spot (choice w j f) h (v ∷ vs)) (spot (f v) (v ∷ h) vs) (e .here) (x .some) (refl, λ n. refl);
+    slim = step-slim r (e .here) x false (e .slim);
+  }
+
+-- ---- a field of one number, judged by a test
+
+module _ (s : List ℕ) (at w c : ℕ) (t : Test) (h : List ℕ) (some : 0 < w) (small : w ≤ 32) (reach : at + w < 2 ^ 64) where
+  abbrev number : ℕ
+  number = cond (within (length s) at w) (cond (t h (got s at w)) 0 (suc c)) 1
+
+  abbrev rest : List Bool
+  rest = drop at (bitsOf s)
+
+  there : at + w ≤ length s * 8 → (flaw w (only w (suc c) t h) rest ≡ blamed (cond (t h (valueOf (take w rest))) 0 (suc c)) 0)
+  unfolding walk
+  there l =
+      let n : w ≤ length rest = omega (arith, length-drop at (bitsOf s), length-bits s) in
+      rw (le-leb w (length (take w rest)) (omega (arith, length-take-le w rest n)), take-take w w rest (le-refl w), le-leb w (length rest) n) (go (t h (valueOf (take w rest))))
+    where
+      go : (x : Bool) → orElse (orElse (unless x (suc c) 0) good) good ≡ blamed (cond x 0 (suc c)) 0
+      go true = refl
+      go false = refl
+
+  cut : length s * 8 < at + w → flaw w (only w (suc c) t h) rest ≡ bad 1 0
+  unfolding walk
+  cut l = rw (lt-leb w (length (take w rest)) (omega (arith, length-take w rest, length-drop at (bitsOf s), length-bits s))) refl
+
+  pub tested : Steps s at w (only w (suc c) t) h (got s at w) number 0
+  unfolding fieldAt
+  tested = record { some = some; small = small; reach = reach; into = omega arith; same = same′ (leb (at + w) (length s * 8)) refl; holds = holds′ (leb (at + w) (length s * 8)) refl }
+    where
+      same′ : (x : Bool) → leb (at + w) (length s * 8) ≡ x → flaw w (only w (suc c) t h) (drop at (bitsOf s)) ≡ blamed number 0
+      same′ true e = rw (le-leb w 32 small, e) (there (leb-true (at + w) (length s * 8) e))
+      same′ false e = rw (le-leb w 32 small, e) (cut (leb-false (at + w) (length s * 8) e))
+
+      holds′ : (x : Bool) → leb (at + w) (length s * 8) ≡ x → number ≡ 0 → got s at w ≡ valueOf (take w (drop at (bitsOf s)))
+      holds′ true e z = rw (le-leb w 32 small, e) refl
+      holds′ false e z = let y : number ≡ 1 = rw (le-leb w 32 small, e) refl in absurd (omega (arith, z, y))
