@@ -19,9 +19,9 @@ use Rattle.layout.specs.laws.Zero.{Judged, only-numbered, no-zero-message, corr
 use Rattle.distress.specs.Promises.{Reads, Writes, Corrects}
 use Rattle.distress.specs.Report.{report, reports, valuesOf, reportOf, answerOf, again, plain}
 use Rattle.distress.specs.Sound.{sound}
-use Rattle.distress.specs.declared.Report.{Report}
-use Rattle.distress.specs.declared.Answer.{Answer}
-use Rattle.distress.specs.declared.Answer.the-variants.{Good}
+use Rattle.distress.specs.declared.report.Report.{Report}
+use Rattle.distress.specs.declared.report.Answer.{Answer}
+use Rattle.distress.specs.declared.report.Answer.the-variants.{Good}
 
 -- ---- answers are decided
 

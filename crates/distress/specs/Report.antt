@@ -12,10 +12,10 @@ use Rattle.layout.specs.Sign.{intOf, spellOf}
 use Rattle.layout.specs.Words.{_‥_, signed, _▹_, num, code, fill}
 use Rattle.layout.specs.laws.Flat.{Plain, span}
 use Rattle.layout.specs.laws.Sign.{int-spell}
-use Rattle.distress.specs.declared.Report.{Report}
-use Rattle.distress.specs.declared.Values.{Values}
-use Rattle.distress.specs.declared.Answer.{Answer}
-use Rattle.distress.specs.declared.Answer.the-variants.{Good, Refused}
+use Rattle.distress.specs.declared.report.Report.{Report}
+use Rattle.distress.specs.declared.report.Values.{Values}
+use Rattle.distress.specs.declared.report.Answer.{Answer}
+use Rattle.distress.specs.declared.report.Answer.the-variants.{Good, Refused}
 
 unfoldable pub report : Fmt
 report =

@@ -11,7 +11,7 @@ use lib.Seq.{drop-at, take-append-add, drop-append-add}
 use Rattle.bits.specs.Bits.{digits, splice}
 use Rattle.layout.specs.Fmt.{Out, accepted, refused, Judge, Fmt, end, field, choice, bytes, also, writeField, read, sized, write, Spot, none, found, later, where?, spot}
 use Rattle.layout.specs.laws.Round.{unjudged, lay, clash, accepted-inj, written, write-unjudged, sized-inv, sized-at, agree, write-lay, read-lay, read-write}
-use Rattle.bits.specs.Laws.{length-digits}
+use Rattle.bits.specs.laws.Digits.{length-digits}
 
 later-inv : (u : ℕ) (s : Spot) {p w : ℕ} → later u s ≡ found p w → (q : ℕ) × (s ≡ found q w) × (u + q ≡ p)
 later-inv u none e = let z : _≡_ {A = ℕ} 0 1 = cc in absurd (omega arith)

@@ -7,9 +7,10 @@ use native.Mathlib.Omega.{arith}
 use lib.Dec.{ltb, eqb}
 use lib.ListN.{length}
 use borrow.Author.Tests.{eqb-true, eqb-false, ltb-true, ltb-false}
-use Rattle.bits.specs.Answers.{got, got-fits, puttable-fits}
+use Rattle.bits.specs.Answers.{got}
+use Rattle.bits.specs.laws.Answers.{got-fits, puttable-fits}
+use Rattle.bits.specs.laws.Fields.{field-lt, length-put, put-put, put-field}
 use Rattle.bits.specs.Bits.{Bytes, bitsOf, fieldAt, putAt}
-use Rattle.bits.specs.Laws.{field-lt, length-put, put-put, put-field}
 use Rattle.layout.specs.Correcting.{admitted, putIn}
 use Rattle.layout.specs.Fmt.{accepted, refused, check, also, read, spot, found}
 use Rattle.layout.specs.Message.{Layout, Sound, fault, body, sealed, refuses, accepts, readMessage, correctMessage}

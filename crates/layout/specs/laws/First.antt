@@ -9,7 +9,7 @@ use lib.Dec.{leb}
 use lib.ListN.{length, take}
 use lib.Seq.{take-take}
 use Rattle.bits.specs.Bits.{valueOf, bitsOf, fieldAt}
-use Rattle.bits.specs.Laws.{length-bits}
+use Rattle.bits.specs.laws.Bytes.{length-bits}
 use Rattle.layout.specs.Fmt.{accepted, good, Fmt, field, readField, read}
 use Rattle.layout.specs.Message.{Layout}
 use Rattle.layout.specs.Words.{_‥_, orElse, unless, walk, only}

@@ -7,7 +7,8 @@ use native.Mathlib.Omega.{arith}
 use lib.ListN.{length, drop, length-append}
 use borrow.Author.Tests.{le-leb, lt-leb}
 use Rattle.bits.specs.Bits.{digits, bytesOf}
-use Rattle.bits.specs.Laws.{length-digits, length-bytes}
+use Rattle.bits.specs.laws.Bytes.{length-bytes}
+use Rattle.bits.specs.laws.Digits.{length-digits}
 use Rattle.layout.specs.Fmt.{accepted, refused, Fmt, end, field, choice, bytes, after, write, pad}
 use Rattle.layout.specs.Message.{Layout, size, into, writeMessage}
 use Rattle.layout.specs.Words.{code}

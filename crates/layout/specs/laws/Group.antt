@@ -10,8 +10,9 @@ use lib.ListN.{length, take, drop, length-take, length-drop}
 use lib.Seq.{drop-drop, take-take}
 use borrow.Author.Tests.{le-leb, lt-leb, leb-true, leb-false, eq-eqb, ne-eqb, eqb-true}
 use Rattle.bits.specs.Bits.{valueOf, bitsOf, fieldAt}
-use Rattle.bits.specs.Answers.{within, got, got-fits}
-use Rattle.bits.specs.Laws.{length-bits}
+use Rattle.bits.specs.Answers.{within, got}
+use Rattle.bits.specs.laws.Answers.{got-fits}
+use Rattle.bits.specs.laws.Bytes.{length-bits}
 use Rattle.layout.specs.Fmt.{Out, accepted, refused, Fault, good, bad, orBad, Judge, Fmt, field, check, also, read, spot}
 use Rattle.layout.specs.Reading.{ranging, parted, grouped}
 use Rattle.layout.specs.Walk.{onward}

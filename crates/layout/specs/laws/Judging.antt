@@ -10,7 +10,7 @@ use lib.ListN.{length}
 use lib.Seq.{take-all}
 use borrow.Author.Tests.{le-leb, lt-leb, lt-ltb, le-ltb, ltb-true, ltb-false, ne-eqb}
 use Rattle.bits.specs.Bits.{digits}
-use Rattle.bits.specs.Laws.{length-digits, value-digits}
+use Rattle.bits.specs.laws.Digits.{length-digits, value-digits}
 use Rattle.layout.specs.Fmt.{Out, accepted, refused, Fault, good, bad, orBad, Judge, Fmt, end, field, check, also, writeField, write, pad}
 use Rattle.layout.specs.Judging.{valued, signedlyValued}
 use Rattle.layout.specs.Walk.{begun, onward}

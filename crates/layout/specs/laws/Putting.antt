@@ -6,9 +6,12 @@ use Prim.Native.Nat.{ℕ, _+_, _-_, _*_, _/_, _%_, _≤_}
 use native.Mathlib.Omega.{arith}
 use lib.ListN.{length, take, drop, length-append, length-drop}
 use lib.Seq.{take-at, drop-at, drop-drop}
-use Rattle.bits.specs.Answers.{puttable, put-done}
+use Rattle.bits.specs.Answers.{puttable}
+use Rattle.bits.specs.laws.Answers.{put-done}
+use Rattle.bits.specs.laws.Bytes.{length-bytes, bits-append, bits-bytes, bits-same, bytes-append, bytes-below, bytes-drop}
+use Rattle.bits.specs.laws.Digits.{length-digits}
+use Rattle.bits.specs.laws.Fields.{bits-drop, bytes-put, length-put, bits-put}
 use Rattle.bits.specs.Bits.{Bytes, digits, bitsOf, bytesOf, putAt}
-use Rattle.bits.specs.Laws.{length-digits, length-bytes, bits-append, bits-bytes, bits-drop, bits-same, bytes-append, bytes-below, bytes-drop, bytes-put, length-put, bits-put}
 use Rattle.layout.specs.Fmt.{accepted, Judge, Fmt, end, field, after, write, pad}
 use Rattle.layout.specs.Message.{size}
 use Rattle.layout.specs.laws.Round.{accepted-inj, written}

@@ -11,7 +11,8 @@ use lib.Pow.{pow-pos}
 use borrow.Author.Tests.{leb-true, eq-eqb, ne-eqb, ltb-true, ltb-false}
 use Rattle.bits.specs.Bits.{valueOf, bitsOf, fieldAt}
 use Rattle.bits.specs.Answers.{within, got}
-use Rattle.bits.specs.Laws.{length-bits, field-lt}
+use Rattle.bits.specs.laws.Bytes.{length-bits}
+use Rattle.bits.specs.laws.Fields.{field-lt}
 use Rattle.layout.specs.Fmt.{Out, accepted, refused, Judge, Fmt, end, field, check, also, read, pad, Spot, none, found, later, spot}
 use Rattle.layout.specs.Message.{Layout, fault, readMessage}
 use Rattle.layout.specs.Reading.{ranging, signing, ranged, signedly, ended-at, ended}

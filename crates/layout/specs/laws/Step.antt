@@ -11,7 +11,7 @@ use lib.Seq.{length-take-le, take-take, drop-drop}
 use borrow.Author.Tests.{le-leb, lt-leb, leb-true, leb-false, eq-eqb, ne-eqb}
 use Rattle.bits.specs.Bits.{valueOf, bitsOf, fieldAt}
 use Rattle.bits.specs.Answers.{within, got}
-use Rattle.bits.specs.Laws.{length-bits}
+use Rattle.bits.specs.laws.Bytes.{length-bits}
 use Rattle.layout.specs.Fmt.{Out, accepted, refused, Fault, good, bad, orBad, Judge, Fmt, field, choice, check, also, readField, read, Spot, none, found, later, where?, spot}
 use Rattle.layout.specs.Walk.{onward}
 use Rattle.layout.specs.Words.{Test, walk, orElse, unless, only, code}

@@ -10,8 +10,10 @@ use lib.ListN.{length, take, drop, getD, set, length-append, drop-of-length-le}
 use lib.Seq.{take-at, getD-at, split-at}
 use borrow.Author.Tests.{eq-eqb, leb-true}
 use Rattle.bits.specs.Bits.{Bytes, digits, bitsOf, bytesOf, splice, putAt}
-use Rattle.bits.specs.Laws.{length-digits, length-bits, length-bytes, bytes-bits, bits-bytes, bytes-take, length-put, bits-put}
 use Rattle.bits.specs.Xor.{xorOf}
+use Rattle.bits.specs.laws.Bytes.{length-bits, length-bytes, bytes-bits, bits-bytes, bytes-take}
+use Rattle.bits.specs.laws.Digits.{length-digits}
+use Rattle.bits.specs.laws.Fields.{length-put, bits-put}
 use Rattle.layout.specs.Fmt.{Out, accepted, refused, good, check, Fmt, end, field, choice, bytes, also, after, writeField, read, write, Spot, none, found, spot, unless10}
 use Rattle.layout.specs.Message.{Layout, fault, size, body, sealed, sealFault, closed, readMessage, writeMessage, correctMessage, Sound}
 use Rattle.layout.specs.laws.Correct.{laid-set, changed-narrow, changed-wide, spot-within}

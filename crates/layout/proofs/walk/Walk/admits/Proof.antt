@@ -2,7 +2,7 @@ use Prim.Native.Nat.{_^_, _<_}
 use native.Mathlib.Nat.{lt-of-lt-of-le}
 use lib.Pow.{pow-mono}
 use borrow.Author.Tests.{eq-eqb, ne-eqb, lt-ltb, le-ltb}
-use Rattle.bits.specs.Laws.{small, large}
+use Rattle.bits.specs.laws.Digits.{small, large}
 use borrow.Author.Needs.{needs}
 use Rattle.layout.proofs.walk.Walk.admits.Statement.{statement}
 use Rattle.layout.proofs.walk.Walk.admits.Tie as tie

@@ -3,8 +3,8 @@ use lib.Dec.{lit<}
 use Rattle.layout.specs.laws.Judging.{judge-start, judge-fixed, judge-num, judge-signed, judge-end}
 use Rattle.distress.specs.Report.{report, listOf}
 use borrow.Author.Needs.{needs}
-use Rattle.distress.proofs.judged.Statement.{statement}
-use Rattle.distress.proofs.judged.Tie as tie
+use Rattle.distress.proofs.report.judged.Statement.{statement}
+use Rattle.distress.proofs.report.judged.Tie as tie
 
 begin-requires : tie.Need-begin-requires
 begin-requires c κs = search needs

@@ -5,8 +5,8 @@ use Rattle.layout.specs.Message.{codeOf, leaves, into, refuses, accepts, writeM
 use Rattle.layout.specs.laws.Flat.{write-fails, write-cramped, write-stands}
 use Rattle.distress.specs.Report.{reports, plain}
 use borrow.Author.Needs.{needs}
-use Rattle.distress.proofs.write.Statement.{statement}
-use Rattle.distress.proofs.write.Tie as tie
+use Rattle.distress.proofs.report.write.Statement.{statement}
+use Rattle.distress.proofs.report.write.Tie as tie
 
 spelled-requires : tie.Need-spelled-requires
 spelled-requires c κs = search needs

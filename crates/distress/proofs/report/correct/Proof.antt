@@ -3,8 +3,8 @@ use Rattle.layout.specs.laws.Correcting.{correct-early, correct-late}
 use Rattle.distress.specs.Report.{reports}
 use Rattle.distress.specs.Sound.{sound}
 use borrow.Author.Needs.{needs}
-use Rattle.distress.proofs.correct.Statement.{statement}
-use Rattle.distress.proofs.correct.Tie as tie
+use Rattle.distress.proofs.report.correct.Statement.{statement}
+use Rattle.distress.proofs.report.correct.Tie as tie
 
 lead-requires : tie.Need-lead-requires
 lead-requires c κs = search needs

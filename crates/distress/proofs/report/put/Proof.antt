@@ -4,8 +4,8 @@ use Rattle.bits.specs.Bits.{Bytes}
 use Rattle.layout.specs.laws.Putting.{put-start, put-step, put-end}
 use Rattle.distress.specs.Report.{report, listOf}
 use borrow.Author.Needs.{needs}
-use Rattle.distress.proofs.put.Statement.{statement}
-use Rattle.distress.proofs.put.Tie as tie
+use Rattle.distress.proofs.report.put.Statement.{statement}
+use Rattle.distress.proofs.report.put.Tie as tie
 
 put-requires : tie.Need-put-requires
 put-requires c κs = search needs

@@ -9,8 +9,8 @@ use mir.Syntax.{w32}
 use mir.ValLaws.{toZ-ofZ}
 use Rattle.distress.specs.Report.{report, valuesOf, again}
 use borrow.Author.Needs.{needs}
-use Rattle.distress.proofs.fields.Statement.{statement}
-use Rattle.distress.proofs.fields.Tie as tie
+use Rattle.distress.proofs.report.fields.Statement.{statement}
+use Rattle.distress.proofs.report.fields.Tie as tie
 
 begin-requires : tie.Need-begin-requires
 begin-requires c κs = search needs

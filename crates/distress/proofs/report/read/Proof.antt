@@ -2,10 +2,10 @@ use mathlib.Core.Path.{refl, sym, ap, _∙_}
 use Rattle.layout.specs.laws.Reading.{read-walked}
 use Rattle.layout.specs.laws.Step.{stuck, clear}
 use Rattle.distress.specs.Report.{reports, answerOf}
-use Rattle.distress.specs.declared.Answer.the-variants.{Good}
+use Rattle.distress.specs.declared.report.Answer.the-variants.{Good}
 use borrow.Author.Needs.{needs}
-use Rattle.distress.proofs.read.Statement.{statement}
-use Rattle.distress.proofs.read.Tie as tie
+use Rattle.distress.proofs.report.read.Statement.{statement}
+use Rattle.distress.proofs.report.read.Tie as tie
 
 lead-requires : tie.Need-lead-requires
 lead-requires c κs = search needs

@@ -1,0 +1,6 @@
+-- What is proved of the definitions, over every place and width.
+pub mod Digits
+pub mod Bytes
+pub mod Fields
+pub mod Xor
+pub mod Answers

@@ -1,0 +1,43 @@
+-- What the answers of `holds`, `get` and `put` say, for callers. Assumes nothing.
+use mathlib.Core.Bool.{Bool, true, false, cond, _&&_, false≢true}
+use mathlib.Core.List.{List}
+use mathlib.Core.Path.{_≡_, refl, _∙_}
+use Prim.Native.Nat.{ℕ, _+_, _*_, _^_, _≤_, _<_}
+use borrow.Author.Tests.{leb-true, le-leb, ltb-true, lt-ltb}
+use lib.Dec.{leb, ltb}
+use lib.ListN.{length}
+use Rattle.bits.specs.Bits.{fieldAt, putAt}
+use Rattle.bits.specs.Answers.{within, got, puttable}
+
+both : (a b : Bool) → (a && b) ≡ true → (a ≡ true) × (b ≡ true)
+both true b h = (refl, h)
+both false b h = absurd (false≢true h)
+
+module _ (n at w : ℕ) where
+  pub within-true : within n at w ≡ true → (w ≤ 32) × (at + w ≤ n * 8)
+  within-true h =
+      let p = both (leb w 32) (leb (at + w) (n * 8)) h in
+      (leb-true w 32 (p .0), leb-true (at + w) (n * 8) (p .1))
+
+  pub within-fits : w ≤ 32 → at + w ≤ n * 8 → within n at w ≡ true
+  within-fits h f = rw (le-leb w 32 h, le-leb (at + w) (n * 8) f)
+
+module _ (s : List ℕ) (at w : ℕ) where
+  pub got-fits : w ≤ 32 → at + w ≤ length s * 8 → got s at w ≡ fieldAt s at w
+  got-fits h f = rw (within-fits (length s) at w h f)
+
+  pub puttable-fits : (v : ℕ) → w ≤ 32 → at + w ≤ length s * 8 → v < 2 ^ w → puttable s at w v ≡ true
+  puttable-fits v h f l = rw (within-fits (length s) at w h f) (lt-ltb v (2 ^ w) l)
+
+  pub puttable-true : (v : ℕ) → puttable s at w v ≡ true → (w ≤ 32) × (at + w ≤ length s * 8) × (v < 2 ^ w)
+  puttable-true v h =
+      let p = both (within (length s) at w) (ltb v (2 ^ w)) h in
+      let q = within-true (length s) at w (p .0) in
+      (q .0, q .1, ltb-true v (2 ^ w) (p .1))
+
+  -- what a call of `put` with the result r, that left t, has done where all fits
+  pub put-done : (v : ℕ) (r : Bool) (t : List ℕ) → (r ≡ puttable s at w v) × (t ≡ cond r (putAt s at w v) s)
+      → w ≤ 32 → at + w ≤ length s * 8 → v < 2 ^ w → (r ≡ true) × (t ≡ putAt s at w v)
+  put-done v r t p h f l =
+      let yes : r ≡ true = p .0 ∙ puttable-fits v h f l in
+      (yes, p .1 ∙ rw yes)

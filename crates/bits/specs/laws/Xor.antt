@@ -1,0 +1,71 @@
+-- Exclusive or, byte by byte: what a sum is, and what a replaced byte does to it. Assumes nothing.
+use mathlib.Core.List.{List, [], _∷_}
+use mathlib.Core.Path.{_≡_, refl, ap, _∙_}
+use Prim.Native.Nat.{ℕ, zero, suc, _+_, _/_, _%_, _<_}
+use native.Mathlib.Numerals.{add-one}
+use native.Mathlib.Omega.{arith}
+use lib.Arith.{bin-ind, digits-mod}
+use lib.Bits.{bitXor, differ, xor-step, xor-shr, xor-zero-l, xor-self, xor-comm, xor-lt}
+use lib.ListN.{length, drop, getD, set}
+use lib.Seq.{drop-cons}
+use Rattle.bits.specs.Bits.{Bytes}
+use Rattle.bits.specs.Xor.{xorOf}
+
+pub xor-drop : (s : List ℕ) (i : ℕ) → i < length s → xorOf (drop i s) ≡ bitXor (getD s i 0) (xorOf (drop (i + 1) s))
+unfolding xorOf
+xor-drop s i h = rw (add-one i, drop-cons s i 0)
+
+pub xor-below : (s : List ℕ) → Bytes s → xorOf s < 256
+unfolding xorOf
+xor-below [] h = omega arith
+xor-below (b ∷ s) h = xor-lt 8 b (xorOf s) (h 0) (xor-below s (λ i. h (suc i)))
+
+-- ---- exclusive or is associative, digit by digit
+
+differ-lt : (x y : ℕ) → x < 2 → y < 2 → differ x y < 2
+differ-lt zero y hx hy = hy
+differ-lt (suc zero) zero hx hy = hx
+differ-lt (suc zero) (suc zero) hx hy = omega arith
+differ-lt (suc zero) (suc (suc y)) hx hy = absurd (omega arith)
+differ-lt (suc (suc x)) y hx hy = absurd (omega arith)
+
+differ-assoc : (x y z : ℕ) → x < 2 → y < 2 → z < 2 → differ (differ x y) z ≡ differ x (differ y z)
+differ-assoc zero y z hx hy hz = refl
+differ-assoc (suc zero) zero z hx hy hz = refl
+differ-assoc (suc zero) (suc zero) zero hx hy hz = refl
+differ-assoc (suc zero) (suc zero) (suc zero) hx hy hz = refl
+differ-assoc (suc zero) (suc zero) (suc (suc z)) hx hy hz = absurd (omega arith)
+differ-assoc (suc zero) (suc (suc y)) z hx hy hz = absurd (omega arith)
+differ-assoc (suc (suc x)) y z hx hy hz = absurd (omega arith)
+
+odd-lt : (a : ℕ) → a % 2 < 2
+odd-lt a = omega arith
+
+xor-odd : (a b : ℕ) → bitXor a b % 2 ≡ differ (a % 2) (b % 2)
+xor-odd a b =
+    ap (λ (x : ℕ). x % 2) (xor-step a b)
+    ∙ digits-mod (bitXor (a / 2) (b / 2)) (differ-lt (a % 2) (b % 2) (odd-lt a) (odd-lt b))
+
+pub xor-assoc : (a b c : ℕ) → bitXor (bitXor a b) c ≡ bitXor a (bitXor b c)
+xor-assoc =
+    bin-ind (λ (a : ℕ). (b c : ℕ) → bitXor (bitXor a b) c ≡ bitXor a (bitXor b c))
+    (λ b c. refl)
+    (λ a ih b c. cc (
+      xor-step (bitXor a b) c,
+      xor-step a (bitXor b c),
+      xor-shr a b 1,
+      xor-shr b c 1,
+      xor-odd a b,
+      xor-odd b c,
+      ih (b / 2) (c / 2),
+      differ-assoc (a % 2) (b % 2) (c % 2) (odd-lt a) (odd-lt b) (odd-lt c),
+    ))
+
+-- a byte replaced: the old one goes out of the sum, and the new one comes in
+pub xor-set : (s : List ℕ) (i b : ℕ) → i < length s → xorOf (set s i b) ≡ bitXor (xorOf s) (bitXor (getD s i 0) b)
+unfolding xorOf
+xor-set [] i b h = absurd (omega arith)
+xor-set (x ∷ s) zero b h =
+    cc
+    (xor-comm x (xorOf s), xor-assoc (xorOf s) x (bitXor x b), xor-assoc x x b, xor-self x, xor-zero-l b, xor-comm (xorOf s) b)
+xor-set (x ∷ s) (suc i) b h = cc (xor-set s i b (omega arith), xor-assoc x (xorOf s) (bitXor (getD s i 0) b))

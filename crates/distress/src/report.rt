@@ -1,0 +1,225 @@
+// The distress report (paper 01, "Distress report"; 001, A.1).
+ghost use mathlib.Core.Path.{_≡_};
+ghost use mathlib.Core.List.{[]};
+ghost use Rattle.distress.specs.Report.{reports, report, valuesOf, reportOf, listOf};
+ghost use Rattle.distress.specs.Promises.{Reads, Writes, Corrects};
+ghost use Rattle.bits.specs.Bits.{bitsOf};
+ghost use Rattle.layout.specs.Fmt.{check, read, write};
+ghost use Rattle.layout.specs.Message.{fault};
+ghost use Rattle.layout.specs.laws.Reading.{Walked};
+ghost use Rattle.layout.specs.laws.Judging.{Judged};
+ghost use Rattle.layout.specs.laws.Putting.{Puts};
+
+pub struct Report {
+    pub mmsi: u32,
+    // Thousandths of a minute, 10,860,000 and 5,460,000 for none.
+    pub longitude: i32,
+    pub latitude: i32,
+    // 0, 24 and 60 for none.
+    pub day: u8,
+    pub hour: u8,
+    pub minute: u8,
+    pub speed: u8,
+    // 360 for none.
+    pub course: u16,
+    // 0 for none.
+    pub kind: u8,
+}
+
+pub enum Answer {
+    Good(Report),
+    Refused(u8),
+}
+
+impl Report {
+    pub const BITS: usize = 136;
+
+    pub const LEAST: usize = Report::BITS / 8;
+
+    pub const GREATEST: usize = Report::BITS / 8;
+}
+
+pub const CODE: u64 = 0xBDC1;
+
+// A record's fields as the numbers that their bits spell.
+struct Values {
+    mmsi: u64,
+    longitude: u64,
+    latitude: u64,
+    day: u64,
+    hour: u64,
+    minute: u64,
+    speed: u64,
+    course: u64,
+    kind: u64,
+}
+
+struct Whole {
+    walk: layout::walk::Walk,
+    report: Report,
+}
+
+pub fn read(s: &[u8]) -> Answer
+    ensures { λ r. ⌜ Reads (now (s .entry)) r ⌝ }
+{
+    let all = fields(s, lead(s), 0);
+    let code = all.walk.code;
+    let report = all.report;
+    if code != 0 {
+        return Answer::Refused(code);
+    }
+    Answer::Good(report)
+}
+
+// Writes the report into the front of a lent buffer: the record is judged, then room (6); the bytes past the message stay.
+pub fn write(buf: &mut [u8], r: Report) -> u8
+    ensures { λ code. ⌜ Writes (now (buf .entry)) r code (now (buf .exit)) ⌝ }
+{
+    let v = spelled(r);
+    let w = judged(v);
+    let code = w.code;
+    if code != 0 {
+        return code;
+    }
+    if buf.len() < Report::LEAST {
+        return layout::ROOM;
+    }
+    put(buf, v);
+    0
+}
+
+// Makes field number `field` of the message be `value`, or leaves every byte.
+pub fn correct(buf: &mut [u8], field: usize, value: u64) -> u8
+    ensures { λ code. ⌜ Corrects (now (buf .entry)) field value code (now (buf .exit)) ⌝ }
+{
+    let was = fields(buf, lead(buf), field);
+    let w = was.walk;
+    let code = w.admits(value);
+    if code != 0 {
+        return code;
+    }
+    let at = w.spot;
+    let width = w.width;
+    let old = layout::correcting::swap(buf, at, width, value);
+    let again = fields(buf, 0, 0);
+    let w = again.walk;
+    layout::correcting::settle(buf, at, width, old, w.code)
+}
+
+// The first tests: smallest size, code, size.
+fn lead(s: &[u8]) -> u8
+    ensures { λ r. ⌜ r ≡ reports .lead (now (s .entry)) ⌝ }
+{
+    if s.len() < Report::LEAST {
+        return layout::SIZE;
+    }
+    if bits::get(s, 0, 16) != CODE {
+        return layout::KIND;
+    }
+    if s.len() > Report::GREATEST {
+        return layout::SIZE;
+    }
+    0
+}
+
+// The fields in bit order, after the first tests' answer, and where field number `want` stands.
+fn fields(s: &[u8], lead: u8, want: usize) -> Whole
+    ensures { λ r. ⌜ Walked (check (fault lead) 0 (read report [] 0 (bitsOf (now (s .entry))))) report want (valuesOf (r .report)) (r .walk)
+        × (reportOf (valuesOf (r .report)) ≡ r .report) ⌝ }
+{
+    let w = layout::walk::Walk::begin(lead, want);
+    let w = w.code(s, 16, CODE);
+    let w = w.num(s, 32, 0, 999_999_999);
+    let mmsi = w.v as u32;
+    let w = w.signed(s, 25, 10_800_000, 22_754_432, 10_860_000);
+    let longitude = layout::sign::int(w.v, 33_554_432);
+    let w = w.signed(s, 24, 5_400_000, 11_377_216, 5_460_000);
+    let latitude = layout::sign::int(w.v, 16_777_216);
+    let w = w.num(s, 5, 0, 31);
+    let day = w.v as u8;
+    let w = w.num(s, 5, 0, 24);
+    let hour = w.v as u8;
+    let w = w.num(s, 6, 0, 60);
+    let minute = w.v as u8;
+    let w = w.num(s, 7, 0, 126);
+    let speed = w.v as u8;
+    let w = w.num(s, 9, 0, 360);
+    let course = w.v as u16;
+    let w = w.num(s, 4, 0, 9);
+    let kind = w.v as u8;
+    let w = w.fill(s, 3);
+    let walk = w.end(s);
+    let report = Report {
+        mmsi,
+        longitude,
+        latitude,
+        day,
+        hour,
+        minute,
+        speed,
+        course,
+        kind,
+    };
+    Whole { walk, report }
+}
+
+fn spelled(r: Report) -> Values
+    ensures { λ v. ⌜ listOf v ≡ valuesOf r ⌝ }
+{
+    let east = r.longitude;
+    let north = r.latitude;
+    let longitude = layout::sign::spelled(east, 33_554_432);
+    let latitude = layout::sign::spelled(north, 16_777_216);
+    Values {
+        mmsi: r.mmsi as u64,
+        longitude,
+        latitude,
+        day: r.day as u64,
+        hour: r.hour as u64,
+        minute: r.minute as u64,
+        speed: r.speed as u64,
+        course: r.course as u64,
+        kind: r.kind as u64,
+    }
+}
+
+// The values judged in bit order.
+fn judged(v: Values) -> layout::walk::Walk
+    ensures { λ w. ⌜ Judged (write report [] 0 (listOf v)) w ⌝ }
+{
+    let w = layout::walk::Walk::begin(0, 0);
+    let w = w.fixed(16, CODE);
+    let w = w.value(32, v.mmsi, 0, 999_999_999);
+    let w = w.signed_value(
+        25,
+        v.longitude,
+        33_554_432,
+        10_800_000,
+        22_754_432,
+        10_860_000,
+    );
+    let w = w.signed_value(24, v.latitude, 16_777_216, 5_400_000, 11_377_216, 5_460_000);
+    let w = w.value(5, v.day, 0, 31);
+    let w = w.value(5, v.hour, 0, 24);
+    let w = w.value(6, v.minute, 0, 60);
+    let w = w.value(7, v.speed, 0, 126);
+    let w = w.value(9, v.course, 0, 360);
+    let w = w.value(4, v.kind, 0, 9);
+    w.fixed(3, 0)
+}
+
+fn put(buf: &mut [u8], v: Values)
+    ensures { λ _. ⌜ Puts report (listOf v) (now (buf .entry)) (now (buf .exit)) ⌝ }
+{
+    bits::put(buf, 0, 16, CODE);
+    bits::put(buf, 16, 32, v.mmsi);
+    bits::put(buf, 48, 25, v.longitude);
+    bits::put(buf, 73, 24, v.latitude);
+    bits::put(buf, 97, 5, v.day);
+    bits::put(buf, 102, 5, v.hour);
+    bits::put(buf, 107, 6, v.minute);
+    bits::put(buf, 113, 7, v.speed);
+    bits::put(buf, 120, 9, v.course);
+    bits::put(buf, 129, 4, v.kind);
+    bits::put(buf, 133, 3, 0);
+}
