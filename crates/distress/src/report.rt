@@ -6,7 +6,7 @@ ghost use Rattle.distress.specs.Promises.{Reads, Writes, Corrects};
 ghost use Rattle.bits.specs.Bits.{bitsOf};
 ghost use Rattle.layout.specs.Fmt.{check, read, write};
 ghost use Rattle.layout.specs.Message.{fault};
-ghost use Rattle.layout.specs.laws.Reading.{Walked};
+ghost use Rattle.layout.specs.laws.Walked.{Walked};
 ghost use Rattle.layout.specs.laws.Judging.{Judged};
 ghost use Rattle.layout.specs.laws.Putting.{Puts};
 

@@ -6,5 +6,6 @@ pub mod Sign
 pub mod Walk
 pub mod Reading
 pub mod Judging
+pub mod Sealing
 pub mod Correcting
 pub mod laws

@@ -1,10 +1,11 @@
 -- What each step of reading answers, from the bytes. Assumes nothing.
-use Prim.Native.Nat.{ℕ, _+_, _/_, _%_, _^_}
+use Prim.Native.Nat.{ℕ, _+_, _-_, _*_, _/_, _%_, _^_}
 use mathlib.Core.Bool.{Bool, true, false, cond, _&&_, _||_}
 use mathlib.Core.List.{List}
 use lib.Dec.{leb, ltb, eqb}
 use lib.ListN.{length}
 use Rattle.bits.specs.Answers.{within, got}
+use Rattle.layout.specs.Fmt.{pad}
 use Rattle.layout.specs.Walk.{onward}
 use Rattle.layout.specs.declared.walk.Walk.{Walk}
 
@@ -52,18 +53,24 @@ grouped s w p r = let n = onward w true (got s (r .at) w) 0 0 r in record {
   width = n .width;
 }
 
--- the end of the bytes s, at a whole byte
-abbrev pub ended-at : List ℕ → ℕ → Walk → Walk
-ended-at s at r = record {
-  at = at;
-  code = cond (eqb (r .code) 0) (cond (ltb (at / 8) (length s)) 1 0) (r .code);
-  place = cond (eqb (r .code) 0) at (r .place);
+-- ---- the end
+
+-- the whole bytes of s from bit `at` on
+abbrev pub wholly : List ℕ → ℕ → ℕ
+wholly s at = (length s * 8 - at) / 8
+
+-- 5 where a bit up to the next whole byte is set, 1 where that is not the end of s
+unfoldable pub closes : List ℕ → ℕ → ℕ
+closes s at = cond (eqb (got s at (pad at)) 0) (cond (eqb (at / 8 + (at % 8 + 7) / 8) (length s)) 0 1) 5
+
+unfoldable pub ended : List ℕ → Walk → Walk
+ended s r = record {
+  at = r .at;
+  code = cond (eqb (r .code) 0) (closes s (r .at)) (r .code);
+  place = cond (eqb (r .code) 0) ((r .at + cond (eqb (closes s (r .at)) 5) 0 (pad (r .at))) % 2 ^ 64) (r .place);
   v = 0;
   seek = false;
   left = 0;
   spot = r .spot;
   width = cond (r .seek) 0 (r .width);
 }
-
-abbrev pub ended : List ℕ → Walk → Walk
-ended s r = ended-at s (r .at) r

@@ -5,11 +5,13 @@ pub mod Whole
 pub mod Zero
 pub mod Step
 pub mod Reading
+pub mod Walked
 pub mod Group
 pub mod Judging
 pub mod Putting
 pub mod Flat
 pub mod Held
 pub mod First
+pub mod Sealing
 pub mod Correcting
 pub mod Sign

@@ -2,6 +2,7 @@
 pub mod correcting;
 pub mod judging;
 pub mod reading;
+pub mod sealing;
 pub mod sign;
 pub mod walk;
 

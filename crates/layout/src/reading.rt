@@ -1,57 +1,67 @@
 // Reading: each kind of field, from the bytes.
 ghost use mathlib.Core.Bool.{cond, true, false, _&&_, _||_};
 ghost use mathlib.Core.Path.{_≡_};
-ghost use Prim.Native.Nat.{_^_, _<_};
-ghost use lib.Dec.{eqb, leb, ltb};
+ghost use Prim.Native.Nat.{_-_, _*_, _/_, _^_, _<_};
+ghost use lib.Dec.{eqb, leb};
 ghost use lib.ListN.{length};
 ghost use Rattle.bits.specs.Answers.{within, got};
-ghost use Rattle.layout.specs.Reading.{ranged, ranging, signedly, signing, parted, grouped, ended};
+ghost use Rattle.layout.specs.Fmt.{pad};
+ghost use Rattle.layout.specs.Reading.{ranged, ranging, signedly, signing, parted, grouped, wholly, closes, ended};
+ghost use Rattle.layout.specs.Walk.{onward};
 use crate::walk::Walk;
+use crate::walk::choose;
 use crate::walk::none;
-use crate::walk::number;
 use crate::walk::pick;
 
 impl Walk {
-    // A number from lo to hi.
-    pub fn num(self, s: &[u8], w: usize, lo: u64, hi: u64) -> Self
-        ensures { λ r. ⌜ (r ≡ ranged (now (s .entry)) w true lo hi 4 self) × (r .v < 2 ^ w) ⌝ }
+    // A number from lo to hi, else `code`; `free` where it may be corrected.
+    pub fn number(self, s: &[u8], w: usize, free: bool, lo: u64, hi: u64, code: u8) -> Self
+        ensures { λ r. ⌜ (r ≡ ranged (now (s .entry)) w free lo hi code self) × (r .v < 2 ^ w) ⌝ }
     {
         let at = self.at;
         self.on(
             w,
-            true,
+            free,
             bits::get(s, at, w),
-            range(s, at, w, lo, hi, crate::RANGE),
+            range(s, at, w, lo, hi, code),
             0,
         )
+    }
+
+    // A number from lo to hi.
+    pub fn num(self, s: &[u8], w: usize, lo: u64, hi: u64) -> Self
+        ensures { λ r. ⌜ (r ≡ ranged (now (s .entry)) w true lo hi 4 self) × (r .v < 2 ^ w) ⌝ }
+    {
+        self.number(s, w, true, lo, hi, crate::RANGE)
+    }
+
+    // A number from lo to hi that decides what follows.
+    pub fn decide(self, s: &[u8], w: usize, lo: u64, hi: u64) -> Self
+        ensures { λ r. ⌜ (r ≡ ranged (now (s .entry)) w false lo hi 4 self) × (r .v < 2 ^ w) ⌝ }
+    {
+        self.number(s, w, false, lo, hi, crate::RANGE)
     }
 
     // A fixed code.
     pub fn code(self, s: &[u8], w: usize, n: u64) -> Self
         ensures { λ r. ⌜ r ≡ ranged (now (s .entry)) w false n n 2 self ⌝ }
     {
-        let at = self.at;
-        self.on(
-            w,
-            false,
-            bits::get(s, at, w),
-            range(s, at, w, n, n, crate::KIND),
-            0,
-        )
+        self.number(s, w, false, n, n, crate::KIND)
     }
 
     // Fill.
     pub fn fill(self, s: &[u8], w: usize) -> Self
         ensures { λ r. ⌜ r ≡ ranged (now (s .entry)) w false 0 0 5 self ⌝ }
     {
+        self.number(s, w, false, 0, 0, crate::FILL)
+    }
+
+    // How many whole bytes are left: no bits.
+    pub fn rest(self, s: &[u8]) -> Self
+        ensures { λ r. ⌜ r ≡ onward 0 false (wholly (now (s .entry)) (self .at)) 0 0 self ⌝ }
+    {
         let at = self.at;
-        self.on(
-            w,
-            false,
-            bits::get(s, at, w),
-            range(s, at, w, 0, 0, crate::FILL),
-            0,
-        )
+        self.on(0, false, whole_bytes(s.len(), at), 0, 0)
     }
 
     // A number of two's complement with the value v: from 0 to `top`, from `bottom` up, or `none`.
@@ -76,7 +86,7 @@ impl Walk {
         let clear = none(self.code);
         Walk {
             at: std::num::wrapping_add_usize(at, w),
-            code: number(clear, range(s, at, w, lo, hi, crate::RANGE), self.code),
+            code: choose(clear, range(s, at, w, lo, hi, crate::RANGE), self.code),
             place: pick(clear, at, self.place),
             v: self.v,
             seek: self.seek,
@@ -117,16 +127,18 @@ impl Walk {
         parts
     }
 
-    // The end of the bytes, at a whole byte.
+    // The end: zero bits up to a whole byte, then nothing.
     pub fn end(self, s: &[u8]) -> Self
         ensures { λ r. ⌜ r ≡ ended (now (s .entry)) self ⌝ }
     {
         let at = self.at;
         let clear = none(self.code);
+        let fault = closing(s, at);
+        let into = past(fault, at);
         Walk {
             at,
-            code: number(clear, more(at / 8, s.len()), self.code),
-            place: pick(clear, at, self.place),
+            code: choose(clear, fault, self.code),
+            place: pick(clear, std::num::wrapping_add_usize(at, into), self.place),
             v: 0,
             seek: false,
             left: 0,
@@ -158,11 +170,39 @@ fn signs(s: &[u8], at: usize, w: usize, top: u64, bottom: u64, none: u64) -> u8
     }
 }
 
-// 1 where bytes are left.
-fn more(from: usize, len: usize) -> u8
-    ensures { λ r. ⌜ r ≡ cond (ltb from len) 1 0 ⌝ }
+// The fill bits up to a whole byte.
+fn padding(at: usize) -> usize
+    ensures { λ r. ⌜ r ≡ pad at ⌝ }
 {
-    if from < len { crate::SIZE } else { 0 }
+    (8 - at % 8) % 8
+}
+
+// How far behind the last field the fault lies: the fill begins there, and what is left over after it.
+fn past(fault: u8, at: usize) -> usize
+    ensures { λ r. ⌜ r ≡ cond (eqb fault 5) 0 (pad at) ⌝ }
+{
+    if fault == crate::FILL { 0 } else { padding(at) }
+}
+
+// 5 where a bit up to the next whole byte is set, 1 where that is not the end.
+fn closing(s: &[u8], at: usize) -> u8
+    ensures { λ r. ⌜ r ≡ closes (now (s .entry)) at ⌝ }
+{
+    if bits::get(s, at, padding(at)) != 0 {
+        return crate::FILL;
+    }
+    if at / 8 + (at % 8 + 7) / 8 != s.len() {
+        return crate::SIZE;
+    }
+    0
+}
+
+// The whole bytes from bit `at` on.
+fn whole_bytes(len: usize, at: usize) -> u64
+    ensures { λ r. ⌜ r ≡ (len * 8 - at) / 8 ⌝ }
+{
+    let from = at / 8 + (at % 8 + 7) / 8;
+    if from < len { (len - from) as u64 } else { 0 }
 }
 
 pub fn inside(v: u64, lo: u64, hi: u64, code: u8) -> u8

@@ -47,7 +47,7 @@ impl Walk {
         let hit = both(self.seek, last(self.left));
         Walk {
             at: std::num::wrapping_add_usize(at, w),
-            code: number(clear, fault, self.code),
+            code: choose(clear, fault, self.code),
             place: pick(clear, std::num::wrapping_add_usize(at, into), self.place),
             v,
             seek: both(self.seek, not(last(self.left))),
@@ -55,6 +55,13 @@ impl Walk {
             spot: pick(hit, at, self.spot),
             width: pick(hit, pick(free, w, 0), self.width),
         }
+    }
+
+    // Over content or text of w bits, any number of them, that the caller judged.
+    pub fn wide(self, w: usize, fault: u8) -> Self
+        ensures { λ r. ⌜ r ≡ onward w false 0 fault 0 self ⌝ }
+    {
+        self.on(w, false, 0, fault, 0)
     }
 }
 
@@ -84,7 +91,7 @@ pub fn not(a: bool) -> bool
     if a { false } else { true }
 }
 
-pub fn number(yes: bool, a: u8, b: u8) -> u8
+pub fn choose(yes: bool, a: u8, b: u8) -> u8
     ensures { λ r. ⌜ r ≡ cond yes a b ⌝ }
 {
     if yes { a } else { b }

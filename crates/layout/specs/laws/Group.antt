@@ -174,6 +174,8 @@ module _ {o : Out (List ℕ)} {all : Fmt} {i : ℕ} {s : List ℕ} {h : List ℕ
     so = e .so ∙ ap (λ y. sticky r (also k y)) (read-flaw n j h at b′ next)
         ∙ ap (sticky r) (folds (j h (take n b′)) there (also (u ∷_) (next u (drop n b′)))) ∙ pass (also k (also (u ∷_) (next u (drop n b′)))) ∙ lands (eqb (p .code) 0) refl;
     here = ap (λ a. (a + n) % 2 ^ 64) (e .here) ∙ mod-eq-of-lt reach;
-    spots = λ vs. e .spots (got s at n ∷ vs) ∙ step-spots at n (got s at n) 0 0 r true (spot (field n j free f) h (got s at n ∷ vs)) (spot f (got s at n ∷ h) vs) (e .here) some (refl, λ n. refl);
+    spots = λ z vs. e .spots (passed-clean r (j h (take n b′)) at p pass z .0) (got s at n ∷ vs)
+        ∙ step-spots at n (got s at n) 0 0 r true (spot (field n j free f) h (got s at n ∷ vs)) (spot f (got s at n ∷ h) vs) (e .here) (λ _. some) (refl, λ n. refl);
     slim = thin (r .seek && eqb (r .left) 0) true;
+    within = λ z. let (a, x) = passed-clean r (j h (take n b′)) at p pass z in omega (arith, e .within a, there x, length-drop at (bitsOf s), length-bits s);
   })

@@ -1,48 +1,28 @@
--- The code's walk reads a layout, field by field. Assumes nothing.
+-- The code's walk reads a layout, field by field: each kind of field is one step, and the walk over all of them is the reading. Assumes nothing.
 use mathlib.Core.Path.{_≡_, refl, sym, ap, _∙_, subst, subst⁻¹}
 use mathlib.Core.Bool.{Bool, true, false, cond, _&&_}
 use mathlib.Core.List.{List, [], _∷_}
-use Prim.Native.Nat.{ℕ, zero, suc, _+_, _-_, _/_, _%_, _≤_, _<_, _^_}
+use Prim.Native.Nat.{ℕ, zero, suc, _+_, _-_, _*_, _/_, _%_, _≤_, _<_, _^_}
 use native.Mathlib.Omega.{arith}
-use native.Mathlib.Nat.{add-zero, zero-add}
-use lib.Dec.{leb, ltb, eqb}
-use lib.ListN.{length, drop, length-drop}
+use native.Mathlib.Nat.{add-zero, zero-add, mod-eq-of-lt}
+use lib.Dec.{leb, eqb}
+use lib.ListN.{length, take, drop, length-drop}
 use lib.Pow.{pow-pos}
-use borrow.Author.Tests.{leb-true, eq-eqb, ne-eqb, ltb-true, ltb-false}
+use borrow.Author.Tests.{leb-true, eq-eqb, ne-eqb, eqb-true, eqb-false}
 use Rattle.bits.specs.Bits.{valueOf, bitsOf, fieldAt}
 use Rattle.bits.specs.Answers.{within, got}
+use Rattle.bits.specs.laws.Answers.{got-fits}
 use Rattle.bits.specs.laws.Bytes.{length-bits}
 use Rattle.bits.specs.laws.Fields.{field-lt}
-use Rattle.layout.specs.Fmt.{Out, accepted, refused, Judge, Fmt, end, field, check, also, read, pad, Spot, none, found, later, spot}
-use Rattle.layout.specs.Message.{Layout, fault, readMessage}
-use Rattle.layout.specs.Reading.{ranging, signing, ranged, signedly, ended-at, ended}
+use Rattle.layout.specs.Fmt.{Out, accepted, refused, Judge, Fmt, end, field, choice, bytes, check, also, read, pad, Spot, none, found, later, spot}
+use Rattle.layout.specs.Message.{Layout, fault, body, first, readMessage}
+use Rattle.layout.specs.Reading.{ranging, signing, ranged, signedly, wholly, closes, ended}
 use Rattle.layout.specs.Walk.{begun, onward}
-use Rattle.layout.specs.Words.{_‥_, signed, num, code, fill}
-use Rattle.layout.specs.laws.Step.{sticky, stood, sought, Reading, Steps, step, step-spots, tested}
+use Rattle.layout.specs.Words.{Test, _‥_, signed, only, free, num, code, fill}
+use Rattle.layout.specs.laws.Step.{sticky, stood, sought, Reading, Steps, step, step-choice, step-spots, tested, clean, also-also}
 use Rattle.layout.specs.declared.walk.Walk.{Walk}
 
 -- ---- the code's steps
-
--- Over a field whose value, where nothing is refused, is n.
-pub step-known : {o : Out (List ℕ)} {all : Fmt} {i : ℕ} {s : List ℕ} {h : List ℕ} {at : ℕ} {k : List ℕ → List ℕ} {r : Walk} {w : ℕ} {j : Judge} {f : Fmt} {m : List ℕ → Bool} {v c q : ℕ} (n : ℕ)
-    → Reading o all i s (field w j m f) h at k r → Steps s at w j h v c q → (c ≡ 0 → v ≡ n)
-    → Reading o all i s f (n ∷ h) (at + w) (λ vs. k (n ∷ vs)) (onward w (m h) v c q r)
-unfolding spot onward
-step-known {s = s} {h} {at} {k} {r} {w} {j} {f} {m} {v} {c} {q} n e x z = record {
-  so = step e x .so ∙ go (eqb (r .code) 0) refl c refl;
-  here = step e x .here;
-  spots = λ vs. e .spots (n ∷ vs) ∙ step-spots at w v c q r (m h) (spot (field w j m f) h (n ∷ vs)) (spot f (n ∷ h) vs) (e .here) (x .some) (refl, λ n. refl);
-  slim = step e x .slim;
-}
-  where
-    b : List Bool
-    b = drop (at + w) (bitsOf s)
-
-    go : (t : Bool) → eqb (r .code) 0 ≡ t → (d : ℕ) → c ≡ d
-        → sticky (onward w (m h) v c q r) (also (λ vs. k (v ∷ vs)) (read f (v ∷ h) (at + w) b)) ≡ sticky (onward w (m h) v c q r) (also (λ vs. k (n ∷ vs)) (read f (n ∷ h) (at + w) b))
-    go false t d y = simp t
-    go true t zero y = rw (z y) refl
-    go true t (suc d) y = rw (t, y, ne-eqb (suc d) 0 (λ z. omega arith)) refl
 
 -- what a range that is one number leaves
 pub only-one : (n v c : ℕ) → cond (leb n v && leb v n) 0 (suc c) ≡ 0 → v ≡ n
@@ -60,45 +40,104 @@ known s at w c n = go (within (length s) at w)
     go true z = only-one n (got s at w) c z
     go false z = absurd (omega (arith, z))
 
-module _ {o : Out (List ℕ)} {all : Fmt} {i : ℕ} {s : List ℕ} {h : List ℕ} {at : ℕ} {k : List ℕ → List ℕ} {r : Walk} {f : Fmt} {g : Walk}
-    (w : ℕ) (some : 0 < w) (small : w ≤ 32) (reach : at + w < 2 ^ 64) where
-  pub step-num : (lo hi : ℕ) → Reading o all i s (num w (lo ‥ hi) f) h at k r → g ≡ ranged s w true lo hi 4 r
-      → Reading o all i s f (g .v ∷ h) (at + w) (λ vs. k (g .v ∷ vs)) g
-  unfolding onward
-  step-num lo hi e d =
-      subst⁻¹ (λ g. Reading o all i s f (g .v ∷ h) (at + w) (λ vs. k (g .v ∷ vs)) g)
-      (d ∙ ap (λ a. onward w true (got s a w) (ranging s a w lo hi 4) 0 r) (e .here))
-      (step e (tested s at w 3 (lo ‥ hi) h some small reach))
+-- a test between limits that the code knows
+limited : (s : List ℕ) (at w c lo hi : ℕ) (t : Test) (h : List ℕ) (m : Bool) → 0 < w → w ≤ 32 → at + w < 2 ^ 64 → ((v : ℕ) → t h v ≡ (lo ‥ hi) h v)
+    → Steps s at w (only w (suc c) t) h m (got s at w) (ranging s at w lo hi (suc c)) 0
+limited s at w c lo hi t h m some small reach l =
+    subst (λ b. Steps s at w (only w (suc c) t) h m (got s at w) (cond (within (length s) at w) (cond b 0 (suc c)) 1) 0) (l (got s at w)) (tested s at w c t h some small reach m)
 
-  pub step-signed : (m x : ℕ) → Reading o all i s (num w (signed w m x) f) h at k r → g ≡ signedly s w m (2 ^ w - m) x r
+module _ {o : Out (List ℕ)} {all : Fmt} {i : ℕ} {s : List ℕ} {h : List ℕ} {at : ℕ} {k : List ℕ → List ℕ} {r : Walk} {g : Walk}
+    (w : ℕ) (some : 0 < w) (small : w ≤ 32) (reach : at + w < 2 ^ 64) where
+  -- A number whose limits follow from the values before it.
+  pub step-limits : (c lo hi : ℕ) (t : Test) {m : List ℕ → Bool} {f : Fmt} → ((v : ℕ) → t h v ≡ (lo ‥ hi) h v)
+      → Reading o all i s (field w (only w (suc c) t) m f) h at k r → g ≡ ranged s w (m h) lo hi (suc c) r
       → Reading o all i s f (g .v ∷ h) (at + w) (λ vs. k (g .v ∷ vs)) g
   unfolding onward
-  step-signed m x e d =
+  step-limits c lo hi t {m} {f} l e d =
+      subst⁻¹ (λ g. Reading o all i s f (g .v ∷ h) (at + w) (λ vs. k (g .v ∷ vs)) g)
+      (d ∙ ap (λ a. onward w (m h) (got s a w) (ranging s a w lo hi (suc c)) 0 r) (e .here))
+      (step (got s at w) e (limited s at w c lo hi t h (m h) some small reach l))
+
+  pub step-num : (lo hi : ℕ) {f : Fmt} → Reading o all i s (num w (lo ‥ hi) f) h at k r → g ≡ ranged s w true lo hi 4 r
+      → Reading o all i s f (g .v ∷ h) (at + w) (λ vs. k (g .v ∷ vs)) g
+  step-num lo hi e d = step-limits 3 lo hi (lo ‥ hi) (λ v. refl) e d
+
+  -- A number that decides what follows.
+  pub step-decide : (c lo hi : ℕ) (t : Test) {f : ℕ → Fmt} → ((v : ℕ) → t h v ≡ (lo ‥ hi) h v)
+      → Reading o all i s (choice w (only w (suc c) t) f) h at k r → g ≡ ranged s w false lo hi (suc c) r
+      → Reading o all i s (f (g .v)) (g .v ∷ h) (at + w) (λ vs. k (g .v ∷ vs)) g
+  unfolding onward
+  step-decide c lo hi t {f} l e d =
+      subst⁻¹ (λ g. Reading o all i s (f (g .v)) (g .v ∷ h) (at + w) (λ vs. k (g .v ∷ vs)) g)
+      (d ∙ ap (λ a. onward w false (got s a w) (ranging s a w lo hi (suc c)) 0 r) (e .here))
+      (step-choice (got s at w) e (limited s at w c lo hi t h false some small reach l))
+
+  pub step-signed : (m x : ℕ) {f : Fmt} → Reading o all i s (num w (signed w m x) f) h at k r → g ≡ signedly s w m (2 ^ w - m) x r
+      → Reading o all i s f (g .v ∷ h) (at + w) (λ vs. k (g .v ∷ vs)) g
+  unfolding onward
+  step-signed m x {f} e d =
       subst⁻¹ (λ g. Reading o all i s f (g .v ∷ h) (at + w) (λ vs. k (g .v ∷ vs)) g)
       (d ∙ ap (λ a. onward w true (got s a w) (signing s a w m (2 ^ w - m) x) 0 r) (e .here))
-      (step e (tested s at w 3 (signed w m x) h some small reach))
+      (step (got s at w) e (tested s at w 3 (signed w m x) h some small reach true))
 
-  pub step-code : (n : ℕ) → Reading o all i s (code w n f) h at k r → g ≡ ranged s w false n n 2 r
+  -- A field of one good value.
+  step-one : (c n : ℕ) {m : List ℕ → Bool} {f : Fmt} → Reading o all i s (field w (only w (suc c) (n ‥ n)) m f) h at k r → g ≡ ranged s w (m h) n n (suc c) r
       → Reading o all i s f (n ∷ h) (at + w) (λ vs. k (n ∷ vs)) g
-  unfolding onward
-  step-code n e d =
-      let x = tested s at w 1 (n ‥ n) h some small reach in
+  step-one c n {m} {f} e d =
+      let x = tested s at w c (n ‥ n) h some small reach (m h) in
       subst⁻¹ (λ g. Reading o all i s f (n ∷ h) (at + w) (λ vs. k (n ∷ vs)) g)
-      (d ∙ ap (λ a. onward w false (got s a w) (ranging s a w n n 2) 0 r) (e .here))
-      (step-known n e x (known s at w 1 n))
+      (d ∙ ap (λ a. onward w (m h) (got s a w) (ranging s a w n n (suc c)) 0 r) (e .here))
+      (step (got s at w) e (record { findable = x .findable; reach = reach; into = x .into; same = x .same; holds = λ z. sym (known s at w c n z) ∙ x .holds z }))
 
-  pub step-fill : Reading o all i s (fill w f) h at k r → g ≡ ranged s w false 0 0 5 r → Reading o all i s f (0 ∷ h) (at + w) (λ vs. k (0 ∷ vs)) g
-  unfolding onward
-  step-fill e d =
-      let x = tested s at w 4 (0 ‥ 0) h some small reach in
-      subst⁻¹ (λ g. Reading o all i s f (0 ∷ h) (at + w) (λ vs. k (0 ∷ vs)) g)
-      (d ∙ ap (λ a. onward w false (got s a w) (ranging s a w 0 0 5) 0 r) (e .here))
-      (step-known 0 e x (known s at w 4 0))
+  pub step-code : (n : ℕ) {f : Fmt} → Reading o all i s (code w n f) h at k r → g ≡ ranged s w false n n 2 r
+      → Reading o all i s f (n ∷ h) (at + w) (λ vs. k (n ∷ vs)) g
+  step-code n e d = step-one 1 n e d
 
--- the first tests answered c
+  pub step-fill : {f : Fmt} → Reading o all i s (fill w f) h at k r → g ≡ ranged s w false 0 0 5 r → Reading o all i s f (0 ∷ h) (at + w) (λ vs. k (0 ∷ vs)) g
+  step-fill e d = step-one 4 0 e d
+
+-- How many whole bytes are left.
+pub step-rest : {o : Out (List ℕ)} {all : Fmt} {i : ℕ} {s : List ℕ} {h : List ℕ} {at : ℕ} {k : List ℕ → List ℕ} {r g : Walk} {f : ℕ → Fmt} → at < 2 ^ 64
+    → Reading o all i s (bytes f) h at k r → g ≡ onward 0 false (wholly s (r .at)) 0 0 r
+    → Reading o all i s (f (wholly s at)) (wholly s at ∷ h) at (λ vs. k (wholly s at ∷ vs)) g
+unfolding read spot onward
+step-rest {o} {all} {i} {s} {h} {at} {k} {r} {f = f} reach e d =
+    subst⁻¹ (λ g. Reading o all i s (f n) (n ∷ h) at (λ vs. k (n ∷ vs)) g) (d ∙ ap (λ a. onward 0 false (wholly s a) 0 0 r) (e .here)) (record {
+      so = e .so ∙ ap (λ m. sticky r (also k (also (m ∷_) (read (f m) (m ∷ h) at b)))) long ∙ go (eqb (r .code) 0) refl;
+      here = ap (_% 2 ^ 64) (add-zero (r .at) ∙ e .here) ∙ mod-eq-of-lt reach;
+      spots = λ z vs. e .spots (clean (r .code) 0 z .0) (n ∷ vs) ∙ lands vs ∙ ap (λ a. sought (onward 0 false n 0 0 r) a (spot (f n) (n ∷ h) vs)) (add-zero at);
+      slim = thin (r .seek && eqb (r .left) 0);
+      within = λ z. e .within (clean (r .code) 0 z .0);
+    })
+  where
+    n : ℕ
+    n = wholly s at
+
+    b : List Bool
+    b = drop at (bitsOf s)
+
+    long : length b / 8 ≡ n
+    long = ap (_/ 8) (length-drop at (bitsOf s) ∙ ap (_- at) (length-bits s))
+
+    go : (t : Bool) → eqb (r .code) 0 ≡ t → sticky r (also k (also (n ∷_) (read (f n) (n ∷ h) at b))) ≡ sticky (onward 0 false n 0 0 r) (also (λ vs. k (n ∷ vs)) (read (f n) (n ∷ h) at b))
+    go false t = simp t
+    go true t = rw t (also-also k n (read (f n) (n ∷ h) at b))
+
+    unmoved : (x : Spot) → x ≡ later 0 x
+    unmoved none = refl
+    unmoved (found p u) = ap (λ q. found q u) (sym (zero-add p))
+
+    lands : (vs : List ℕ) → sought r at (spot (bytes f) h (n ∷ vs)) ≡ sought (onward 0 false n 0 0 r) (at + 0) (spot (f n) (n ∷ h) vs)
+    lands vs = step-spots at 0 n 0 0 r false (spot (bytes f) h (n ∷ vs)) (spot (f n) (n ∷ h) vs) (e .here) (λ y. let z : _≡_ {A = ℕ} 0 1 = cc in absurd (omega arith)) (refl, λ m. unmoved (spot (f n) (n ∷ h) vs m))
+
+    thin : (x : Bool) → cond x 0 (r .width) ≤ 32
+    thin true = omega arith
+    thin false = e .slim
+
+-- The first tests answered c.
 pub start : (all : Fmt) (i c : ℕ) (s : List ℕ) {r : Walk} → r ≡ begun c i → Reading (check (fault c) 0 (read all [] 0 (bitsOf s))) all i s all [] 0 (λ vs. vs) r
 start all i c s d = subst⁻¹ (λ r. Reading (check (fault c) 0 (read all [] 0 (bitsOf s))) all i s all [] 0 (λ vs. vs) r) d
-    (record { so = go c (read all [] 0 (bitsOf s)); here = refl; spots = λ vs. found-at (spot all [] vs i); slim = omega arith })
+    (record { so = go c (read all [] 0 (bitsOf s)); here = refl; spots = λ z vs. found-at (spot all [] vs i); slim = omega arith; within = λ z. omega arith })
   where
     go : (c : ℕ) (o : Out (List ℕ)) → check (fault c) 0 o ≡ cond (eqb c 0) (also (λ vs. vs) o) (refused c 0)
     go zero (accepted vs) = refl
@@ -108,54 +147,6 @@ start all i c s d = subst⁻¹ (λ r. Reading (check (fault c) 0 (read all [] 0 
     found-at : (x : Spot) → x ≡ later 0 x
     found-at none = refl
     found-at (found p u) = ap (λ q. found q u) (sym (zero-add p))
-
--- ---- the end
-
--- The whole walk: its answer, and where the field i stood.
-pub record Walked (o : Out (List ℕ)) (all : Fmt) (i : ℕ) (vs : List ℕ) (r : Walk) : Type 0 where
-  pub so : o ≡ sticky r (accepted vs)
-  pub spots : spot all [] vs i ≡ stood r
-  pub slim : r .width ≤ 32
-
-pub same-values : {o : Out (List ℕ)} {all : Fmt} {i : ℕ} {us vs : List ℕ} {r : Walk} → us ≡ vs → Walked o all i us r → Walked o all i vs r
-same-values {o} {all} {i} {r = r} e x = subst (λ vs. Walked o all i vs r) e x
-
--- nothing is left at a whole byte
-pub finish : {o : Out (List ℕ)} {all : Fmt} {i : ℕ} {s : List ℕ} {h : List ℕ} {at : ℕ} {k : List ℕ → List ℕ} {r q : Walk} → at % 8 ≡ 0
-    → Reading o all i s end h at k r → q ≡ ended s r → Walked o all i (k []) q
-unfolding read spot valueOf
-finish {o} {all} {i} {s} {h} {at} {k} {r} m e d =
-    subst⁻¹ (λ q. Walked o all i (k []) q) (d ∙ ap (λ a. ended-at s a r) (e .here))
-    (record { so = e .so ∙ go (eqb (r .code) 0) (ltb (at / 8) (length s)) refl refl; spots = e .spots [] ∙ sits (r .seek) refl; slim = thin (r .seek) })
-  where
-    p : pad at ≡ 0
-    p = omega arith
-
-    b : List Bool
-    b = drop at (bitsOf s)
-
-    go : (x y : Bool) → eqb (r .code) 0 ≡ x → ltb (at / 8) (length s) ≡ y → sticky r (also k (read end h at b)) ≡ sticky (ended-at s at r) (accepted (k []))
-    go false y ex ey = simp ex
-    go true true ex ey = let l = ltb-true (at / 8) (length s) ey in
-        rw (ex, ey, p, ne-eqb (length b) 0 (omega (arith, length-drop at (bitsOf s), length-bits s)), add-zero at, add-zero at) refl
-    go true false ex ey = let l = ltb-false (at / 8) (length s) ey in
-        rw (ex, ey, p, eq-eqb (length b) 0 (omega (arith, length-drop at (bitsOf s), length-bits s))) refl
-
-    sits : (x : Bool) → r .seek ≡ x → sought r at (spot end h []) ≡ stood (ended-at s at r)
-    sits true e = rw e refl
-    sits false e = rw e refl
-
-    thin : (x : Bool) → cond x 0 (r .width) ≤ 32
-    thin true = omega arith
-    thin false = e .slim
-
--- the walk after the layout's first tests is the reading of the message
-pub read-walked : (l : Layout) (s : List ℕ) {c i : ℕ} {vs : List ℕ} {r : Walk} → l .seal ≡ false → c ≡ l .lead s
-    → Walked (check (fault c) 0 (read (l .fmt) [] 0 (bitsOf s))) (l .fmt) i vs r → readMessage l s ≡ sticky r (accepted vs)
-unfolding readMessage
-read-walked l s z e x = rw (z, ← e) (x .so)
-
--- ---- values
 
 -- what a walk takes from w bits has at most w
 pub got-lt : (s : List ℕ) (at w : ℕ) {v : ℕ} → v ≡ got s at w → v < 2 ^ w

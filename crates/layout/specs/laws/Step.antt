@@ -8,7 +8,7 @@ use native.Mathlib.Nat.{add-zero, add-assoc, le-refl, mod-eq-of-lt}
 use lib.Dec.{leb, eqb}
 use lib.ListN.{length, take, drop, length-take, length-drop}
 use lib.Seq.{length-take-le, take-take, drop-drop}
-use borrow.Author.Tests.{le-leb, lt-leb, leb-true, leb-false, eq-eqb, ne-eqb}
+use borrow.Author.Tests.{le-leb, lt-leb, leb-true, leb-false, eq-eqb, ne-eqb, eqb-true, eqb-false}
 use Rattle.bits.specs.Bits.{valueOf, bitsOf, fieldAt}
 use Rattle.bits.specs.Answers.{within, got}
 use Rattle.bits.specs.laws.Bytes.{length-bits}
@@ -36,12 +36,13 @@ abbrev pub sought : Walk → ℕ → (ℕ → Spot) → Spot
 sought r at g = cond (r .seek) (later at (g (r .left))) (stood r)
 
 -- o is what reading f from `at` on answers, the values before it put in front by k, unless r was refused before;
--- and the field i of `all` is found by r, or will be.
+-- and, where nothing was refused, the field i of `all` is found by r, or will be.
 pub record Reading (o : Out (List ℕ)) (all : Fmt) (i : ℕ) (s : List ℕ) (f : Fmt) (h : List ℕ) (at : ℕ) (k : List ℕ → List ℕ) (r : Walk) : Type 0 where
   pub so : o ≡ sticky r (also k (read f h at (drop at (bitsOf s))))
   pub here : r .at ≡ at
-  pub spots : (vs : List ℕ) → spot all [] (k vs) i ≡ sought r at (spot f h vs)
+  pub spots : r .code ≡ 0 → (vs : List ℕ) → spot all [] (k vs) i ≡ sought r at (spot f h vs)
   pub slim : r .width ≤ 32
+  pub within : r .code ≡ 0 → at ≤ length s * 8
 
 pub also-also : (k : List ℕ → List ℕ) (v : ℕ) (o : Out (List ℕ)) → also k (also (v ∷_) o) ≡ also (λ vs. k (v ∷ vs)) o
 also-also k v (accepted x) = refl
@@ -78,95 +79,113 @@ flawless w j b = go (j (take w b)) (leb w (length b)) refl
 
 -- ---- one step
 
--- the code's step past a field: its value, its fault c and how far in, as the layout judges it
-pub record Steps (s : List ℕ) (at w : ℕ) (j : Judge) (h : List ℕ) (v c i : ℕ) : Type 0 where
-  pub some : 0 < w
-  pub small : w ≤ 32
+-- The code's step past a field: its fault c and how far in, as the layout judges it; its value u; m where it may be corrected.
+pub record Steps (s : List ℕ) (at w : ℕ) (j : Judge) (h : List ℕ) (m : Bool) (u c i : ℕ) : Type 0 where
+  pub findable : m ≡ true → (0 < w) × (w ≤ 32)
   pub reach : at + w < 2 ^ 64
   pub into : i ≤ w
   pub same : flaw w (j h) (drop at (bitsOf s)) ≡ blamed c i
-  pub holds : c ≡ 0 → v ≡ valueOf (take w (drop at (bitsOf s)))
+  pub holds : c ≡ 0 → u ≡ valueOf (take w (drop at (bitsOf s)))
 
 later-later : (a b : ℕ) (x : Spot) → later a (later b x) ≡ later (a + b) x
 later-later a b none = refl
 later-later a b (found p u) = ap (λ q. found q u) (sym (add-assoc a b p))
 
-module _ {s : List ℕ} {at w : ℕ} {j : Judge} {h : List ℕ} {v c i : ℕ} (r : Walk) (e : r .at ≡ at) (x : Steps s at w j h v c i) where
-  step-so : (k : List ℕ → List ℕ) (m : Bool) (next : ℕ → List Bool → Out (List ℕ))
+-- nothing refused behind a step: nothing was before, and the step found no fault
+pub clean : (a c : ℕ) → cond (eqb a 0) c a ≡ 0 → (a ≡ 0) × (c ≡ 0)
+clean a c = go (eqb a 0) refl
+  where
+    go : (t : Bool) → eqb a 0 ≡ t → cond t c a ≡ 0 → (a ≡ 0) × (c ≡ 0)
+    go true e z = (eqb-true a 0 e, z)
+    go false e z = absurd (eqb-false a 0 e z)
+
+module _ {s : List ℕ} {at w : ℕ} {j : Judge} {h : List ℕ} {m : Bool} {u c i : ℕ} (r : Walk) (e : r .at ≡ at) (x : Steps s at w j h m u c i) (v : ℕ) where
+  pub step-so : (k : List ℕ → List ℕ) (next : ℕ → List Bool → Out (List ℕ))
       → sticky r (also k (readField w j h at (drop at (bitsOf s)) next))
-      ≡ sticky (onward w m v c i r) (also (λ vs. k (v ∷ vs)) (next v (drop (at + w) (bitsOf s))))
+      ≡ sticky (onward w m v c i r) (also (λ vs. k (u ∷ vs)) (next u (drop (at + w) (bitsOf s))))
   unfolding onward
-  step-so k m next = go (eqb (r .code) 0) refl c refl
+  step-so k next = go (eqb (r .code) 0) refl c refl
     where
       b : List Bool
       b = drop at (bitsOf s)
 
       go : (t : Bool) → eqb (r .code) 0 ≡ t → (d : ℕ) → c ≡ d
-          → sticky r (also k (readField w j h at b next)) ≡ sticky (onward w m v c i r) (also (λ vs. k (v ∷ vs)) (next v (drop (at + w) (bitsOf s))))
+          → sticky r (also k (readField w j h at b next)) ≡ sticky (onward w m v c i r) (also (λ vs. k (u ∷ vs)) (next u (drop (at + w) (bitsOf s))))
       go false t d z = simp t
       go true t zero z =
-          let y : v ≡ valueOf (take w b) = x .holds z in
-          rw (t, z, read-flaw w j h at b next, x .same, z) (rw (← y, drop-drop w at (bitsOf s)) (also-also k v (next v (drop (at + w) (bitsOf s)))))
+          let y : u ≡ valueOf (take w b) = x .holds z in
+          rw (t, z, read-flaw w j h at b next, x .same, z) (rw (← y, drop-drop w at (bitsOf s)) (also-also k u (next u (drop (at + w) (bitsOf s)))))
       go true t (suc d) z =
           rw (t, z, read-flaw w j h at b next, x .same, z, e, mod-eq-of-lt (lower (x .into) (x .reach)), ne-eqb (suc d) 0 (λ z. omega arith)) refl
         where
           lower : i ≤ w → at + w < 2 ^ 64 → at + i < 2 ^ 64
           lower p q = omega arith
 
-  step-here : (m : Bool) → onward w m v c i r .at ≡ at + w
+  pub step-here : onward w m v c i r .at ≡ at + w
   unfolding onward
-  step-here m = ap (λ a. (a + w) % 2 ^ 64) e ∙ mod-eq-of-lt (x .reach)
+  step-here = ap (λ a. (a + w) % 2 ^ 64) e ∙ mod-eq-of-lt (x .reach)
 
-  step-slim : (m : Bool) → r .width ≤ 32 → onward w m v c i r .width ≤ 32
+  pub step-slim : r .width ≤ 32 → onward w m v c i r .width ≤ 32
   unfolding onward
-  step-slim m l = go (r .seek && eqb (r .left) 0) m
+  step-slim l = go (r .seek && eqb (r .left) 0) m (x .findable)
     where
-      go : (a b : Bool) → cond a (cond b w 0) (r .width) ≤ 32
-      go true true = x .small
-      go true false = omega arith
-      go false b = l
+      go : (a b : Bool) → (b ≡ true → (0 < w) × (w ≤ 32)) → cond a (cond b w 0) (r .width) ≤ 32
+      go true true y = y refl .1
+      go true false y = omega arith
+      go false b y = l
+
+  pub step-clean : onward w m v c i r .code ≡ 0 → (r .code ≡ 0) × (c ≡ 0)
+  unfolding onward
+  step-clean z = clean (r .code) c z
+
+  pub step-within : (r .code ≡ 0 → at ≤ length s * 8) → onward w m v c i r .code ≡ 0 → at + w ≤ length s * 8
+  step-within l z =
+      let (a, d) = step-clean z in
+      let y = flawless w (j h) (drop at (bitsOf s)) (x .same ∙ ap (λ c. blamed c i) d) in
+      omega (arith, l a, y, length-drop at (bitsOf s), length-bits s)
 
 -- f finds the field, or what g finds behind it
 abbrev pub Passing : ℕ → Bool → (ℕ → Spot) → (ℕ → Spot) → Type 0
 Passing w m f g = (f 0 ≡ where? m w) × ((n : ℕ) → f (suc n) ≡ later w (g n))
 
-pub step-spots : (at w v c i : ℕ) (r : Walk) (m : Bool) (f g : ℕ → Spot) → r .at ≡ at → 0 < w → Passing w m f g
+pub step-spots : (at w v c i : ℕ) (r : Walk) (m : Bool) (f g : ℕ → Spot) → r .at ≡ at → (m ≡ true → 0 < w) → Passing w m f g
     → sought r at f ≡ sought (onward w m v c i r) (at + w) g
 unfolding onward
-step-spots at w v c i r m f g e l p = go (r .seek) refl (r .left) refl m (p .0)
+step-spots at w v c i r m f g e l p = go (r .seek) refl (r .left) refl m l (p .0)
   where
-    nonzero : eqb w 0 ≡ false
-    nonzero = ne-eqb w 0 (λ z. omega arith)
-
-    go : (a : Bool) → r .seek ≡ a → (n : ℕ) → r .left ≡ n → (m : Bool) → f 0 ≡ where? m w → sought r at f ≡ sought (onward w m v c i r) (at + w) g
-    go false ea n en m q = rw ea refl
-    go true ea zero en true q = rw (ea, en, q, nonzero, e, add-zero) refl
-    go true ea zero en false q = rw (ea, en, q) refl
-    go true ea (suc n) en m q =
+    go : (a : Bool) → r .seek ≡ a → (n : ℕ) → r .left ≡ n → (m : Bool) → (m ≡ true → 0 < w) → f 0 ≡ where? m w → sought r at f ≡ sought (onward w m v c i r) (at + w) g
+    go false ea n en m l q = rw ea refl
+    go true ea zero en true l q = let y = l refl in rw (ea, en, q, ne-eqb w 0 (λ z. omega arith), e, add-zero) refl
+    go true ea zero en false l q = rw (ea, en, q) refl
+    go true ea (suc n) en m l q =
         let d : suc n - 1 ≡ n = omega arith in
         rw (ea, en, p .1 n, ne-eqb (suc n) 0 (λ z. omega arith), d) (later-later at w (g n))
 
 module _ {o : Out (List ℕ)} {all : Fmt} {i : ℕ} {s : List ℕ} {h : List ℕ} {at : ℕ} {k : List ℕ → List ℕ} {r : Walk} {w : ℕ} {j : Judge} where
   -- over a field
-  pub step : {f : Fmt} {m : List ℕ → Bool} {v c q : ℕ} → Reading o all i s (field w j m f) h at k r → Steps s at w j h v c q
-      → Reading o all i s f (v ∷ h) (at + w) (λ vs. k (v ∷ vs)) (onward w (m h) v c q r)
+  pub step : {f : Fmt} {m : List ℕ → Bool} {u c q : ℕ} (v : ℕ) → Reading o all i s (field w j m f) h at k r → Steps s at w j h (m h) u c q
+      → Reading o all i s f (u ∷ h) (at + w) (λ vs. k (u ∷ vs)) (onward w (m h) v c q r)
   unfolding read spot
-  step {f} {m} {v} {c} {q} e x = record {
-    so = e .so ∙ step-so r (e .here) x k (m h) (λ v b. read f (v ∷ h) (at + w) b);
-    here = step-here r (e .here) x (m h);
-    spots = λ vs. e .spots (v ∷ vs) ∙ step-spots at w v c q r (m h) (spot (field w j m f) h (v ∷ vs)) (spot f (v ∷ h) vs) (e .here) (x .some) (refl, λ n. refl);
-    slim = step-slim r (e .here) x (m h) (e .slim);
+  step {f} {m} {u} {c} {q} v e x = record {
+    so = e .so ∙ step-so r (e .here) x v k (λ v b. read f (v ∷ h) (at + w) b);
+    here = step-here r (e .here) x v;
+    spots = λ z vs. e .spots (step-clean r (e .here) x v z .0) (u ∷ vs)
+        ∙ step-spots at w v c q r (m h) (spot (field w j m f) h (u ∷ vs)) (spot f (u ∷ h) vs) (e .here) (λ y. x .findable y .0) (refl, λ n. refl);
+    slim = step-slim r (e .here) x v (e .slim);
+    within = step-within r (e .here) x v (e .within);
   }
 
   -- over a field that decides what follows
-  pub step-choice : {f : ℕ → Fmt} {v c q : ℕ} → Reading o all i s (choice w j f) h at k r → Steps s at w j h v c q
-      → Reading o all i s (f v) (v ∷ h) (at + w) (λ vs. k (v ∷ vs)) (onward w false v c q r)
+  pub step-choice : {f : ℕ → Fmt} {u c q : ℕ} (v : ℕ) → Reading o all i s (choice w j f) h at k r → Steps s at w j h false u c q
+      → Reading o all i s (f u) (u ∷ h) (at + w) (λ vs. k (u ∷ vs)) (onward w false v c q r)
   unfolding read spot
-  step-choice {f} {v} {c} {q} e x = record {
-    so = e .so ∙ step-so r (e .here) x k false (λ v b. read (f v) (v ∷ h) (at + w) b);
-    here = step-here r (e .here) x false;
-    spots = λ vs. e .spots (v ∷ vs) ∙ step-spots at w v c q r false (spot (choice w j f) h (v ∷ vs)) (spot (f v) (v ∷ h) vs) (e .here) (x .some) (refl, λ n. refl);
-    slim = step-slim r (e .here) x false (e .slim);
+  step-choice {f} {u} {c} {q} v e x = record {
+    so = e .so ∙ step-so r (e .here) x v k (λ v b. read (f v) (v ∷ h) (at + w) b);
+    here = step-here r (e .here) x v;
+    spots = λ z vs. e .spots (step-clean r (e .here) x v z .0) (u ∷ vs)
+        ∙ step-spots at w v c q r false (spot (choice w j f) h (u ∷ vs)) (spot (f u) (u ∷ h) vs) (e .here) (λ y. x .findable y .0) (refl, λ n. refl);
+    slim = step-slim r (e .here) x v (e .slim);
+    within = step-within r (e .here) x v (e .within);
   }
 
 -- ---- a field of one number, judged by a test
@@ -192,9 +211,9 @@ module _ (s : List ℕ) (at w c : ℕ) (t : Test) (h : List ℕ) (some : 0 < w) 
   unfolding walk
   cut l = rw (lt-leb w (length (take w rest)) (omega (arith, length-take w rest, length-drop at (bitsOf s), length-bits s))) refl
 
-  pub tested : Steps s at w (only w (suc c) t) h (got s at w) number 0
+  pub tested : (m : Bool) → Steps s at w (only w (suc c) t) h m (got s at w) number 0
   unfolding fieldAt
-  tested = record { some = some; small = small; reach = reach; into = omega arith; same = same′ (leb (at + w) (length s * 8)) refl; holds = holds′ (leb (at + w) (length s * 8)) refl }
+  tested m = record { findable = λ _. (some, small); reach = reach; into = omega arith; same = same′ (leb (at + w) (length s * 8)) refl; holds = holds′ (leb (at + w) (length s * 8)) refl }
     where
       same′ : (x : Bool) → leb (at + w) (length s * 8) ≡ x → flaw w (only w (suc c) t h) (drop at (bitsOf s)) ≡ blamed number 0
       same′ true e = rw (le-leb w 32 small, e) (there (leb-true (at + w) (length s * 8) e))

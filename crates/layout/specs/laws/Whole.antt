@@ -136,14 +136,14 @@ module _ (l : Layout) (ok : Sound l) where
   fitting : (s vs : List ℕ) → Was l s vs → size l (length s) ≡ 0
   fitting s vs r = sym (ok .sized s vs (r .walked)) ∙ r .led
 
-  filled : (s vs : List ℕ) → Was l s vs → l .seal ≡ true → 0 < length s
+  pub filled : (s vs : List ℕ) → Was l s vs → l .seal ≡ true → 0 < length s
   filled s vs r z = go (leb (l .least) (length s)) (leb (length s) (l .most)) refl (fitting s vs r)
     where
       go : (x y : Bool) → leb (l .least) (length s) ≡ x → _≡_ {A = ℕ} (cond (x && y) 0 1) 0 → 0 < length s
       go true y e h = let a = leb-true (l .least) (length s) e in let b = ok .some z in omega arith
       go false y e h = absurd (omega (arith, h))
 
-  whole-again : (s vs : List ℕ) → Was l s vs → sealed (l .seal) (body (l .seal) s) ≡ s
+  pub whole-again : (s vs : List ℕ) → Was l s vs → sealed (l .seal) (body (l .seal) s) ≡ s
   whole-again s vs r = sealed-body (l .seal) s (filled s vs r) (r .stamped)
 
   -- 2. What is read is written back.

@@ -23,7 +23,7 @@ unfolding reports
 returns c =
     let f = c .before .before .before in
     let a = f .before .before .before .before .args in
-    correct-early reports sound refl (a .buf .now) (a .field) (a .value) (f .before .lead .ensures) (f .fields .ensures .0) (c .before .admits .ensures) (c .if1 .taken)
+    correct-early reports sound (a .buf .now) (a .field) (a .value) (f .before .lead .ensures) (f .fields .ensures .0) (c .before .admits .ensures) (c .if1 .taken)
 
 swap-requires : tie.Need-swap-requires
 swap-requires c κs = search needs
@@ -47,8 +47,8 @@ returns-2 c =
     let f = test .before .before .before in
     let known = f .before .before .before in
     let a = known .before .args in
-    correct-late reports sound refl (a .buf .now) (a .field) (a .value) (f .before .lead .ensures) (f .fields .ensures .0) (λ i. known .slice-known .given i .fits)
-    (test .before .admits .ensures) (test .if1 .left) (swap .swap .ensures) (again .fields2 .ensures .0) (settle .settle .ensures)
+    correct-late reports sound (a .buf .now) (a .field) (a .value) (f .before .lead .ensures) (f .fields .ensures .0) (λ i. known .slice-known .given i .fits)
+    (test .before .admits .ensures) (test .if1 .left) (swap .swap .ensures) (again .fields2 .ensures .0) (settle .settle .ensures) refl
 
 pub correct-spec : {M : Type 1} → statement M
 correct-spec =

@@ -3,7 +3,8 @@ use Prim.Native.Nat.{_≤_, _<_, _^_}
 use mathlib.Core.List.{[], _∷_}
 use lib.Dec.{lit<, lit≤}
 use Rattle.layout.specs.Sign.{spellOf}
-use Rattle.layout.specs.laws.Reading.{start, step-code, step-num, step-signed, step-fill, finish, same-values}
+use Rattle.layout.specs.laws.Reading.{start, step-code, step-num, step-signed, step-fill}
+use Rattle.layout.specs.laws.Walked.{finish, same-values}
 use Rattle.layout.specs.laws.Sign.{spell-int}
 use mir.Syntax.{w32}
 use mir.ValLaws.{toZ-ofZ}
@@ -109,7 +110,7 @@ returns c =
     let r9 = step-num 9 (lit< tt) (lit≤ tt) (lit< tt) 0 360 r8 (c10 .num6 .ensures .0) in
     let r10 = step-num 4 (lit< tt) (lit≤ tt) (lit< tt) 0 9 r9 (c11 .num7 .ensures .0) in
     let r11 = step-fill 3 (lit< tt) (lit≤ tt) (lit< tt) r10 (c12 .fill .ensures) in
-    let r12 = finish refl r11 (c .end .ensures) in
+    let r12 = finish (lit< tt) r11 (c .end .ensures) in
     let east = ap (spellOf (2 ^ 25)) (toZ-ofZ w32 (c3 .int .result) (record { sfits = c3 .int .ok }) ∙ c3 .int .ensures) ∙ spell-int (2 ^ 25) (c2 .signed .result .v) (lit≤ tt) refl (c2 .signed .ensures .1) in
     let north = ap (spellOf (2 ^ 24)) (toZ-ofZ w32 (c5 .int2 .result) (record { sfits = c5 .int2 .ok }) ∙ c5 .int2 .ensures) ∙ spell-int (2 ^ 24) (c4 .signed2 .result .v) (lit≤ tt) refl (c4 .signed2 .ensures .1) in
     (same-values (λ i. 0xBDC1 ∷ c1 .num .result .v ∷ sym east i ∷ sym north i ∷ c6 .num2 .result .v ∷ c7 .num3 .result .v ∷ c8 .num4 .result .v ∷ c9 .num5 .result .v ∷ c10 .num6 .result .v ∷ c11 .num7 .result .v ∷ 0 ∷ []) r12, again _ (rw east (c2 .signed .ensures .1)) (rw north (c4 .signed2 .ensures .1)))

@@ -1,5 +1,5 @@
 use mathlib.Core.Path.{refl, sym, ap, _∙_}
-use Rattle.layout.specs.laws.Reading.{read-walked}
+use Rattle.layout.specs.laws.Walked.{read-walked}
 use Rattle.layout.specs.laws.Step.{stuck, clear}
 use Rattle.distress.specs.Report.{reports, answerOf}
 use Rattle.distress.specs.declared.report.Answer.the-variants.{Good}
@@ -18,14 +18,14 @@ unfolding reports
 returns c =
     let f = c .before .before in
     let s = f .before .before .before .args .s .now in
-    sym (ap answerOf (read-walked reports s refl (f .before .lead .ensures) (f .fields .ensures .0) ∙ stuck (f .fields .result .walk) _ (c .if1 .taken)))
+    sym (ap answerOf (read-walked reports s (f .before .lead .ensures) (f .fields .ensures .0) ∙ stuck (f .fields .result .walk) _ (c .if1 .taken)))
 
 returns-2 : tie.Need-returns-2
 unfolding reports
 returns-2 c =
     let f = c .before .before in
     let s = f .before .before .before .args .s .now in
-    let e = read-walked reports s refl (f .before .lead .ensures) (f .fields .ensures .0) in
+    let e = read-walked reports s (f .before .lead .ensures) (f .fields .ensures .0) in
     sym (ap answerOf (e ∙ clear (f .fields .result .walk) _ (c .if1 .left)) ∙ ap Good (f .fields .ensures .1))
 
 pub read-spec : {M : Type 1} → statement M

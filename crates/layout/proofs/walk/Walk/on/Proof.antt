@@ -17,8 +17,8 @@ both-requires c κs = search needs
 wrapping-add-usize-requires : tie.Need-wrapping-add-usize-requires
 wrapping-add-usize-requires c κs = search needs
 
-number-requires : tie.Need-number-requires
-number-requires c κs = search needs
+choose-requires : tie.Need-choose-requires
+choose-requires c κs = search needs
 
 wrapping-add-usize-requires-2 : tie.Need-wrapping-add-usize-requires-2
 wrapping-add-usize-requires-2 c κs = search needs
@@ -67,7 +67,7 @@ returns c =
     let hit = c3 .both .ensures ∙ ap (a .self .seek &&_) (c2 .last .ensures) in
     let clear = c1 .none .ensures in
     let at = c4 .wrapping-add-usize .ensures in
-    let code = c5 .number .ensures ∙ ap (λ b. cond b (a .fault) (a .self .code)) clear in
+    let code = c5 .choose .ensures ∙ ap (λ b. cond b (a .fault) (a .self .code)) clear in
     let place = c7 .pick .ensures ∙ ap₂ (λ b x. cond b x (a .self .place)) clear (c6 .wrapping-add-usize2 .ensures) in
     let seek = c10 .both2 .ensures ∙ ap (a .self .seek &&_) (c9 .not .ensures ∙ ap (λ b. cond b false true) (c8 .last2 .ensures)) in
     let left = c11 .less .ensures in
@@ -83,7 +83,7 @@ on-spec =
     last-requires
     both-requires
     wrapping-add-usize-requires
-    number-requires
+    choose-requires
     wrapping-add-usize-requires-2
     pick-requires
     last-requires-2

@@ -14,8 +14,8 @@ wrapping-add-usize-requires c κs = search needs
 range-requires : tie.Need-range-requires
 range-requires c κs = search needs
 
-number-requires : tie.Need-number-requires
-number-requires c κs = search needs
+choose-requires : tie.Need-choose-requires
+choose-requires c κs = search needs
 
 pick-requires : tie.Need-pick-requires
 pick-requires c κs = search needs
@@ -29,7 +29,7 @@ returns c =
     let c1 = c2 .before in
     let a = c1 .before .before .args in
     let at = c2 .wrapping-add-usize .ensures in
-    let code = c4 .number .ensures ∙ ap₂ (λ b x. cond b x (a .self .code)) (c1 .none .ensures) (c3 .range .ensures) in
+    let code = c4 .choose .ensures ∙ ap₂ (λ b x. cond b x (a .self .code)) (c1 .none .ensures) (c3 .range .ensures) in
     let place = c .pick .ensures ∙ ap (λ b. cond b (a .self .at) (a .self .place)) (c1 .none .ensures) in
     λ i. record { at = at i; code = code i; place = place i; v = a .self .v; seek = a .self .seek; left = a .self .left; spot = a .self .spot; width = a .self .width }
 
@@ -40,6 +40,6 @@ part-spec =
     none-requires
     wrapping-add-usize-requires
     range-requires
-    number-requires
+    choose-requires
     pick-requires
     returns)
