@@ -7,6 +7,7 @@ pub mod Step
 pub mod Reading
 pub mod Walked
 pub mod Group
+pub mod Along
 pub mod Judging
 pub mod Putting
 pub mod Flat

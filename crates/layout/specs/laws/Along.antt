@@ -1,0 +1,109 @@
+-- Walks as values: a stretch of a walk over part of a layout, whatever follows. Stretches are joined, so that a loop over counted groups has one for its invariant. Assumes nothing.
+use mathlib.Core.Path.{_≡_, refl, sym, ap, _∙_, subst, subst⁻¹}
+use mathlib.Core.Bool.{Bool, true, false, cond, _&&_}
+use mathlib.Core.List.{List, [], _∷_, _++_, append-assoc, append-nil}
+use Prim.Native.Nat.{ℕ, _+_, _≤_}
+use native.Mathlib.Omega.{arith}
+use lib.Dec.{eqb}
+use lib.Seq.{append-snoc}
+use borrow.Author.Tests.{ne-eqb, eqb-true, eqb-false}
+use Rattle.layout.specs.Fmt.{Out, accepted, refused, Judge, Fmt, field, also, read, spot}
+use Rattle.layout.specs.Walk.{onward}
+use Rattle.layout.specs.laws.Step.{sticky, Reading, Steps, step, clean}
+use Rattle.layout.specs.declared.walk.Walk.{Walk}
+
+-- Reading stands at f where r says, after the values us, unless r was refused.
+pub record Going (o : Out (List ℕ)) (all : Fmt) (i : ℕ) (s : List ℕ) (f : Fmt) (us : List ℕ) (r : Walk) : Type 0 where
+  pub past : List ℕ
+  pub so : Reading o all i s f past (r .at) (us ++_) r
+
+-- Where reading stands at g, it stands at g′ afterwards, with the values vs more, whatever layout f follows.
+pub record Along (s : List ℕ) (g g′ : Fmt → Fmt) (r : Walk) (vs : List ℕ) (r′ : Walk) : Type 0 where
+  pub on : {o : Out (List ℕ)} {all : Fmt} {i : ℕ} {f : Fmt} {us : List ℕ} → Going o all i s (g f) us r → Going o all i s (g′ f) (us ++ vs) r′
+
+-- ---- the values before, told in another way
+
+also-same : {k k′ : List ℕ → List ℕ} → ((x : List ℕ) → k x ≡ k′ x) → (o : Out (List ℕ)) → also k o ≡ also k′ o
+also-same e (accepted x) = ap accepted (e x)
+also-same e (refused c p) = refl
+
+pub fronted : {o : Out (List ℕ)} {all : Fmt} {i : ℕ} {s : List ℕ} {f : Fmt} {h : List ℕ} {at : ℕ} {k k′ : List ℕ → List ℕ} {r : Walk} → ((x : List ℕ) → k x ≡ k′ x)
+    → Reading o all i s f h at k r → Reading o all i s f h at k′ r
+fronted {all = all} {i} {s} {f} {h} {at} {r = r} e x = record {
+  so = x .so ∙ ap (sticky r) (also-same e (read f h at _));
+  here = x .here;
+  spots = λ z vs. ap (λ l. spot all [] l i) (sym (e vs)) ∙ x .spots z vs;
+  slim = x .slim;
+  within = x .within;
+}
+
+placed : {o : Out (List ℕ)} {all : Fmt} {i : ℕ} {s : List ℕ} {f : Fmt} {h : List ℕ} {at : ℕ} {k : List ℕ → List ℕ} {r : Walk} → Reading o all i s f h at k r → Reading o all i s f h (r .at) k r
+placed {o} {all} {i} {s} {f} {h} {k = k} {r} x = subst (λ a. Reading o all i s f h a k r) (sym (x .here)) x
+
+-- ---- one field
+
+-- A step of reading is a step of what goes on, whatever the values before it.
+pub go : {o : Out (List ℕ)} {all : Fmt} {i : ℕ} {s : List ℕ} {f f′ : Fmt} {r g : Walk} {at′ : ℕ} (us : List ℕ) (u : ℕ) → Going o all i s f us r
+    → ((h : List ℕ) → Reading o all i s f h (r .at) (us ++_) r → Reading o all i s f′ (u ∷ h) at′ (λ vs. us ++ (u ∷ vs)) g) → Going o all i s f′ (us ++ u ∷ []) g
+go us u x next = record { past = u ∷ x .past; so = placed (fronted (λ vs. sym (append-snoc us u vs)) (next (x .past) (x .so))) }
+
+-- after a refusal it does not matter what follows, nor the values
+pub go-refused : {o : Out (List ℕ)} {all : Fmt} {i : ℕ} {s : List ℕ} {us : List ℕ} {r : Walk} {f : Fmt} (g : Fmt) (vs : List ℕ) → (r .code ≡ 0 → ⊥) → Going o all i s f us r → Going o all i s g vs r
+go-refused {r = r} g vs n x = record {
+  past = x .past;
+  so = record {
+    so = x .so .so ∙ rw (ne-eqb (r .code) 0 n) refl;
+    here = refl;
+    spots = λ z. absurd (n z);
+    slim = x .so .slim;
+    within = λ z. absurd (n z);
+  };
+}
+
+-- Over content or text, which the code judges only where nothing was refused before.
+pub go-wide : {o : Out (List ℕ)} {all : Fmt} {i : ℕ} {s : List ℕ} {f : Fmt} {r g : Walk} {w : ℕ} {j : Judge} {m : List ℕ → Bool} {c q : ℕ} (us : List ℕ) (u v : ℕ) → ((h : List ℕ) → m h ≡ false)
+    → Going o all i s (field w j m f) us r → (r .code ≡ 0 → (h : List ℕ) → Steps s (r .at) w j h false u c q) → g ≡ onward w false v c q r → Going o all i s f (us ++ u ∷ []) g
+unfolding onward
+go-wide {o} {all} {i} {s} {f} {r} {g} {w} {j} {m} {c} {q} us u v e x y d = judged (eqb (r .code) 0) refl
+  where
+    kept : (h : List ℕ) → (b : Bool) → m h ≡ b → b ≡ false → Steps s (r .at) w j h false u c q → Steps s (r .at) w j h (m h) u c q
+    kept h b p z t = subst⁻¹ (λ b. Steps s (r .at) w j h b u c q) (p ∙ z) t
+
+    slimmer : (a : Bool) → cond a 0 (r .width) ≤ 32
+    slimmer true = omega arith
+    slimmer false = x .so .slim
+
+    after : (r .code ≡ 0 → ⊥) → Going o all i s f (us ++ u ∷ []) (onward w false v c q r)
+    after n = record {
+      past = x .past;
+      so = record {
+        so = x .so .so ∙ rw (ne-eqb (r .code) 0 n, ne-eqb (r .code) 0 n) refl;
+        here = refl;
+        spots = λ z. absurd (n (clean (r .code) c z .0));
+        slim = slimmer (r .seek && eqb (r .left) 0);
+        within = λ z. absurd (n (clean (r .code) c z .0));
+      };
+    }
+
+    judged : (t : Bool) → eqb (r .code) 0 ≡ t → Going o all i s f (us ++ u ∷ []) g
+    judged true t = go us u x (λ h k. subst⁻¹ (λ g. Reading o all i s f (u ∷ h) (r .at + w) (λ vs. us ++ (u ∷ vs)) g) (d ∙ ap (λ b. onward w b v c q r) (sym (e h)))
+        (step v k (kept h (m h) refl (e h) (y (eqb-true (r .code) 0 t) h))))
+    judged false t = subst⁻¹ (λ g. Going o all i s f (us ++ u ∷ []) g) d (after (eqb-false (r .code) 0 t))
+
+-- ---- stretches are joined
+
+regroup : {o : Out (List ℕ)} {all : Fmt} {i : ℕ} {s : List ℕ} {f : Fmt} {r : Walk} (us vs ws : List ℕ) → Going o all i s f ((us ++ vs) ++ ws) r → Going o all i s f (us ++ (vs ++ ws)) r
+regroup {o} {all} {i} {s} {f} {r} us vs ws x = subst (λ l. Going o all i s f l r) (append-assoc us vs ws) x
+
+pub stay : {s : List ℕ} {g : Fmt → Fmt} {r : Walk} → Along s g g r [] r
+stay {s} {g} {r} = record { on = λ {o} {all} {i} {f} {us} x. subst (λ l. Going o all i s (g f) l r) (sym (append-nil us)) x }
+
+module _ {s : List ℕ} {g g′ : Fmt → Fmt} {r : Walk} {vs : List ℕ} {r′ : Walk} where
+  pub then : {g″ : Fmt → Fmt} {ws : List ℕ} {r″ : Walk} → Along s g g′ r vs r′ → Along s g′ g″ r′ ws r″ → Along s g g″ r (vs ++ ws) r″
+  then {ws = ws} a c = record { on = λ {o} {all} {i} {f} {us} x. regroup us vs ws (c .on (a .on x)) }
+
+  pub under : (k : Fmt → Fmt) → Along s g g′ r vs r′ → Along s (λ f. g (k f)) (λ f. g′ (k f)) r vs r′
+  under k a = record { on = λ x. a .on x }
+
+  pub dropped : (g″ : Fmt → Fmt) (ws : List ℕ) → (r′ .code ≡ 0 → ⊥) → Along s g g′ r vs r′ → Along s g g″ r ws r′
+  dropped g″ ws n a = record { on = λ {o} {all} {i} {f} {us} x. go-refused (g″ f) (us ++ ws) n (a .on x) }
