@@ -95,7 +95,7 @@ same-values (a ∷ b ∷ c ∷ d ∷ e ∷ f ∷ g ∷ i ∷ j ∷ k ∷ l ∷ [
     let north = spell-int (2 ^ 24) d (lit≤ tt) refl (h .2 .2 .2 .0) in
     λ x. sym code x ∷ b ∷ east x ∷ north x ∷ e ∷ f ∷ g ∷ i ∷ j ∷ k ∷ sym fill x ∷ []
 
-values-again : (s vs : List ℕ) → writeMessage reports vs ≡ accepted s → valuesOf (reportOf vs) ≡ vs
+pub values-again : (s vs : List ℕ) → writeMessage reports vs ≡ accepted s → valuesOf (reportOf vs) ≡ vs
 unfolding reports
 values-again s vs m = same-values vs (held report [] 0 vs _ (made reports s vs m .wrote))
 

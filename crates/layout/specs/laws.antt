@@ -11,6 +11,7 @@ pub mod Along
 pub mod Judging
 pub mod Putting
 pub mod Flat
+pub mod Spots
 pub mod Held
 pub mod First
 pub mod Sealing

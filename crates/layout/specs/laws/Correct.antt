@@ -18,7 +18,7 @@ later-inv u none e = let z : _≡_ {A = ℕ} 0 1 = cc in absurd (omega arith)
 later-inv u (found q w) e = (q, cc, cc)
 
 -- nothing is found where there is nothing
-none-clash : {X : Type 0} {p w : ℕ} → none ≡ found p w → X
+pub none-clash : {X : Type 0} {p w : ℕ} → none ≡ found p w → X
 none-clash e = let z : _≡_ {A = ℕ} 0 1 = cc in absurd (omega arith)
 
 may : (t : Bool) (x : ℕ) {p w : ℕ} → where? t x ≡ found p w → found 0 x ≡ found p w
