@@ -1,6 +1,6 @@
 -- No call answers 0 but to say that all is well. The number 0, which writing answers to too few or too many values or to a wrong byte count, is met by no values that come from a record. Assumes nothing.
 use mathlib.Core.Path.{_≡_, refl, sym, ap, _∙_}
-use mathlib.Core.Bool.{Bool, true, false, cond}
+use mathlib.Core.Bool.{Bool, true, false, cond, _&&_}
 use mathlib.Core.List.{List, [], _∷_, _++_}
 use Prim.Native.Nat.{ℕ, zero, suc, _+_, _-_, _/_, _^_}
 use native.Mathlib.Omega.{arith}
@@ -11,7 +11,7 @@ use Rattle.bits.specs.Bits.{valueOf, digits, bitsOf, bytesOf, putAt}
 use Rattle.bits.specs.Xor.{xorOf}
 use Rattle.layout.specs.Fmt.{Out, accepted, refused, Fault, good, bad, Judge, Fmt, end, field, choice, bytes, orBad, pad, check, also, after, readField, read, writeField, sized, write, Spot, none, found, spot, unless10}
 use Rattle.layout.specs.Message.{Layout, Sound, fault, between, body, sealed, sealFault, closed, readMessage, writeMessage, correctMessage}
-use Rattle.layout.specs.Words.{Test, Part, part, orElse, unless, walk, only}
+use Rattle.layout.specs.Words.{Test, Part, part, orElse, unless, orZero, walk, only}
 use Rattle.layout.specs.laws.Round.{lay, sized-at, write-lay}
 use Rattle.layout.specs.laws.Whole.{correct-narrow, correct-wide}
 
@@ -54,6 +54,14 @@ walk-numbered (part w c t ∷ ps) k z h b i e =
 
 pub only-numbered : (w c : ℕ) (t : Test) → Numbered (only w (suc c) t)
 only-numbered w c t = walk-numbered (part w (suc c) t ∷ []) 0 ((λ z. omega arith), tt)
+
+pub zero-numbered : (w : ℕ) (j : Judge) → Numbered j → Numbered (orZero w j)
+unfolding orZero
+zero-numbered w j n h b i e = go (eqb (length b) w && eqb (valueOf b) 0) refl
+  where
+    go : (x : Bool) → (eqb (length b) w && eqb (valueOf b) 0) ≡ x → ⊥
+    go true ex = let y : orZero w j h b ≡ good = rw ex refl in let z : _≡_ {A = ℕ} 0 1 = cc in omega arith
+    go false ex = let y : orZero w j h b ≡ j h b = rw ex refl in n h b i (sym y ∙ e)
 
 no-zero-field : (w : ℕ) (j : Judge) (h : List ℕ) (at v : ℕ) (o : Out (List Bool)) (p : ℕ) → Numbered j → (o ≡ refused 0 p → ⊥) → writeField w j h at v o ≡ refused 0 p → ⊥
 unfolding writeField

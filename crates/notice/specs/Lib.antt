@@ -1,0 +1,3 @@
+pub mod Notice
+mod Examples
+pub mod laws
