@@ -2,5 +2,6 @@
 pub mod Digits
 pub mod Bytes
 pub mod Fields
+pub mod Runs
 pub mod Xor
 pub mod Answers

@@ -1,4 +1,4 @@
--- What the answers of `holds`, `get` and `put` say, for callers. Assumes nothing.
+-- What the answers say, for callers: each test as an inequality, both ways. Assumes nothing.
 use mathlib.Core.Bool.{Bool, true, false, cond, _&&_, false≢true}
 use mathlib.Core.List.{List}
 use mathlib.Core.Path.{_≡_, refl, _∙_}
@@ -7,7 +7,7 @@ use borrow.Author.Tests.{leb-true, le-leb, ltb-true, lt-ltb}
 use lib.Dec.{leb, ltb}
 use lib.ListN.{length}
 use Rattle.bits.specs.Bits.{fieldAt, putAt}
-use Rattle.bits.specs.Answers.{within, got, puttable}
+use Rattle.bits.specs.Answers.{within, got, puttable, spanned, gettable}
 
 both : (a b : Bool) → (a && b) ≡ true → (a ≡ true) × (b ≡ true)
 both true b h = (refl, h)
@@ -41,3 +41,12 @@ module _ (s : List ℕ) (at w : ℕ) where
   put-done v r t p h f l =
       let yes : r ≡ true = p .0 ∙ puttable-fits v h f l in
       (yes, p .1 ∙ rw yes)
+
+module _ (s : List ℕ) (at n : ℕ) (out : List ℕ) where
+  pub gettable-fits : at + n * 8 ≤ length s * 8 → n ≤ length out → gettable s at n out ≡ true
+  gettable-fits h f = rw (le-leb (at + n * 8) (length s * 8) h, le-leb n (length out) f)
+
+  pub gettable-true : gettable s at n out ≡ true → (at + n * 8 ≤ length s * 8) × (n ≤ length out)
+  gettable-true h =
+      let p = both (spanned (length s) at n) (leb n (length out)) h in
+      (leb-true (at + n * 8) (length s * 8) (p .0), leb-true n (length out) (p .1))

@@ -2,10 +2,11 @@
 use mathlib.Core.Bool.{Bool}
 use mathlib.Core.List.{List, [], _∷_, _++_, append-assoc}
 use mathlib.Core.Path.{_≡_, refl, sym, ap, _∙_}
-use Prim.Native.Nat.{ℕ, zero, suc, _+_, _*_, _-_}
+use Prim.Native.Nat.{ℕ, zero, suc, _+_, _*_, _-_, _≤_}
+use native.Mathlib.Nat.{zero-add, suc-add}
 use native.Mathlib.Omega.{arith}
-use lib.ListN.{length, take, drop, length-append, length-drop, take-append-drop}
-use lib.Seq.{take-at, drop-at, length-take-le, getD-drop}
+use lib.ListN.{length, take, drop, length-append, length-drop}
+use lib.Seq.{take-at, drop-at, take-all, take-add, drop-drop, length-take-le, getD-drop}
 use Rattle.bits.specs.Bits.{Bytes, digits, bitsOf, bytesOf}
 use Rattle.bits.specs.laws.Digits.{bits-nil, bytes-zero, bits-cons, bytes-suc, length-digits, value-take-lt, value-digits, digits-value}
 
@@ -30,17 +31,35 @@ bytes-below zero l i = omega arith
 bytes-below (suc n) l zero = value-take-lt 8 l
 bytes-below (suc n) l (suc i) = bytes-below n (drop 8 l) i
 
+-- what is packed has the bits that it was packed from
+pub bits-pack : (n : ℕ) (l : List Bool) → n * 8 ≤ length l → bitsOf (bytesOf n l) ≡ take (n * 8) l
+bits-pack zero l h = rw (bytes-zero, bits-nil)
+bits-pack (suc n) l h =
+    let e : suc n * 8 ≡ 8 + n * 8 = omega arith in
+    rw (e, bytes-suc, bits-cons, digits-value 8 (take 8 l) (length-take-le 8 l (omega arith)), bits-pack n (drop 8 l) (simp length-drop (omega arith)))
+    (sym (take-add 8 (n * 8) l))
+
 pub bits-bytes : (n : ℕ) (l : List Bool) → length l ≡ n * 8 → bitsOf (bytesOf n l) ≡ l
-bits-bytes zero [] h = rw (bytes-zero, bits-nil)
-bits-bytes zero (b ∷ l) h = absurd (omega arith)
-bits-bytes (suc n) l h =
-    rw (bytes-suc, bits-cons, digits-value 8 (take 8 l) (length-take-le 8 l (omega arith)), bits-bytes n (drop 8 l) (simp length-drop (omega arith)))
-    (take-append-drop 8 l)
+bits-bytes n l h = bits-pack n l (omega arith) ∙ take-all (n * 8) l (omega arith)
+
+-- the bytes of one part, then those of the next
+pub bytes-add : (n m : ℕ) (l : List Bool) → bytesOf (n + m) l ≡ bytesOf n l ++ bytesOf m (drop (n * 8) l)
+bytes-add zero m l = rw (zero-add m, bytes-zero)
+bytes-add (suc n) m l =
+    let e : suc n * 8 ≡ 8 + n * 8 = omega arith in
+    rw (e, suc-add n m, bytes-suc, bytes-suc, bytes-add n m (drop 8 l), drop-drop (n * 8) 8 l)
 
 pub bytes-bits : (s : List ℕ) → Bytes s → bytesOf (length s) (bitsOf s) ≡ s
 bytes-bits [] h = bytes-zero (bitsOf [])
 bytes-bits (b ∷ s) h =
     rw (bits-cons, bytes-suc, take-at (digits 8 b) (bitsOf s) 8 (length-digits 8 b), drop-at (digits 8 b) (bitsOf s) 8 (length-digits 8 b), value-digits 8 (h 0), bytes-bits s (λ i. h (suc i)))
+
+-- the first n bytes of their bits
+pub bytes-front : (n : ℕ) (s : List ℕ) → Bytes s → n ≤ length s → bytesOf n (bitsOf s) ≡ take n s
+bytes-front n s h fits =
+    let e : n + (length s - n) ≡ length s = omega arith in
+    sym (take-at (bytesOf n (bitsOf s)) (bytesOf (length s - n) (drop (n * 8) (bitsOf s))) n (length-bytes n (bitsOf s)))
+    ∙ ap (take n) (sym (bytes-add n (length s - n) (bitsOf s)) ∙ rw e (bytes-bits s h))
 
 pub bytes-append : (s t : List ℕ) → Bytes s → Bytes t → Bytes (s ++ t)
 bytes-append [] t hs ht i = ht i

@@ -117,6 +117,13 @@ pub field-append : (s t : List ℕ) (at w : ℕ) → at + w ≤ length s * 8 →
 unfolding fieldAt
 field-append s t at w fits = ap valueOf (rw (bits-append s t) (part-first (bitsOf s) (bitsOf t) at w (omega (arith, length-bits s))))
 
+pub bits-take : (n : ℕ) (s : List ℕ) → n ≤ length s → bitsOf (take n s) ≡ take (n * 8) (bitsOf s)
+bits-take n s h =
+    sym
+    (ap (λ (l : List ℕ). take (n * 8) (bitsOf l)) (sym (take-append-drop n s))
+    ∙ rw (bits-append (take n s) (drop n s))
+    (take-at (bitsOf (take n s)) (bitsOf (drop n s)) (n * 8) (length-bits (take n s) ∙ rw (length-take-le n s h))))
+
 pub bits-drop : (n : ℕ) (s : List ℕ) → n ≤ length s → bitsOf (drop n s) ≡ drop (n * 8) (bitsOf s)
 bits-drop n s h =
     sym
