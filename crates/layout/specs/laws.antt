@@ -6,8 +6,10 @@ pub mod Zero
 pub mod Step
 pub mod Reading
 pub mod Group
+pub mod Extent
 pub mod Judging
 pub mod Putting
+pub mod Making
 pub mod Flat
 pub mod Held
 pub mod First
