@@ -8,7 +8,9 @@ pub mod Reading
 pub mod Group
 pub mod Extent
 pub mod Judging
+pub mod Pieces
 pub mod Putting
+pub mod Loops
 pub mod Making
 pub mod Flat
 pub mod Held
