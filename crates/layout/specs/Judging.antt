@@ -1,8 +1,12 @@
 -- What each step of judging a record answers, from its values. Assumes nothing.
-use Prim.Native.Nat.{ℕ}
-use mathlib.Core.Bool.{true, cond, _&&_, _||_}
+use Prim.Native.Nat.{ℕ, _+_, _-_, _/_, _%_, _^_}
+use mathlib.Core.Path.{_≡_}
+use mathlib.Core.Bool.{Bool, true, cond, _&&_, _||_}
+use mathlib.Core.List.{List}
 use lib.Dec.{leb, ltb, eqb}
+use Rattle.layout.specs.Message.{Layout, between, codeOf, leaves, into, writeMessage}
 use Rattle.layout.specs.Walk.{onward}
+use Rattle.layout.specs.declared.judging.Pieces.{Pieces}
 use Rattle.layout.specs.declared.walk.Walk.{Walk}
 
 -- a record's value
@@ -11,3 +15,41 @@ valued w v lo hi r = onward w true v (cond (leb lo v && leb v hi) 0 4) 0 r
 
 abbrev pub signedlyValued : ℕ → ℕ → ℕ → ℕ → ℕ → ℕ → Walk → Walk
 signedlyValued w v full top bottom none r = onward w true v (cond (ltb v full) (cond (leb v top || leb bottom v || eqb v none) 0 4) 4) 0 r
+
+-- ---- a number made of parts
+
+-- v, of w bits: too wide (4), or no part is judged yet
+abbrev pub unpieced : ℕ → ℕ → Pieces
+unpieced w v = record { v = v; width = w; left = w; code = cond (ltb v (2 ^ w)) 0 4; into = 0 }
+
+-- past the next part, of w bits: from lo to hi
+unfoldable pub pieced : ℕ → ℕ → ℕ → Pieces → Pieces
+pieced w lo hi g = let u = g .v / 2 ^ (g .left - w) % 2 ^ w in record {
+  v = g .v;
+  width = g .width;
+  left = g .left - w;
+  code = cond (eqb (g .code) 0) (cond (leb lo u && leb u hi) 0 4) (g .code);
+  into = cond (eqb (g .code) 0) (g .width - g .left) (g .into);
+}
+
+-- 0 is good too
+abbrev pub unlessZero : Pieces → Pieces
+unlessZero g = record { v = g .v; width = g .width; left = g .left; code = cond (eqb (g .v) 0) 0 (g .code); into = g .into }
+
+-- ---- the message that the values make
+
+-- how many bytes hold the bits up to `at`
+abbrev pub bytesTo : ℕ → ℕ
+bytesTo at = at / 8 + (at % 8 + 7) / 8
+
+-- and the seal
+abbrev pub made : Bool → ℕ → ℕ
+made seal at = cond seal (bytesTo at + 1) (bytesTo at)
+
+-- after the walk r: its refusal, the size made (1), room (6)
+abbrev pub closing : Bool → ℕ → ℕ → ℕ → Walk → ℕ
+closing seal least most room r = let n = made seal (r .at) in cond (eqb (r .code) 0) (cond (between least most n) (cond (leb n room) 0 6) 1) (r .code)
+
+-- what a call answers, and the bytes t that it leaves of s, when it writes the values vs
+abbrev pub Writes : Layout → List ℕ → ℕ → List ℕ → List ℕ → Type 0
+Writes l s code t vs = (code ≡ codeOf (into s (writeMessage l vs))) × (t ≡ leaves (into s (writeMessage l vs)) s)

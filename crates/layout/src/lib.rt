@@ -1,6 +1,7 @@
 // Layouts: reading, judging and correcting a message's fields. Nothing here is asked of a caller.
 pub mod correcting;
 pub mod judging;
+pub mod putting;
 pub mod reading;
 pub mod sealing;
 pub mod sign;

@@ -1,59 +1,30 @@
--- A flat layout has the same bits in every message: what writing one answers, and leaves in a lent buffer. Assumes nothing.
-use mathlib.Core.Path.{_≡_, refl, sym, ap, _∙_}
-use mathlib.Core.Bool.{Bool, true, false, false≢true}
-use mathlib.Core.List.{List, [], _∷_, _++_}
-use Prim.Native.Nat.{ℕ, _+_, _-_, _*_, _/_, _≤_, _<_}
+-- Writing a message of a flat layout, with no kind and no seal: the size that it makes is known. Assumes nothing.
+use mathlib.Core.Path.{_≡_, refl, _∙_, subst⁻¹}
+use mathlib.Core.Bool.{Bool, true, false, cond}
+use mathlib.Core.List.{List, []}
+use Prim.Native.Nat.{ℕ, _*_, _≤_, _<_}
 use native.Mathlib.Omega.{arith}
-use lib.ListN.{length, drop, length-append}
-use borrow.Author.Tests.{le-leb, lt-leb}
-use Rattle.bits.specs.Bits.{digits, bytesOf}
-use Rattle.bits.specs.laws.Bytes.{length-bytes}
-use Rattle.bits.specs.laws.Digits.{length-digits}
-use Rattle.layout.specs.Fmt.{accepted, refused, Fmt, end, field, choice, bytes, after, write, pad}
-use Rattle.layout.specs.Message.{Layout, size, into, writeMessage}
-use Rattle.layout.specs.Words.{code}
-use Rattle.layout.specs.laws.Round.{clash, accepted-inj, written}
-use Rattle.layout.specs.laws.Step.{stuck, clear}
+use lib.ListN.{length}
+use borrow.Author.Tests.{eq-eqb, ne-eqb, le-leb, lt-leb}
+use Rattle.layout.specs.Fmt.{accepted, Fmt, check, write}
+use Rattle.layout.specs.Judging.{bytesTo, Writes}
+use Rattle.layout.specs.Message.{Layout, fault, between, size}
+use Rattle.layout.specs.laws.Extent.{extent, extent-laid, flat, flat-extent}
 use Rattle.layout.specs.laws.Judging.{Judged}
+use Rattle.layout.specs.laws.Making.{write-refused, write-bare}
 use Rattle.layout.specs.laws.Putting.{Puts}
+use Rattle.layout.specs.laws.Step.{clear}
 use Rattle.layout.specs.declared.walk.Walk.{Walk}
 
--- A flat layout has the same bits in every message.
-abbrev pub flat : Fmt → Bool
-flat end = true
-flat (field w j m f) = flat f
-flat (choice w j f) = false
-flat (bytes f) = false
-
+-- the bits of a flat layout
 unfoldable pub span : Fmt → ℕ → ℕ
-span end at = pad at
-span (field w j m f) at = w + span f (at + w)
-span (choice w j f) at = 0
-span (bytes f) at = 0
+span f at = extent f at []
 
 pub span-laid : (f : Fmt) (h : List ℕ) (at : ℕ) (vs : List ℕ) (b : List Bool) → flat f ≡ true → write f h at vs ≡ accepted b → length b ≡ span f at
-unfolding write span
-span-laid end h at [] b z e = ap length (sym (accepted-inj e)) ∙ length-digits (pad at) 0
-span-laid end h at (v ∷ vs) b z e = clash e
-span-laid (field w j m f) h at [] b z e = clash e
-span-laid (field w j m f) h at (v ∷ vs) b z e =
-    let y = written w j h at v _ b e in
-    ap length (sym (y .whole)) ∙ length-append (digits w v) (y .rest) ∙ omega (arith, length-digits w v, span-laid f (v ∷ h) (at + w) vs (y .rest) z (y .after))
-span-laid (choice w j f) h at vs b z e = absurd (false≢true z)
-span-laid (bytes f) h at vs b z e = absurd (false≢true z)
+unfolding span
+span-laid f h at vs b z e = extent-laid f h at vs b e ∙ flat-extent f at vs [] z
 
--- ---- whole messages
-
-module _ (l : Layout) (vs : List ℕ) (plain : l .seal ≡ false) (kind : l .kind vs ≡ 0) where
-  pub write-refused : (c p : ℕ) → write (l .fmt) [] 0 vs ≡ refused c p → writeMessage l vs ≡ refused c p
-  unfolding writeMessage
-  write-refused c p e = rw (kind, e) refl
-
-  pub write-made : (b : List Bool) → write (l .fmt) [] 0 vs ≡ accepted b → size l (length b / 8) ≡ 0 → writeMessage l vs ≡ accepted (bytesOf (length b / 8) b)
-  unfolding writeMessage
-  write-made b e n = rw (kind, e, plain, length-bytes (length b / 8) b, n) refl
-
--- A flat layout of n bytes, with no kind to test and no seal: what the code answers, and leaves in the lent buffer s.
+-- A flat layout of n bytes, with no kind to test and no seal.
 pub record Plain (l : Layout) (n : ℕ) : Type 0 where
   pub bare : l .seal ≡ false
   pub kindless : (vs : List ℕ) → l .kind vs ≡ 0
@@ -62,26 +33,24 @@ pub record Plain (l : Layout) (n : ℕ) : Type 0 where
   pub sized : size l n ≡ 0
 
 module _ (l : Layout) {n : ℕ} (x : Plain l n) (s vs : List ℕ) {w : Walk} (j : Judged (write (l .fmt) [] 0 vs) w) where
-  pub write-fails : (w .code ≡ 0 → ⊥) → into s (writeMessage l vs) ≡ refused (w .code) (w .place)
-  write-fails h = ap (into s) (write-refused l vs (x .bare) (x .kindless vs) (w .code) (w .place) (j .so ∙ stuck w (accepted (j .laid)) h))
+  whole : Judged (check (fault (l .kind vs)) 0 (write (l .fmt) [] 0 vs)) w
+  whole = subst⁻¹ (λ c. Judged (check (fault c) 0 (write (l .fmt) [] 0 vs)) w) (x .kindless vs) j
+
+  pub write-fails : (w .code ≡ 0 → ⊥) → Writes l s (w .code) s vs
+  write-fails h = write-refused l vs s whole (rw (ne-eqb (w .code) 0 h) refl) h
 
   module _ (h : w .code ≡ 0) where
-    laid-so : write (l .fmt) [] 0 vs ≡ accepted (j .laid)
-    laid-so = j .so ∙ clear w (accepted (j .laid)) h
+    bytes-made : bytesTo (w .at) ≡ n
+    bytes-made =
+        let e = span-laid (l .fmt) [] 0 vs (j .laid) (x .even) (j .so ∙ clear w (accepted (j .laid)) h) ∙ x .spans in
+        omega (arith, e, j .long h)
 
-    laid-long : length (j .laid) ≡ n * 8
-    laid-long = span-laid (l .fmt) [] 0 vs (j .laid) (x .even) laid-so ∙ x .spans
+    passes : (b : Bool) (c : ℕ) → _≡_ {A = ℕ} (cond b 0 1) 0 → c ≡ cond b c 1
+    passes true c e = refl
+    passes false c e = absurd (omega (arith, e))
 
-    eighth : length (j .laid) / 8 ≡ n
-    eighth = omega (arith, laid-long)
+    pub write-cramped : length s < n → Writes l s 6 s vs
+    write-cramped c = write-refused l vs s whole (rw (eq-eqb (w .code) 0 h, x .bare, bytes-made, lt-leb n (length s) c) (passes (between (l .least) (l .most) n) 6 (x .sized))) (λ z. omega (arith, z))
 
-    made-so : writeMessage l vs ≡ accepted (bytesOf n (j .laid))
-    made-so = write-made l vs (x .bare) (x .kindless vs) (j .laid) laid-so (ap (size l) eighth ∙ x .sized) ∙ ap (λ m. accepted (bytesOf m (j .laid))) eighth
-
-    pub write-cramped : length s < n → into s (writeMessage l vs) ≡ refused 6 0
-    write-cramped c = ap (into s) made-so ∙ rw (length-bytes n (j .laid), lt-leb n (length s) c) refl
-
-    pub write-stands : n ≤ length s → (t : List ℕ) → Puts (l .fmt) vs s t → into s (writeMessage l vs) ≡ accepted t
-    write-stands c t p =
-        let e : t ≡ bytesOf n (j .laid) ++ drop n s = p (j .laid) laid-so (omega (arith, laid-long)) ∙ ap (λ m. bytesOf m (j .laid) ++ drop m s) eighth in
-        ap (into s) made-so ∙ rw (length-bytes n (j .laid), le-leb n (length s) c) (ap accepted (sym e))
+    pub write-flat : n ≤ length s → (t : List ℕ) → Puts (l .fmt) vs s t → Writes l s 0 t vs
+    write-flat c t p = write-bare l vs s whole (x .bare) (rw (eq-eqb (w .code) 0 h, x .bare, bytes-made, le-leb n (length s) c) (passes (between (l .least) (l .most) n) 0 (x .sized))) refl p

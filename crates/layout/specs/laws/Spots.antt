@@ -9,7 +9,7 @@ use borrow.Author.Tests.{eq-eqb, ne-eqb}
 use lib.Dec.{eqb}
 use lib.ListN.{length, getD, set}
 use Rattle.layout.specs.Fmt.{Fmt, end, field, choice, bytes, Spot, none, found, later, where?, spot}
-use Rattle.layout.specs.laws.Flat.{flat}
+use Rattle.layout.specs.laws.Extent.{flat}
 
 -- the fields from bit `at` on: where each that may be corrected stands
 unfoldable pub spotsFrom : Fmt → ℕ → List Spot

@@ -1,8 +1,6 @@
-use mathlib.Core.Path.{_≡_, subst}
-use mathlib.Core.List.{List}
-use Prim.Native.Nat.{ℕ}
-use Rattle.layout.specs.Message.{codeOf, leaves, into, refuses, accepts, writeMessage}
-use Rattle.layout.specs.laws.Flat.{write-fails, write-cramped, write-stands}
+use mathlib.Core.Path.{subst}
+use Rattle.layout.specs.Judging.{Writes}
+use Rattle.layout.specs.laws.Flat.{write-fails, write-cramped, write-flat}
 use Rattle.distress.specs.Report.{reports, plain}
 use borrow.Author.Needs.{needs}
 use Rattle.distress.proofs.report.write.Statement.{statement}
@@ -14,17 +12,13 @@ spelled-requires c κs = search needs
 judged-requires : tie.Need-judged-requires
 judged-requires c κs = search needs
 
--- what the call answers and leaves, by the values that it is given
-abbrev Answers : List ℕ → ℕ → List ℕ → List ℕ → Type 0
-Answers s code t vs = (code ≡ codeOf (into s (writeMessage reports vs))) × (t ≡ leaves (into s (writeMessage reports vs)) s)
-
 returns : tie.Need-returns
 unfolding reports
 returns c =
     let w = c .before in
     let v = w .before in
     let s = v .before .before .args .buf .now in
-    subst (Answers s _ s) (v .spelled .ensures) (refuses (write-fails reports plain s _ (w .judged .ensures) (c .if1 .taken)))
+    subst (Writes reports s _ s) (v .spelled .ensures) (write-fails reports plain s _ (w .judged .ensures) (c .if1 .taken))
 
 returns-2 : tie.Need-returns-2
 unfolding reports
@@ -32,7 +26,7 @@ returns-2 c =
     let w = c .before .before in
     let v = w .before in
     let s = v .before .before .args .buf .now in
-    subst (Answers s _ s) (v .spelled .ensures) (refuses (write-cramped reports plain s _ (w .judged .ensures) (c .before .if1 .left) (c .if2 .taken)))
+    subst (Writes reports s _ s) (v .spelled .ensures) (write-cramped reports plain s _ (w .judged .ensures) (c .before .if1 .left) (c .if2 .taken))
 
 put-requires : tie.Need-put-requires
 put-requires c κs = search needs
@@ -47,8 +41,8 @@ returns-3 c =
     let w = p .before .before .before .before in
     let v = w .before in
     let s = v .before .before .args .buf .now in
-    subst (Answers s _ _) (v .spelled .ensures)
-    (accepts s (write-stands reports plain s _ (w .judged .ensures) (p .before .before .before .if1 .left) (p .before .before .if2 .left) (p .put .last .0) (p .put .ensures)))
+    subst (Writes reports s _ _) (v .spelled .ensures)
+    (write-flat reports plain s _ (w .judged .ensures) (p .before .before .before .if1 .left) (p .before .before .if2 .left) (p .put .last .0) (p .put .ensures))
 
 pub write-spec : {M : Type 1} → statement M
 write-spec =
