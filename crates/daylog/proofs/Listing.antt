@@ -1,0 +1,118 @@
+-- Listing a window record by record: what is left to list, listed from where the loop stands, gives the whole. Assumes nothing.
+use mathlib.Core.Path.{_≡_, refl, sym, ap, _∙_}
+use mathlib.Core.List.{List, [], _∷_, _++_}
+use Prim.Native.Nat.{ℕ, _+_, _-_, _≤_, _<_}
+use native.Mathlib.Omega.{arith}
+use lib.ListN.{length, take, drop, length-append, length-drop}
+use lib.Seq.{sets, drop-drop, length-sets, take-all}
+use borrow.Author.Tests.{le-leb, lt-leb}
+use Rattle.daylog.specs.Log.{Entry, front, records, sizeOf, after, after-all, entryLine, lines}
+use Rattle.daylog.specs.Promises.{Stores, listed, chosen, Lists}
+use Rattle.daylog.specs.laws.Text.{sets-append}
+use Rattle.daylog.specs.laws.Records.{front-size, records-open}
+use Rattle.daylog.specs.laws.Windows.{entryAt, records-next, body-size}
+use Rattle.daylog.specs.declared.Next.{Next}
+use Rattle.daylog.specs.declared.Next.the-variants.{Record, Bad, Short}
+use Rattle.daylog.proofs.Made.{stored}
+
+-- the records that are left to list
+abbrev pub ahead : List ℕ → List ℕ → ℕ → ℕ → ℕ → List Entry
+ahead s out used made n = listed (length out - made) n (records (drop used s))
+
+-- the loop over the window s and the buffer o, from number m, stands at these
+pub record Left (s : List ℕ) (m : ℕ) (o out : List ℕ) (used made n : ℕ) : Type 0 where
+  pub within : used ≤ length s
+  pub room : made ≤ length out
+  pub kept : length out ≡ length o
+  pub size : used + sizeOf (ahead s out used made n) ≡ sizeOf (chosen s m o)
+  pub number : after-all n (ahead s out used made n) ≡ after-all m (chosen s m o)
+  pub count : made + length (lines n (ahead s out used made n)) ≡ length (lines m (chosen s m o))
+  pub text : sets out made (lines n (ahead s out used made n)) ≡ sets o 0 (lines m (chosen s m o))
+
+-- no room for another line, or no further record
+pub full : (room n : ℕ) (es : List Entry) → room < 55 → listed room n es ≡ []
+unfolding listed
+full room n [] h = refl
+full room n (e ∷ es) h = rw (lt-leb 55 room h)
+
+pub dry : (room n : ℕ) (s : List ℕ) (r : Next) → r ≡ front s → ((k i : ℕ) → r ≡ Record k i → ⊥) → listed room n (records s) ≡ []
+unfolding listed
+dry room n s (Record k i) e h = absurd (h k i refl)
+dry room n s Bad e h = rw (records-open s, sym e)
+dry room n s Short e h = rw (records-open s, sym e)
+
+-- the part of the window from `used` on
+pub rest-of : (s : List ℕ) (used : ℕ) → take (length s - used) (drop used s) ≡ drop used s
+rest-of s used = take-all (length s - used) (drop used s) (simp length-drop (omega arith))
+
+-- what the code's look at that part says of it
+pub seen : (s : List ℕ) (used : ℕ) {r : Next} {k i : ℕ} → r ≡ front (take (length s - used) (drop used s)) → r ≡ Record k i → front (drop used s) ≡ Record k i
+seen s used e f = ap front (sym (rest-of s used)) ∙ sym e ∙ f
+
+pub fits : (s : List ℕ) (used : ℕ) {r : Next} {k i : ℕ} → r ≡ front (take (length s - used) (drop used s)) → r ≡ Record k i
+    → (4 + i ≤ length s - used) × (4 + i ≤ 256)
+fits s used {k = k} {i = i} e f = rw (length-drop used s) at (front-size (drop used s) k i (seen s used e f))
+
+pub body-of : (s : List ℕ) (used i : ℕ) → take (4 + i - 4) (drop 4 (take (length s - used) (drop used s))) ≡ take i (drop 4 (drop used s))
+body-of s used i = let z : 4 + i - 4 ≡ i = omega arith in rw (rest-of s used, z)
+
+pub start : (s : List ℕ) (m : ℕ) (o : List ℕ) → Left s m o o 0 0 m
+start s m o =
+    let z : length o - 0 ≡ length o = omega arith in
+    record {
+      within = omega arith;
+      room = omega arith;
+      kept = refl;
+      size = rw z (omega arith);
+      number = rw z;
+      count = rw z (omega arith);
+      text = rw z;
+    }
+
+module _ {s : List ℕ} {m : ℕ} {o out : List ℕ} {used made n : ℕ} (x : Left s m o out used made n) where
+  -- the next record comes first
+  split : (k i : ℕ) {made′ : ℕ} {out′ : List ℕ} → front (drop used s) ≡ Record k i → 55 ≤ length out - made
+      → Stores out made (entryLine n (entryAt (drop used s) k i)) made′ out′
+      → ahead s out used made n ≡ entryAt (drop used s) k i ∷ ahead s out′ (used + (4 + i)) made′ (after n)
+  unfolding listed
+  split k i {made′} {out′} e h st =
+      let b = entryAt (drop used s) k i in
+      let kept : length out′ ≡ length out = ap length (st .leaves) ∙ length-sets out made (entryLine n b) in
+      let z : length out - made - length (entryLine n b) ≡ length out′ - made′ = omega (arith, st .ends) in
+      rw (records-next (drop used s) k i e, le-leb 55 (length out - made) h, z, drop-drop (4 + i) used s)
+
+  -- a record is listed
+  pub turn : (k i : ℕ) {made′ : ℕ} {out′ : List ℕ} → front (drop used s) ≡ Record k i → 55 ≤ length out - made → made′ ≤ length out
+      → Stores out made (entryLine n (entryAt (drop used s) k i)) made′ out′ → Left s m o out′ (used + (4 + i)) made′ (after n)
+  unfolding sizeOf after-all lines
+  turn k i {made′} {out′} e h l st =
+      let b = entryAt (drop used s) k i in
+      let c = split k i e h st in
+      let rest = ahead s out′ (used + (4 + i)) made′ (after n) in
+      let kept : length out′ ≡ length out = ap length (st .leaves) ∙ length-sets out made (entryLine n b) in
+      let size : sizeOf (ahead s out used made n) ≡ 4 + i + sizeOf rest = ap sizeOf c ∙ rw (body-size (drop used s) k i e) in
+      let lined : lines n (ahead s out used made n) ≡ entryLine n b ++ lines (after n) rest = ap (lines n) c in
+      let count : length (lines n (ahead s out used made n)) ≡ length (entryLine n b) + length (lines (after n) rest) = ap length lined ∙ length-append (entryLine n b) (lines (after n) rest) in
+      let glued : (l : List ℕ) → sets out′ made′ l ≡ sets out made (entryLine n b ++ l) = λ l. rw (st .leaves, st .ends) (sym (sets-append out made (entryLine n b) l)) in
+      let inside : 4 + i ≤ length s - used = rw (length-drop used s) at (front-size (drop used s) k i e .0) in
+      record {
+        within = omega (arith, x .within);
+        room = omega arith;
+        kept = kept ∙ x .kept;
+        size = omega (arith, x .size);
+        number = sym (ap (after-all n) c) ∙ x .number;
+        count = omega (arith, x .count, st .ends);
+        text = glued (lines (after n) rest) ∙ ap (sets out made) (sym lined) ∙ x .text;
+      }
+
+  -- nothing more is listed
+  pub stop : ahead s out used made n ≡ [] → Lists s m o (record { used = used; made = made; number = n }) out
+  unfolding sizeOf after-all lines
+  stop e =
+      let size : used + 0 ≡ sizeOf (chosen s m o) = rw e at (x .size) in
+      let count : made + 0 ≡ length (lines m (chosen s m o)) = rw e at (x .count) in
+      record {
+        used = omega arith;
+        number = rw e at (x .number);
+        text = stored (omega (arith, x .room, x .kept)) (record { ends = omega arith; leaves = rw e at (x .text) });
+      }

@@ -1,0 +1,52 @@
+-- `ending` stores the broken record's line where bytes are left and there is room.
+use mathlib.Core.Path.{_≡_, refl}
+use Prim.Native.Nat.{ℕ, zero, suc}
+use native.Mathlib.Omega.{arith}
+use lib.Dec.{lit<, lit≤}
+use lib.ListN.{length}
+use borrow.Author.Tests.{le-leb, lt-leb}
+use Rattle.daylog.specs.Text.{line, broken}
+use Rattle.daylog.specs.Log.{endingOf}
+use Rattle.daylog.specs.laws.Text.{line-few}
+use Rattle.daylog.proofs.Made.{none, stored}
+use borrow.Author.Needs.{needs}
+use Rattle.daylog.proofs.ending.Statement.{statement}
+use Rattle.daylog.proofs.ending.Tie as tie
+
+some-left : (n left : ℕ) → (left ≡ 0 → ⊥) → endingOf n left ≡ line n broken 1 left
+some-left n zero h = absurd (h refl)
+some-left n (suc left) h = refl
+
+returns : tie.Need-returns
+returns c =
+    let out = c .before .before .args .out .now in
+    rw (lt-leb 55 (length out) (c .if1 .taken)) (none out)
+
+returns-2 : tie.Need-returns-2
+returns-2 c =
+    let out = c .before .before .before .args .out .now in
+    rw (le-leb 55 (length out) (omega arith), c .if2 .taken) (none out)
+
+slice-aggregate-line : tie.Need-slice-aggregate-line
+slice-aggregate-line c = search needs
+
+line-requires : tie.Need-line-requires
+line-requires c κs =
+    let s = c .before .before .before .before .before in
+    omega (arith, line-few (s .args .number) broken 1 (s .args .left) (s .fits .number .fits) (lit≤ tt) (lit< tt) (s .fits .left .fits))
+
+same-length : tie.Need-same-length
+same-length c = search needs
+
+returns-3 : tie.Need-returns-3
+returns-3 c =
+    let p = c .before .before in
+    let s = p .before .before .before .before .before .before in
+    let out = s .args .out .now in
+    let l = line-few (s .args .number) broken 1 (s .args .left) (s .fits .number .fits) (lit≤ tt) (lit< tt) (s .fits .left .fits) in
+    rw (le-leb 55 (length out) (omega arith), some-left (s .args .number) (s .args .left) (p .before .before .before .if2 .left))
+    (stored (omega arith) (p .line .ensures))
+
+pub ending-spec : {M : Type 1} → statement M
+ending-spec =
+    tie.close (tie.spec returns returns-2 slice-aggregate-line line-requires same-length returns-3)

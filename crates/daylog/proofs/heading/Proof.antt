@@ -1,0 +1,32 @@
+-- `heading` stores one text, where there is room for a line.
+use native.Mathlib.Omega.{arith}
+use lib.ListN.{length}
+use borrow.Author.Tests.{le-leb, lt-leb}
+use Rattle.daylog.proofs.Made.{none, stored}
+use borrow.Author.Needs.{needs}
+use Rattle.daylog.proofs.heading.Statement.{statement}
+use Rattle.daylog.proofs.heading.Tie as tie
+
+returns : tie.Need-returns
+returns c =
+    let out = c .before .before .args .out .now in
+    rw (lt-leb 55 (length out) (c .if1 .taken)) (none out)
+
+slice-aggregate-text : tie.Need-slice-aggregate-text
+slice-aggregate-text c = search needs
+
+text-requires : tie.Need-text-requires
+text-requires c κs = search needs
+
+same-length : tie.Need-same-length
+same-length c = search needs
+
+returns-2 : tie.Need-returns-2
+returns-2 c =
+    let p = c .before .before in
+    let out = p .before .before .before .before .before .args .out .now in
+    rw (le-leb 55 (length out) (omega arith)) (stored (omega arith) (p .text .ensures))
+
+pub heading-spec : {M : Type 1} → statement M
+heading-spec =
+    tie.close (tie.spec returns slice-aggregate-text text-requires same-length returns-2)

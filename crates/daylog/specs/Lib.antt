@@ -1,0 +1,6 @@
+-- The day log and its listing, what the calls promise, and in `laws` what is proved of them.
+pub mod Text
+pub mod Log
+pub mod Promises
+pub mod Run
+pub mod laws
