@@ -1,18 +1,15 @@
 -- What the calls' steps say of the definitions: reading takes the accepted sentence apart, writing tests address, report and room. Assumes nothing.
 use mathlib.Core.Bool.{true, false}
 use mathlib.Core.List.{List, [], _++_, append-nil}
-use mathlib.Core.Path.{_≡_, refl, sym, ap, _∙_, subst⁻¹}
-use Prim.Native.Nat.{ℕ, _+_, _/_, _≤_, _<_}
+use mathlib.Core.Path.{_≡_, refl, sym, ap, _∙_, subst}
+use Prim.Native.Nat.{ℕ, _+_, _≤_, _<_}
 use native.Mathlib.Omega.{arith}
 use lib.ListN.{length, drop, drop-of-length-le}
 use borrow.Author.Tests.{le-leb, lt-leb}
-use Rattle.bits.specs.Bits.{Bytes, bitsOf}
-use Rattle.bits.specs.laws.Bytes.{length-bits, bytes-below}
+use Rattle.bits.specs.Bits.{Bytes}
 use Rattle.layout.specs.Fmt.{Out, accepted, refused, also}
 use Rattle.layout.specs.Message.{codeOf, leaves, into, readMessage, writeMessage, correctMessage}
 use Rattle.layout.specs.laws.First.{bytes-long}
-use Rattle.layout.specs.laws.Flat.{write-made}
-use Rattle.layout.specs.laws.Round.{accepted-inj}
 use Rattle.layout.specs.laws.Whole.{was, made, write-read-message}
 use Rattle.distress.specs.Demands.{written-read, accepted-correction}
 use Rattle.distress.specs.Promises.{Reads, Writes}
@@ -101,10 +98,7 @@ unfolding reports
 bytewise vs bs e =
     let m = made reports bs vs e in
     let n : length bs ≡ 17 = bytes-long reports plain bs vs (was reports bs vs (write-read-message reports sound bs vs e) .walked) in
-    let i = m .inside in
-    let k : length (bitsOf i) / 8 ≡ 17 = omega (arith, length-bits i, ap length (m .closes)) in
-    let w = write-made reports vs refl refl (bitsOf i) (m .wrote) (rw k refl) in
-    record { long = n; fine = subst⁻¹ Bytes (accepted-inj (sym e ∙ w)) (bytes-below (length (bitsOf i) / 8) (bitsOf i)) }
+    record { long = n; fine = subst Bytes (m .closes) (m .fine) }
 
 -- what writing into 17 bytes says
 pub record Reported (r : Report) (code : ℕ) (t : List ℕ) : Type 0 where

@@ -11,7 +11,7 @@ use lib.Seq.{take-at, getD-at, split-at}
 use borrow.Author.Tests.{eq-eqb, leb-true}
 use Rattle.bits.specs.Bits.{Bytes, digits, bitsOf, bytesOf, splice, putAt}
 use Rattle.bits.specs.Xor.{xorOf}
-use Rattle.bits.specs.laws.Bytes.{length-bits, length-bytes, bytes-bits, bits-bytes, bytes-take}
+use Rattle.bits.specs.laws.Bytes.{length-bits, length-bytes, bytes-bits, bits-bytes, bytes-below, bytes-take}
 use Rattle.bits.specs.laws.Digits.{length-digits}
 use Rattle.bits.specs.laws.Fields.{length-put, bits-put}
 use Rattle.layout.specs.Fmt.{Out, accepted, refused, good, check, Fmt, end, field, choice, bytes, also, after, writeField, read, write, Spot, none, found, spot, unless10}
@@ -99,6 +99,7 @@ module _ (l : Layout) where
   pub record Made (s vs : List ℕ) : Type 0 where
     pub kindly : l .kind vs ≡ 0
     pub inside : List ℕ
+    pub fine : Bytes inside
     pub closes : sealed (l .seal) inside ≡ s
     pub wrote : write (l .fmt) [] 0 vs ≡ accepted (bitsOf inside)
     pub fits : size l (length s) ≡ 0
@@ -115,6 +116,7 @@ module _ (l : Layout) where
       record {
         kindly = a;
         inside = bytesOf n b;
+        fine = bytes-below n b;
         closes = accepted-inj y;
         wrote = d ∙ ap accepted (sym (bits-bytes n b m));
         fits = ap (λ s. size l (length s)) (sym (accepted-inj y)) ∙ c;
