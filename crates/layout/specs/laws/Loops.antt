@@ -2,10 +2,12 @@
 use mathlib.Core.Path.{_≡_, refl, subst, subst⁻¹}
 use mathlib.Core.Bool.{Bool, true, false}
 use mathlib.Core.List.{List, [], _++_, append-assoc}
-use Prim.Native.Nat.{ℕ}
+use Prim.Native.Nat.{ℕ, _+_, _≤_, _^_}
+use native.Mathlib.Nat.{mod-le}
 use lib.Dec.{eqb}
 use borrow.Author.Tests.{eqb-true, eqb-false}
 use Rattle.layout.specs.Fmt.{Out, Fmt}
+use Rattle.layout.specs.Walk.{onward}
 use Rattle.layout.specs.laws.Judging.{Judging, judge-refused}
 use Rattle.layout.specs.laws.Putting.{Putting}
 use Rattle.layout.specs.declared.walk.Walk.{Walk}
@@ -41,6 +43,11 @@ module _ {g g′ : Fmt → Fmt} {r : Walk} {us : List ℕ} {r′ : Walk} where
 
   pub judges-under : (k : Fmt → Fmt) → JudgesAlong g g′ r us r′ → JudgesAlong (λ f. g (k f)) (λ f. g′ (k f)) r us r′
   judges-under k a = record { on = λ x. a .on x }
+
+-- a step goes no further than its bits: so a loop bounds the place that it comes to
+pub step-near : {q : Walk} (r : Walk) (w : ℕ) (b : Bool) (u c i : ℕ) → q ≡ onward w b u c i r → q .at ≤ r .at + w
+unfolding onward
+step-near r w b u c i d = subst⁻¹ (λ (q : Walk). q .at ≤ r .at + w) d (mod-le (r .at + w) (2 ^ 64))
 
 -- ---- putting
 

@@ -24,7 +24,7 @@ length-sealed : (z : Bool) (t : List ℕ) (at : ℕ) → length t ≡ bytesTo at
 length-sealed false t at e = e
 length-sealed true t at e = length-append t (xorOf t ∷ []) ∙ ap (_+ 1) e
 
--- what starts as t and goes on as s is s behind t, and behind the seal
+-- what is the same past the fields is the same past the seal
 drop-made : (z : Bool) (at : ℕ) (s t : List ℕ) → drop (bytesTo at) t ≡ drop (bytesTo at) s → drop (made z at) t ≡ drop (made z at) s
 drop-made false at s t e = e
 drop-made true at s t e = sym (drop-drop 1 (bytesTo at) t) ∙ ap (drop 1) e ∙ drop-drop 1 (bytesTo at) s

@@ -1,3 +1,4 @@
+-- `judged` walks the record's values in bit order: each step is a law of judging.
 use mathlib.Core.Path.{refl}
 use lib.Dec.{lit<}
 use Rattle.layout.specs.laws.Judging.{judge-start, judge-fixed, judge-num, judge-signed, judge-end}

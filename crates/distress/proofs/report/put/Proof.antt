@@ -1,3 +1,4 @@
+-- `put` puts the values in bit order: each step is a law of putting.
 use mathlib.Core.Path.{refl, _∙_}
 use lib.Dec.{lit≤}
 use Rattle.bits.specs.Bits.{Bytes}

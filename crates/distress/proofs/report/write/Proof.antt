@@ -1,3 +1,4 @@
+-- `write` answers as the walk over the values and the room decide.
 use mathlib.Core.Path.{subst}
 use Rattle.layout.specs.Judging.{Writes}
 use Rattle.layout.specs.laws.Flat.{write-fails, write-cramped, write-flat}

@@ -1,3 +1,4 @@
+-- `spells`: a number that does not fit is refused, another as `sign` says.
 use borrow.Author.Tests.{lt-ltb, le-ltb}
 use borrow.Author.Needs.{needs}
 use Rattle.layout.proofs.judging.spells.Statement.{statement}

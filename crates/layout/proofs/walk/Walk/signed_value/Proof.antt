@@ -1,3 +1,4 @@
+-- `signed_value` steps with the fault that `spells` finds.
 use mathlib.Core.Bool.{true}
 use mathlib.Core.Path.{ap, _∙_}
 use Rattle.layout.specs.Walk.{onward}
