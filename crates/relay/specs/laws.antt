@@ -2,3 +2,4 @@
 pub mod Signed
 pub mod Row
 pub mod Report
+pub mod Sentence

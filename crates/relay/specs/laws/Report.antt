@@ -1,17 +1,21 @@
--- A report's answer as numbers: what `read` gives decides them.
+-- A report's answer as numbers: what `read` gives decides them; and the numbers given for a record stand in it as they are.
 use Prim.Native.Nat.{ℕ}
-use mathlib.Core.Path.{_≡_, sym, ap}
+use mathlib.Core.Path.{_≡_, refl, sym, ap, _∙_}
 use mathlib.Core.List.{List}
 use native.Mathlib.Omega.{arith}
 use lib.IntN.{ℤ}
+use mir.Syntax.{w32}
+use mir.Val.{SFits, toZ, ofZ}
+use mir.ValLaws.{toZ-ofZ}
 use Rattle.layout.specs.Fmt.{Out, accepted, refused, also}
+use Rattle.distress.specs.laws.Calls.{never-read}
 use Rattle.distress.specs.Promises.{Reads}
 use Rattle.distress.specs.Report.{reports, reportOf, answerOf}
 use Rattle.distress.specs.declared.report.Report.{Report}
 use Rattle.distress.specs.declared.report.Answer.the-variants.{Good, Refused}
 use Rattle.layout.specs.Message.{readMessage}
 use Rattle.relay.specs.Row.{Fills}
-use Rattle.relay.specs.Report.{rowOf, numbersOf}
+use Rattle.relay.specs.Report.{rowOf, numbersOf, recordOf}
 use Rattle.relay.specs.laws.Row.{row-refused}
 
 pub good-numbers : (s : List ℕ) (r : Report) → Reads s (Good r) → numbersOf s ≡ accepted (rowOf r)
@@ -27,3 +31,19 @@ refused-numbers s row c e = go (readMessage reports s) e
     go : (o : Out (List ℕ)) → Refused c ≡ answerOf o → Fills (also (λ vs. rowOf (reportOf vs)) o) row c row
     go (accepted vs) e = let z : _≡_ {A = ℕ} 0 1 = cc in absurd (omega arith)
     go (refused d p) e = let k : d ≡ c = cc in row-refused row {p = p} (ap (λ c. refused c p) k)
+
+-- no refusal has the number 0
+pub no-zero-read : (s : List ℕ) → Reads s (Refused 0) → ⊥
+no-zero-read s e = go (readMessage reports s) refl e
+  where
+    go : (o : Out (List ℕ)) → readMessage reports s ≡ o → Refused 0 ≡ answerOf o → ⊥
+    go (accepted vs) m e = let z : _≡_ {A = ℕ} 0 1 = cc in omega arith
+    go (refused c p) m e = let k : c ≡ 0 = cc in never-read s p (m ∙ ap (λ c. refused c p) k)
+
+-- the record of the numbers that a call is given: the signed ones fit, so they stand in it as they are
+pub kept : (r : Report) → SFits w32 (r .longitude) → SFits w32 (r .latitude)
+    → recordOf (r .mmsi) (toZ w32 (ofZ w32 (r .longitude))) (toZ w32 (ofZ w32 (r .latitude))) (r .day) (r .hour) (r .minute) (r .speed) (r .course) (r .kind) ≡ r
+kept r e n =
+    let east = toZ-ofZ w32 (r .longitude) e in
+    let north = toZ-ofZ w32 (r .latitude) n in
+    λ i. recordOf (r .mmsi) (east i) (north i) (r .day) (r .hour) (r .minute) (r .speed) (r .course) (r .kind)

@@ -1,10 +1,9 @@
--- `bellnewt_distress_write` hands its numbers on as a record: the signed ones fit, so they stand in it as given.
+-- `bellnewt_distress_write` is the report's `write` of the record of its numbers.
 use mathlib.Core.Path.{subst}
-use mir.Syntax.{w32}
-use mir.ValLaws.{toZ-ofZ}
 use Rattle.distress.specs.Promises.{Writes}
 use Rattle.distress.specs.declared.report.Report.{Report}
 use Rattle.relay.specs.Report.{recordOf}
+use Rattle.relay.specs.laws.Report.{kept}
 use borrow.Author.Needs.{needs}
 use Rattle.relay.proofs.report.bellnewt_distress_write.Statement.{statement}
 use Rattle.relay.proofs.report.bellnewt_distress_write.Tie as tie
@@ -20,11 +19,11 @@ returns c =
     let call = c .before .before in
     let start = call .before .before .before in
     let a = start .args in
-    let east = toZ-ofZ w32 (a .longitude) (start .fits .longitude) in
-    let north = toZ-ofZ w32 (a .latitude) (start .fits .latitude) in
+    let r = recordOf (a .mmsi) (a .longitude) (a .latitude) (a .day) (a .hour) (a .minute) (a .speed) (a .course) (a .kind) in
     subst (λ (r : Report). Writes (a .buf .now) r (call .write .result) (call .write .last .0))
-    (λ i. recordOf (a .mmsi) (east i) (north i) (a .day) (a .hour) (a .minute) (a .speed) (a .course) (a .kind))
+    (kept r (start .fits .longitude) (start .fits .latitude))
     (call .write .ensures)
 
 pub bellnewt-distress-write-spec : {M : Type 1} → statement M
-bellnewt-distress-write-spec = tie.close (tie.spec write-requires same-length returns)
+bellnewt-distress-write-spec =
+    tie.close (tie.spec write-requires same-length returns)
