@@ -28,29 +28,20 @@ loop-holds c =
     let a = c .before .before .args in
     (omega arith, refl, slid-none (a .s .now) (a .at) (a .out .now) (a .to))
 
-add-two : tie.Need-add-two Inv-loop μ-loop
-add-two c = search needs
+add-across : tie.Need-add-across Inv-loop μ-loop
+add-across c = search needs
 
-shared-slice-read-two : tie.Need-shared-slice-read-two Inv-loop μ-loop
-shared-slice-read-two c = search needs
+shared-slice-read-across : tie.Need-shared-slice-read-across Inv-loop μ-loop
+shared-slice-read-across c = search needs
 
-add-two-2 : tie.Need-add-two-2 Inv-loop μ-loop
-add-two-2 c = search needs
+add-across-2 : tie.Need-add-across-2 Inv-loop μ-loop
+add-across-2 c = search needs
 
-shared-slice-read-two-2 : tie.Need-shared-slice-read-two-2 Inv-loop μ-loop
-shared-slice-read-two-2 c = search needs
+shared-slice-read-across-2 : tie.Need-shared-slice-read-across-2 Inv-loop μ-loop
+shared-slice-read-across-2 c = search needs
 
-two-requires : tie.Need-two-requires Inv-loop μ-loop
-two-requires c κs = search needs
-
-cast-out : tie.Need-cast-out Inv-loop μ-loop
-cast-out c = search needs
-
-shr-out : tie.Need-shr-out Inv-loop μ-loop
-shr-out c = search needs
-
-cast-out-2 : tie.Need-cast-out-2 Inv-loop μ-loop
-cast-out-2 c = search needs
+across-requires : tie.Need-across-requires Inv-loop μ-loop
+across-requires c κs = search needs
 
 add-out : tie.Need-add-out Inv-loop μ-loop
 add-out c = search needs
@@ -70,7 +61,7 @@ loop-again c =
     let p = l .before .before in
     let a = p .before .args in
     let turn = slid-turn (a .s .now) (a .at) (a .out .now) (a .to) (l .loop .i) (λ j. p .shared-slice-known .given j .fits) (omega arith) (omega arith) in
-    (omega arith, simp length-set (l .loop .inv .1), cc (turn, c .two .ensures))
+    (omega arith, simp length-set (l .loop .inv .1), cc (turn, c .across .ensures))
 
 same-length : tie.Need-same-length Inv-loop μ-loop
 same-length c = search needs
@@ -88,14 +79,11 @@ slide-spec =
     add-low-2
     sub-spare
     loop-holds
-    add-two
-    shared-slice-read-two
-    add-two-2
-    shared-slice-read-two-2
-    two-requires
-    cast-out
-    shr-out
-    cast-out-2
+    add-across
+    shared-slice-read-across
+    add-across-2
+    shared-slice-read-across-2
+    across-requires
     add-out
     slice-write-out
     add-i

@@ -3,8 +3,8 @@ use mathlib.Core.Bool.{Bool, true, false, cond, _&&_, false≢true}
 use mathlib.Core.List.{List}
 use mathlib.Core.Path.{_≡_, refl, _∙_}
 use Prim.Native.Nat.{ℕ, _+_, _*_, _^_, _≤_, _<_}
-use borrow.Author.Tests.{leb-true, le-leb, ltb-true, lt-ltb}
-use lib.Dec.{leb, ltb}
+use borrow.Author.Tests.{leb-true, le-leb, lt-ltb}
+use lib.Dec.{leb}
 use lib.ListN.{length}
 use Rattle.bits.specs.Bits.{fieldAt, putAt}
 use Rattle.bits.specs.Answers.{within, got, puttable, spanned, gettable}
@@ -28,12 +28,6 @@ module _ (s : List ℕ) (at w : ℕ) where
 
   pub puttable-fits : (v : ℕ) → w ≤ 32 → at + w ≤ length s * 8 → v < 2 ^ w → puttable s at w v ≡ true
   puttable-fits v h f l = rw (within-fits (length s) at w h f) (lt-ltb v (2 ^ w) l)
-
-  pub puttable-true : (v : ℕ) → puttable s at w v ≡ true → (w ≤ 32) × (at + w ≤ length s * 8) × (v < 2 ^ w)
-  puttable-true v h =
-      let p = both (within (length s) at w) (ltb v (2 ^ w)) h in
-      let q = within-true (length s) at w (p .0) in
-      (q .0, q .1, ltb-true v (2 ^ w) (p .1))
 
   -- what a call of `put` with the result r, that left t, has done where all fits
   pub put-done : (v : ℕ) (r : Bool) (t : List ℕ) → (r ≡ puttable s at w v) × (t ≡ cond r (putAt s at w v) s)

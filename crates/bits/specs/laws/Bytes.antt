@@ -1,4 +1,4 @@
--- Bytes as bits, and bits as bytes, one way each. Assumes nothing.
+-- Bytes and their bits determine each other, and go part by part: by induction on the bytes. Assumes nothing.
 use mathlib.Core.Bool.{Bool}
 use mathlib.Core.List.{List, [], _∷_, _++_, append-assoc}
 use mathlib.Core.Path.{_≡_, refl, sym, ap, _∙_}

@@ -1,4 +1,4 @@
--- A number's bits, and the number that bits spell: laws over every width. Assumes nothing.
+-- A number and its w bits determine each other: laws over every width, by induction on the width. Assumes nothing.
 use mathlib.Core.Bool.{Bool, true, false}
 use mathlib.Core.List.{List, [], _∷_, _++_}
 use mathlib.Core.Path.{_≡_, refl, sym, ap, _∙_}
@@ -105,9 +105,6 @@ digits-low zero h v = digits-zero (h * 2 ^ zero + v) ∙ sym (digits-zero v)
 digits-low (suc w) h v =
     rw (digits-suc, pow-succ' 2 w, ← mul-assoc h 2 (2 ^ w), mul-add-div-right (pow-pos w) (h * 2) v, mul-add-mod-self-right h 2, digits-low w (h * 2) v)
     (sym (digits-suc w v))
-
-pub digits-rem : (w v : ℕ) → digits w (v % 2 ^ w) ≡ digits w v
-digits-rem w v = sym (digits-low w (v / 2 ^ w) (v % 2 ^ w)) ∙ ap (digits w) (split v w)
 
 -- a number made of two parts has the bits of the one, then of the other
 pub digits-two : (j k a : ℕ) {b : ℕ} → b < 2 ^ k → digits (j + k) (a * 2 ^ k + b) ≡ digits j a ++ digits k b

@@ -1,4 +1,4 @@
--- Fields of a packed message: read and put at every place and width. Assumes nothing.
+-- Fields read and put, at every place and width: the message as the bits before, of and after the field. Assumes nothing.
 use mathlib.Core.Bool.{Bool}
 use mathlib.Core.List.{List, _∷_, _++_, append-assoc}
 use mathlib.Core.Path.{_≡_, sym, ap, _∙_}
@@ -102,8 +102,6 @@ module _ (s : List ℕ) (at w : ℕ) (fits : at + w ≤ length s * 8) where
         take-append-drop (at + w) (bitsOf s),
       ) (bytes-bits s h)
 
--- ---- fields of joined fields, and of parts of a message
-
 -- two fields side by side are one
 pub field-join : (s : List ℕ) (at a b : ℕ) → at + (a + b) ≤ length s * 8
     → fieldAt s at (a + b) ≡ fieldAt s at a * 2 ^ b + fieldAt s (at + a) b
@@ -112,34 +110,25 @@ field-join s at a b fits =
     rw (take-add a b (drop at (bitsOf s)), drop-drop a at (bitsOf s), value-append (take a (drop at (bitsOf s))) (take b (drop (at + a) (bitsOf s))))
     (rw (length-take-le b (drop (at + a) (bitsOf s)) (simp (length-drop, length-bits) (omega arith))))
 
--- a message within a longer one
-pub field-append : (s t : List ℕ) (at w : ℕ) → at + w ≤ length s * 8 → fieldAt (s ++ t) at w ≡ fieldAt s at w
-unfolding fieldAt
-field-append s t at w fits = ap valueOf (rw (bits-append s t) (part-first (bitsOf s) (bitsOf t) at w (omega (arith, length-bits s))))
+-- ---- whole bytes of a message
+
+bits-cut : (n : ℕ) (s : List ℕ) → bitsOf s ≡ bitsOf (take n s) ++ bitsOf (drop n s)
+bits-cut n s = ap bitsOf (sym (take-append-drop n s)) ∙ bits-append (take n s) (drop n s)
+
+length-front : (n : ℕ) (s : List ℕ) → n ≤ length s → length (bitsOf (take n s)) ≡ n * 8
+length-front n s h = length-bits (take n s) ∙ rw (length-take-le n s h)
 
 pub bits-take : (n : ℕ) (s : List ℕ) → n ≤ length s → bitsOf (take n s) ≡ take (n * 8) (bitsOf s)
-bits-take n s h =
-    sym
-    (ap (λ (l : List ℕ). take (n * 8) (bitsOf l)) (sym (take-append-drop n s))
-    ∙ rw (bits-append (take n s) (drop n s))
-    (take-at (bitsOf (take n s)) (bitsOf (drop n s)) (n * 8) (length-bits (take n s) ∙ rw (length-take-le n s h))))
+bits-take n s h = sym (ap (take (n * 8)) (bits-cut n s) ∙ take-at (bitsOf (take n s)) (bitsOf (drop n s)) (n * 8) (length-front n s h))
 
 pub bits-drop : (n : ℕ) (s : List ℕ) → n ≤ length s → bitsOf (drop n s) ≡ drop (n * 8) (bitsOf s)
-bits-drop n s h =
-    sym
-    (ap (λ (l : List ℕ). drop (n * 8) (bitsOf l)) (sym (take-append-drop n s))
-    ∙ rw (bits-append (take n s) (drop n s))
-    (drop-at (bitsOf (take n s)) (bitsOf (drop n s)) (n * 8) (length-bits (take n s) ∙ rw (length-take-le n s h))))
-
-pub field-drop : (n : ℕ) (s : List ℕ) (at w : ℕ) → n ≤ length s → fieldAt (drop n s) at w ≡ fieldAt s (n * 8 + at) w
-unfolding fieldAt
-field-drop n s at w h = rw (bits-drop n s h, drop-drop at (n * 8) (bitsOf s))
+bits-drop n s h = sym (ap (drop (n * 8)) (bits-cut n s) ∙ drop-at (bitsOf (take n s)) (bitsOf (drop n s)) (n * 8) (length-front n s h))
 
 -- a whole byte
 pub field-byte : (s : List ℕ) (i : ℕ) → Bytes s → i < length s → fieldAt s (i * 8) 8 ≡ getD s i 0
 field-byte s i bytes h =
     field-split s (i * 8) 8 (bitsOf (take i s)) (digits 8 (getD s i 0)) (bitsOf (drop (suc i) s))
     (ap bitsOf (split-at s i 0 h) ∙ bits-append (take i s) (getD s i 0 ∷ drop (suc i) s) ∙ rw bits-cons)
-    (length-bits (take i s) ∙ rw (length-take-le i s (omega arith)))
+    (length-front i s (omega arith))
     (length-digits 8 (getD s i 0))
     ∙ value-digits 8 (bytes i)

@@ -1,24 +1,18 @@
--- Exclusive or, byte by byte: what a sum is, and what a replaced byte does to it. Assumes nothing.
-use mathlib.Core.List.{List, [], _∷_}
+-- The exclusive or of a list, one byte more, and that exclusive or is associative: digit by digit. Assumes nothing.
+use mathlib.Core.List.{List}
 use mathlib.Core.Path.{_≡_, refl, ap, _∙_}
 use Prim.Native.Nat.{ℕ, zero, suc, _+_, _/_, _%_, _<_}
 use native.Mathlib.Numerals.{add-one}
 use native.Mathlib.Omega.{arith}
 use lib.Arith.{bin-ind, digits-mod}
-use lib.Bits.{bitXor, differ, xor-step, xor-shr, xor-zero-l, xor-self, xor-comm, xor-lt}
-use lib.ListN.{length, drop, getD, set}
+use lib.Bits.{bitXor, differ, xor-step, xor-shr}
+use lib.ListN.{length, drop, getD}
 use lib.Seq.{drop-cons}
-use Rattle.bits.specs.Bits.{Bytes}
 use Rattle.bits.specs.Xor.{xorOf}
 
 pub xor-drop : (s : List ℕ) (i : ℕ) → i < length s → xorOf (drop i s) ≡ bitXor (getD s i 0) (xorOf (drop (i + 1) s))
 unfolding xorOf
 xor-drop s i h = rw (add-one i, drop-cons s i 0)
-
-pub xor-below : (s : List ℕ) → Bytes s → xorOf s < 256
-unfolding xorOf
-xor-below [] h = omega arith
-xor-below (b ∷ s) h = xor-lt 8 b (xorOf s) (h 0) (xor-below s (λ i. h (suc i)))
 
 -- ---- exclusive or is associative, digit by digit
 
@@ -60,12 +54,3 @@ xor-assoc =
       ih (b / 2) (c / 2),
       differ-assoc (a % 2) (b % 2) (c % 2) (odd-lt a) (odd-lt b) (odd-lt c),
     ))
-
--- a byte replaced: the old one goes out of the sum, and the new one comes in
-pub xor-set : (s : List ℕ) (i b : ℕ) → i < length s → xorOf (set s i b) ≡ bitXor (xorOf s) (bitXor (getD s i 0) b)
-unfolding xorOf
-xor-set [] i b h = absurd (omega arith)
-xor-set (x ∷ s) zero b h =
-    cc
-    (xor-comm x (xorOf s), xor-assoc (xorOf s) x (bitXor x b), xor-assoc x x b, xor-self x, xor-zero-l b, xor-comm (xorOf s) b)
-xor-set (x ∷ s) (suc i) b h = cc (xor-set s i b (omega arith), xor-assoc x (xorOf s) (bitXor (getD s i 0) b))
