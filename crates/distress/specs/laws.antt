@@ -1,6 +1,8 @@
--- What is proved of the sentence's digits and parts.
+-- What is proved of the sentence: its digits, the turns of its loops, its tests and parts, and what the calls' steps say.
 pub mod Digits
+pub mod Hex
 pub mod Turns
+pub mod Tests
 pub mod Parts
 pub mod Front
 pub mod Calls
