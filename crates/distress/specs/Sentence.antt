@@ -148,6 +148,10 @@ writeSentence address r = check (orBad (addressGood address) 4) 0 (also (sentenc
 abbrev pub roomFor : List ℕ → Out (List ℕ) → Out (List ℕ)
 roomFor s o = after o (λ t. check (orBad (leb (length t) (length s)) 6) 0 (accepted t))
 
+-- w at the front of a lent buffer that then holds t, and past it what s had there
+abbrev pub Front : List ℕ → List ℕ → List ℕ → Type 0
+Front w s t = t ≡ w ++ drop (length w) s
+
 -- ---- what the calls answer and leave
 
 abbrev pub aroundOf : Out (ℕ × List ℕ) → Around

@@ -1,7 +1,12 @@
--- What is proved of the report's correction, and of the sentence's digits and parts.
+-- What is proved of the report, then of the sentence: its digits, the turns of its loops, its tests and parts, what the calls' steps say, the demands.
+pub mod Sound
+pub mod Demands
 pub mod Correction
 pub mod Digits
+pub mod Hex
 pub mod Turns
+pub mod Tests
 pub mod Parts
 pub mod Front
 pub mod Calls
+pub mod SentenceDemands

@@ -6,7 +6,7 @@ use lib.IntN.{ℤ, pos}
 use lib.ListN.{length, drop}
 use Rattle.layout.specs.Fmt.{Out, accepted, refused, also}
 use Rattle.layout.specs.Message.{codeOf, into, writeMessage}
-use Rattle.distress.specs.SentenceDemands.{no-zero-heard}
+use Rattle.distress.specs.laws.SentenceDemands.{no-zero-heard}
 use Rattle.distress.specs.Promises.{Reads, Writes}
 use Rattle.distress.specs.Report.{reports, valuesOf}
 use Rattle.distress.specs.declared.report.Report.{Report}

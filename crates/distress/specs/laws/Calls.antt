@@ -11,13 +11,13 @@ use Rattle.layout.specs.Fmt.{Out, accepted, refused, also}
 use Rattle.layout.specs.Message.{codeOf, leaves, into, readMessage, writeMessage, correctMessage}
 use Rattle.layout.specs.laws.First.{bytes-long}
 use Rattle.layout.specs.laws.Whole.{was, made, write-read-message}
-use Rattle.distress.specs.Demands.{written-read, accepted-correction}
+use Rattle.distress.specs.laws.Demands.{written-read, accepted-correction}
 use Rattle.distress.specs.Promises.{Reads, Writes}
 use Rattle.distress.specs.Report.{reports, valuesOf, reportOf, answerOf, plain}
-use Rattle.distress.specs.Sound.{sound}
-use Rattle.distress.specs.Sentence.{allDigits, decimal, unhexed, opening, summedUp, sentence, addressGood, hexPart, aroundSo, readSentence, writeSentence, roomFor, aroundOf, heardOf, sentOf, laidOver, Sends}
-use Rattle.distress.specs.laws.Parts.{led, passed, pattern-both, summed-long}
-use Rattle.distress.specs.laws.Front.{Front}
+use Rattle.distress.specs.laws.Sound.{sound}
+use Rattle.distress.specs.Sentence.{Front, allDigits, decimal, unhexed, opening, summedUp, sentence, addressGood, hexPart, aroundSo, readSentence, writeSentence, roomFor, aroundOf, heardOf, sentOf, laidOver, Sends}
+use Rattle.distress.specs.laws.Parts.{summed-long}
+use Rattle.distress.specs.laws.Tests.{led, passed, pattern-both}
 use Rattle.distress.specs.declared.report.Report.{Report}
 use Rattle.distress.specs.declared.report.Answer.{Answer}
 use Rattle.distress.specs.declared.report.Answer.the-variants.{Good as GoodReport, Refused as BadReport}

@@ -17,10 +17,10 @@ use Rattle.layout.specs.laws.Sign.{spell-int}
 use Rattle.layout.specs.laws.Spots.{spotsFrom, spots-flat, eachAt, set-each}
 use Rattle.layout.specs.laws.Whole.{read-write-message, correct-wide}
 use Rattle.distress.specs.Changed.{spotOf, changed}
-use Rattle.distress.specs.Demands.{values-again}
+use Rattle.distress.specs.laws.Demands.{values-again}
 use Rattle.distress.specs.Promises.{Reads}
 use Rattle.distress.specs.Report.{report, reports, valuesOf, reportOf, answerOf}
-use Rattle.distress.specs.Sound.{sound}
+use Rattle.distress.specs.laws.Sound.{sound}
 use Rattle.distress.specs.declared.report.Answer.the-variants.{Good}
 use Rattle.distress.specs.declared.report.Report.{Report}
 

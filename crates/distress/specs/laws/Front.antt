@@ -6,13 +6,9 @@ use native.Mathlib.Omega.{arith}
 use lib.ListN.{length, take, drop, length-append}
 use lib.Seq.{paste, take-at, drop-at, drop-drop, take-length}
 use Rattle.bits.specs.Xor.{xorOf}
-use Rattle.distress.specs.Sentence.{startMark, innerMark, hexOf, closingOf, opening, summedUp, part}
-use Rattle.distress.specs.laws.Digits.{hex-length}
+use Rattle.distress.specs.Sentence.{Front, startMark, innerMark, hexOf, closingOf, opening, summedUp, part}
+use Rattle.distress.specs.laws.Hex.{hex-length}
 use Rattle.distress.specs.laws.Parts.{part-tail}
-
--- w at the front of t, and past it what s has there
-abbrev pub Front : List ℕ → List ℕ → List ℕ → Type 0
-Front w s t = t ≡ w ++ drop (length w) s
 
 pub front-put : (w p s t : List ℕ) (at : ℕ) {u : List ℕ} → length w ≡ at → Front w s t → u ≡ paste t at p (length p) → Front (w ++ p) s u
 front-put w p s t at e f g =

@@ -1,7 +1,7 @@
 use mathlib.Core.Path.{refl}
 use Rattle.layout.specs.laws.Correcting.{correct-early, correct-late}
 use Rattle.distress.specs.Report.{reports}
-use Rattle.distress.specs.Sound.{sound}
+use Rattle.distress.specs.laws.Sound.{sound}
 use borrow.Author.Needs.{needs}
 use Rattle.distress.proofs.report.correct.Statement.{statement}
 use Rattle.distress.proofs.report.correct.Tie as tie

@@ -8,7 +8,8 @@ use native.Mathlib.Omega.{arith}
 use lib.ListN.{length}
 use borrow.Author.Tests.{not-true, not-false}
 use Rattle.distress.specs.Sentence.{allDigits, sameBytes, innerMark, innerPart, hexPart, addressPart, aroundOf, leadOf}
-use Rattle.distress.specs.laws.Parts.{led, around-led, around-unlike, around-like, pattern-is, address-none, address-some, length-part}
+use Rattle.distress.specs.laws.Parts.{length-part}
+use Rattle.distress.specs.laws.Tests.{led, around-led, around-unlike, around-like, pattern-is, address-none, address-some}
 use Rattle.distress.proofs.sentence.accept.Statement.{statement}
 use Rattle.distress.proofs.sentence.accept.Tie as tie
 

@@ -1,7 +1,7 @@
 -- `address`: each way out is one test of the definition.
 use borrow.Author.Needs.{needs}
 use mathlib.Core.Path.{sym, _∙_}
-use Rattle.distress.specs.laws.Parts.{address-zero, address-other, address-digits}
+use Rattle.distress.specs.laws.Tests.{address-zero, address-other, address-digits}
 use Rattle.distress.proofs.sentence.address.Statement.{statement}
 use Rattle.distress.proofs.sentence.address.Tie as tie
 

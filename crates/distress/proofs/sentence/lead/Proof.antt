@@ -10,7 +10,7 @@ use lib.Seq.{take-all}
 use Rattle.bits.specs.Xor.{xorOf}
 use Rattle.distress.specs.Sentence.{sameBytes, closingOf, lastFive, summed, startMark, leadOf}
 use lib.ListN.{take}
-use Rattle.distress.specs.laws.Parts.{lead-short, lead-long, lead-start, lead-sum}
+use Rattle.distress.specs.laws.Tests.{lead-short, lead-long, lead-start, lead-sum}
 use Rattle.distress.proofs.sentence.lead.Statement.{statement}
 use Rattle.distress.proofs.sentence.lead.Tie as tie
 

@@ -2,8 +2,8 @@
 use borrow.Author.Needs.{needs}
 use mathlib.Core.Path.{sym}
 use Rattle.distress.specs.laws.Digits.{figure-low, figure-high}
-use Rattle.distress.proofs.sentence.figure.Statement.{statement}
-use Rattle.distress.proofs.sentence.figure.Tie as tie
+use Rattle.distress.proofs.sentence.spelling.figure.Statement.{statement}
+use Rattle.distress.proofs.sentence.spelling.figure.Tie as tie
 
 add-result : tie.Need-add-result
 add-result c = search needs

@@ -9,8 +9,8 @@ use borrow.Author.Tests.{le-leb, lt-leb}
 use Rattle.distress.specs.Sentence.{spelt}
 use Rattle.distress.specs.laws.Digits.{spelt-nil, spelt-grows, value-most}
 use Rattle.distress.specs.laws.Turns.{spelt-turn}
-use Rattle.distress.proofs.sentence.number.Statement.{statement}
-use Rattle.distress.proofs.sentence.number.Tie as tie
+use Rattle.distress.proofs.sentence.spelling.number.Statement.{statement}
+use Rattle.distress.proofs.sentence.spelling.number.Tie as tie
 
 abbrev Inv-loop : tie.InvT-loop
 Inv-loop part all₀ i₀ all i = (i ≤ length part) × (all ≤ 2_097_151) × (spelt 0 part ≡ spelt all (drop i part))

@@ -18,7 +18,7 @@ use Rattle.layout.specs.laws.Whole.{was, made, write-read-message, read-write-m
 use Rattle.layout.specs.laws.Zero.{Judged, only-numbered, no-zero-message, correct-zero}
 use Rattle.distress.specs.Promises.{Reads, Writes, Corrects}
 use Rattle.distress.specs.Report.{report, reports, valuesOf, reportOf, answerOf, again, plain}
-use Rattle.distress.specs.Sound.{sound}
+use Rattle.distress.specs.laws.Sound.{sound}
 use Rattle.distress.specs.declared.report.Report.{Report}
 use Rattle.distress.specs.declared.report.Answer.{Answer}
 use Rattle.distress.specs.declared.report.Answer.the-variants.{Good}

@@ -8,8 +8,8 @@ use lib.Seq.{drop-length}
 use borrow.Author.Tests.{lt-ltb, le-ltb}
 use Rattle.distress.specs.Sentence.{allDigits}
 use Rattle.distress.specs.laws.Turns.{all-turn}
-use Rattle.distress.proofs.sentence.all_digits.Statement.{statement}
-use Rattle.distress.proofs.sentence.all_digits.Tie as tie
+use Rattle.distress.proofs.sentence.spelling.all_digits.Statement.{statement}
+use Rattle.distress.proofs.sentence.spelling.all_digits.Tie as tie
 
 abbrev Inv-loop : tie.InvT-loop
 Inv-loop part base i₀ i = (i ≤ length part) × (allDigits base part ≡ allDigits base (drop i part))

@@ -1,8 +1,8 @@
 -- `closing` makes the five bytes that the definition lists.
 use borrow.Author.Needs.{needs}
 use Rattle.distress.specs.Sentence.{closingOf}
-use Rattle.distress.proofs.sentence.closing.Statement.{statement}
-use Rattle.distress.proofs.sentence.closing.Tie as tie
+use Rattle.distress.proofs.sentence.spelling.closing.Statement.{statement}
+use Rattle.distress.proofs.sentence.spelling.closing.Tie as tie
 
 figure-requires : tie.Need-figure-requires
 figure-requires c κs = search needs

@@ -8,8 +8,8 @@ use lib.ListN.{length, drop, length-set}
 use Rattle.distress.specs.Sentence.{decimal}
 use Rattle.distress.specs.laws.Digits.{decimal-none}
 use Rattle.distress.specs.laws.Turns.{place-left, decimal-turn}
-use Rattle.distress.proofs.sentence.decimal.Statement.{statement}
-use Rattle.distress.proofs.sentence.decimal.Tie as tie
+use Rattle.distress.proofs.sentence.spelling.decimal.Statement.{statement}
+use Rattle.distress.proofs.sentence.spelling.decimal.Tie as tie
 
 abbrev Inv-loop : tie.InvT-loop
 Inv-loop n places₀ from₀ rest₀ places from rest = (from ≤ 7) × (rest < 10 ^ from) × (length places ≡ 7) × (decimal from rest ++ drop from places ≡ decimal 7 n)

@@ -7,8 +7,8 @@ use native.Mathlib.Omega.{arith}
 use lib.ListN.{length, take, drop, getD, set, length-set, drop-of-length-le}
 use Rattle.distress.specs.Sentence.{hexOf, lower}
 use Rattle.distress.specs.laws.Turns.{hex-turn, store-turn, store-end}
-use Rattle.distress.proofs.sentence.hex.Statement.{statement}
-use Rattle.distress.proofs.sentence.hex.Tie as tie
+use Rattle.distress.proofs.sentence.spelling.hex.Statement.{statement}
+use Rattle.distress.proofs.sentence.spelling.hex.Tie as tie
 
 abbrev Inv-loop : tie.InvT-loop
 Inv-loop bytes out₀ i₀ out i = (i ≤ 17) × (length out ≡ 34) × (take (2 * i) out ++ hexOf (drop i bytes) ≡ hexOf bytes)

@@ -5,8 +5,8 @@ use native.Mathlib.Omega.{arith}
 use Rattle.distress.specs.Sentence.{digitValue}
 use Rattle.distress.specs.laws.Digits.{value-low, value-high}
 use mathlib.Core.Path.{sym}
-use Rattle.distress.proofs.sentence.digit_value.Statement.{statement}
-use Rattle.distress.proofs.sentence.digit_value.Tie as tie
+use Rattle.distress.proofs.sentence.spelling.digit_value.Statement.{statement}
+use Rattle.distress.proofs.sentence.spelling.digit_value.Tie as tie
 
 returns : tie.Need-returns
 unfolding digitValue

@@ -8,8 +8,8 @@ use lib.ListN.{length, take, drop, getD, length-set, drop-of-length-le}
 use Rattle.distress.specs.Sentence.{digitValue, unhexed}
 use Rattle.distress.specs.laws.Digits.{digit-at}
 use Rattle.distress.specs.laws.Turns.{unhexed-turn, store-turn, store-end}
-use Rattle.distress.proofs.sentence.unhex.Statement.{statement}
-use Rattle.distress.proofs.sentence.unhex.Tie as tie
+use Rattle.distress.proofs.sentence.spelling.unhex.Statement.{statement}
+use Rattle.distress.proofs.sentence.spelling.unhex.Tie as tie
 
 abbrev Inv-loop : tie.InvT-loop
 Inv-loop part bytes₀ i₀ bytes i = (i ≤ 17) × (length bytes ≡ 17) × (take i bytes ++ unhexed (drop (2 * i) part) ≡ unhexed part)
