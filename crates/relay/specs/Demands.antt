@@ -5,7 +5,7 @@ use mathlib.Core.List.{List, _∷_, _++_}
 use lib.IntN.{ℤ, pos}
 use lib.ListN.{length, drop}
 use Rattle.layout.specs.Fmt.{Out, accepted, refused, also}
-use Rattle.layout.specs.Message.{codeOf, into, writeMessage}
+use Rattle.layout.specs.Message.{codeOf, into, writeMessage, leaves}
 use Rattle.distress.specs.laws.SentenceDemands.{no-zero-heard}
 use Rattle.distress.specs.Promises.{Reads, Writes}
 use Rattle.distress.specs.Report.{reports, valuesOf}
@@ -13,7 +13,7 @@ use Rattle.distress.specs.declared.report.Report.{Report}
 use Rattle.distress.specs.declared.report.Answer.the-variants.{Good, Refused}
 use Rattle.distress.specs.Sentence.{laidOver, Hears}
 use Rattle.distress.specs.declared.sentence.Heard.the-variants.{Good as Heard, Refused as Unheard}
-use Rattle.relay.specs.Row.{intoRow, stands, Fills}
+use Rattle.relay.specs.Row.{Fills}
 use Rattle.relay.specs.Report.{rowOf, numbersOf}
 use Rattle.relay.specs.laws.Row.{row-full, one-filling, refused-stands}
 use Rattle.relay.specs.laws.Report.{good-numbers, refused-numbers, no-zero-read}
@@ -27,7 +27,7 @@ module _ (o : Out (List ℤ)) (row : List ℤ) (c : ℕ) (t : List ℤ) (f : Fil
   one-row d u g = one-filling o row c d t u f g
 
   pub refused-row : (c ≡ 0 → ⊥) → t ≡ row
-  refused-row h = refused-stands (intoRow row o) row t c (f .0) (f .1) h
+  refused-row h = refused-stands (into row o) row t c (f .0) (f .1) h
 
 -- `bellnewt_distress_read`: a good report gives 0 and its numbers where the row has room, a refused one its refusal
 module _ (s : List ℕ) (row : List ℤ) (c : ℕ) (t : List ℤ) (f : Fills (numbersOf s) row c t) where
@@ -68,6 +68,6 @@ module _ (buf : List ℕ) (size address : ℕ) (r : Report) (c : ℕ) (t : List 
   pub refused-sentence-writing : (c ≡ 0 → ⊥) → (t ≡ buf) × (n ≡ size)
   refused-sentence-writing h = go (sentenceInto buf address r) (w .0) (w .1) (w .2)
     where
-      go : (o : Out (List ℕ)) → c ≡ codeOf o → t ≡ laidOver o buf → n ≡ stands (also length o) size → (t ≡ buf) × (n ≡ size)
+      go : (o : Out (List ℕ)) → c ≡ codeOf o → t ≡ laidOver o buf → n ≡ leaves (also length o) size → (t ≡ buf) × (n ≡ size)
       go (accepted u) z x y = absurd (h z)
       go (refused d p) z x y = (x, y)

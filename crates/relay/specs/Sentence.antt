@@ -5,10 +5,9 @@ use mathlib.Core.List.{List, _∷_}
 use lib.IntN.{ℤ, pos}
 use lib.ListN.{length}
 use Rattle.layout.specs.Fmt.{Out, also}
-use Rattle.layout.specs.Message.{codeOf}
+use Rattle.layout.specs.Message.{codeOf, leaves}
 use Rattle.distress.specs.Sentence.{readSentence, writeSentence, roomFor, laidOver}
 use Rattle.distress.specs.declared.report.Report.{Report}
-use Rattle.relay.specs.Row.{stands}
 use Rattle.relay.specs.Report.{rowOf}
 
 -- the reading of the bytes s, as numbers: the address, then the report's
@@ -22,4 +21,4 @@ sentenceInto buf address r = roomFor buf (writeSentence address r)
 -- what the writing call promises: its number, the buffer t and the size n that it leaves
 abbrev pub SentenceWrites : List ℕ → ℕ → ℕ → Report → ℕ → List ℕ → ℕ → Type 0
 SentenceWrites buf size address r code t n =
-    (code ≡ codeOf (sentenceInto buf address r)) × (t ≡ laidOver (sentenceInto buf address r) buf) × (n ≡ stands (also length (sentenceInto buf address r)) size)
+    (code ≡ codeOf (sentenceInto buf address r)) × (t ≡ laidOver (sentenceInto buf address r) buf) × (n ≡ leaves (also length (sentenceInto buf address r)) size)

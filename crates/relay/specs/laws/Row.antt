@@ -10,22 +10,22 @@ use lib.ListN.{length, take, drop, getD, set}
 use lib.Seq.{take-length, paste-suc}
 use borrow.Author.Tests.{le-leb, lt-leb}
 use Rattle.layout.specs.Fmt.{Out, accepted, refused}
-use Rattle.layout.specs.Message.{codeOf}
-use Rattle.relay.specs.Row.{intoRow, stands, Fills}
+use Rattle.layout.specs.Message.{codeOf, into, leaves}
+use Rattle.relay.specs.Row.{Fills}
 
 -- the call's number and the row that it leaves, from its answer
-gives : (o : Out (List ℤ)) (row : List ℤ) (a : Out (List ℤ)) → intoRow row o ≡ a → Fills o row (codeOf a) (stands a row)
-gives o row a e = (ap codeOf (sym e), ap (λ a. stands a row) (sym e))
+gives : (o : Out (List ℤ)) (row : List ℤ) (a : Out (List ℤ)) → into row o ≡ a → Fills o row (codeOf a) (leaves a row)
+gives o row a e = (ap codeOf (sym e), ap (λ a. leaves a row) (sym e))
 
 module _ {o : Out (List ℤ)} (row : List ℤ) where
   pub row-refused : {c p : ℕ} → o ≡ refused c p → Fills o row c row
-  row-refused {c} {p} e = gives o row (refused c p) (ap (intoRow row) e)
+  row-refused {c} {p} e = gives o row (refused c p) (ap (into row) e)
 
   pub row-short : {xs : List ℤ} → o ≡ accepted xs → length row < length xs → Fills o row 6 row
-  row-short {xs} e h = gives o row (refused 6 0) (ap (intoRow row) e ∙ rw (lt-leb (length xs) (length row) h) refl)
+  row-short {xs} e h = gives o row (refused 6 0) (ap (into row) e ∙ rw (lt-leb (length xs) (length row) h) refl)
 
   pub row-full : {xs : List ℤ} → o ≡ accepted xs → length xs ≤ length row → Fills o row 0 (xs ++ drop (length xs) row)
-  row-full {xs} e h = gives o row (accepted (xs ++ drop (length xs) row)) (ap (intoRow row) e ∙ rw (le-leb (length xs) (length row) h) refl)
+  row-full {xs} e h = gives o row (accepted (xs ++ drop (length xs) row)) (ap (into row) e ∙ rw (le-leb (length xs) (length row) h) refl)
 
 -- i numbers stand already, and the next one is stored
 pub row-more : (row xs : List ℤ) (i : ℕ) → i < length row → i < length xs
@@ -39,7 +39,7 @@ row-stored row xs i e h {t} p =
     (full .0, p ∙ rw (e, take-length xs) (full .1))
 
 -- a refusal leaves what was lent
-pub refused-stands : {A : Type 0} (o : Out A) (was t : A) (c : ℕ) → c ≡ codeOf o → t ≡ stands o was → (c ≡ 0 → ⊥) → t ≡ was
+pub refused-stands : {A : Type 0} (o : Out A) (was t : A) (c : ℕ) → c ≡ codeOf o → t ≡ leaves o was → (c ≡ 0 → ⊥) → t ≡ was
 refused-stands (accepted a) was t c z x h = absurd (h z)
 refused-stands (refused d p) was t c z x h = x
 

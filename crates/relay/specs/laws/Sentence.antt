@@ -6,13 +6,13 @@ use native.Mathlib.Omega.{arith}
 use lib.IntN.{ℤ, pos}
 use lib.ListN.{length}
 use Rattle.layout.specs.Fmt.{Out, accepted, refused, also}
-use Rattle.layout.specs.Message.{codeOf}
+use Rattle.layout.specs.Message.{codeOf, leaves}
 use Rattle.distress.specs.Sentence.{readSentence, heardOf, sentOf, Hears, Sends}
 use Rattle.distress.specs.declared.report.Report.{Report}
 use Rattle.distress.specs.declared.sentence.Heard.the-variants.{Good, Refused}
 use Rattle.distress.specs.declared.sentence.Sent.{Sent}
 use Rattle.distress.specs.declared.sentence.Sent.the-variants.{Bytes, Refused as Unsent}
-use Rattle.relay.specs.Row.{stands, Fills}
+use Rattle.relay.specs.Row.{Fills}
 use Rattle.relay.specs.Report.{rowOf}
 use Rattle.relay.specs.Sentence.{sentenceNumbers, sentenceInto, SentenceWrites}
 use Rattle.relay.specs.laws.Row.{row-refused}
@@ -36,7 +36,7 @@ refused-sentence s row c e = go (readSentence s) e
 
 module _ (buf : List ℕ) (size address : ℕ) {r r′ : Report} (told : r ≡ r′) {sent : Sent} {t : List ℕ} (sends : Sends buf address r sent t) where
   -- the call's promise, from what the answer says of each writing
-  sends-so : (c n : ℕ) → ((o : Out (List ℕ)) → sent ≡ sentOf o → (c ≡ codeOf o) × (n ≡ stands (also length o) size)) → SentenceWrites buf size address r′ c t n
+  sends-so : (c n : ℕ) → ((o : Out (List ℕ)) → sent ≡ sentOf o → (c ≡ codeOf o) × (n ≡ leaves (also length o) size)) → SentenceWrites buf size address r′ c t n
   sends-so c n f =
       let x = f (sentenceInto buf address r) (sends .0) in
       subst (λ (r : Report). SentenceWrites buf size address r c t n) told (x .0, sends .1, x .1)
@@ -44,13 +44,13 @@ module _ (buf : List ℕ) (size address : ℕ) {r r′ : Report} (told : r ≡ r
   pub sent-bytes : (n : ℕ) → sent ≡ Bytes n → SentenceWrites buf size address r′ 0 t n
   sent-bytes n e = sends-so 0 n go
     where
-      go : (o : Out (List ℕ)) → sent ≡ sentOf o → (0 ≡ codeOf o) × (n ≡ stands (also length o) size)
+      go : (o : Out (List ℕ)) → sent ≡ sentOf o → (0 ≡ codeOf o) × (n ≡ leaves (also length o) size)
       go (accepted u) x = (refl, cc)
       go (refused c p) x = let z : _≡_ {A = ℕ} 0 1 = cc in absurd (omega arith)
 
   pub unsent : (c : ℕ) → sent ≡ Unsent c → SentenceWrites buf size address r′ c t size
   unsent c e = sends-so c size go
     where
-      go : (o : Out (List ℕ)) → sent ≡ sentOf o → (c ≡ codeOf o) × (size ≡ stands (also length o) size)
+      go : (o : Out (List ℕ)) → sent ≡ sentOf o → (c ≡ codeOf o) × (size ≡ leaves (also length o) size)
       go (accepted u) x = let z : _≡_ {A = ℕ} 0 1 = cc in absurd (omega arith)
       go (refused d p) x = (cc, refl)
