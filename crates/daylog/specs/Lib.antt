@@ -3,4 +3,5 @@ pub mod Text
 pub mod Log
 pub mod Promises
 pub mod Run
+mod Examples
 pub mod laws

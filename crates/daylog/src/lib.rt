@@ -74,7 +74,7 @@ pub fn list(s: &[u8], number: u64, out: &mut [u8]) -> Listed
         let end = HEAD + size;
         made = entry(out, made, n, kind, &rest[HEAD..end]);
         used += end;
-        // A log of 2^64 records does not come; the number after the last one is 0.
+        // A log of 2^64 records does not come; the numbers would go on from 0.
         n = std::num::wrapping_add_u64(n, 1);
     }
     Listed {
