@@ -1,3 +1,4 @@
+-- `correct` is the correction in place of every layout, with the report's walk before and behind the change.
 use mathlib.Core.Path.{refl}
 use Rattle.layout.specs.laws.Correcting.{correct-early, correct-late}
 use Rattle.distress.specs.Report.{reports}

@@ -1,3 +1,4 @@
+-- `fields` walks the report as its layout stands: one step a field, then the record is that of the values.
 use mathlib.Core.Path.{refl, sym, ap, _∙_}
 use Prim.Native.Nat.{_≤_, _<_, _^_}
 use mathlib.Core.List.{[], _∷_}

@@ -1,3 +1,4 @@
+-- `read` is the walk behind the first tests: its refusal, or the record of its values.
 use mathlib.Core.Path.{refl, sym, ap, _∙_}
 use Rattle.layout.specs.laws.Walked.{read-walked}
 use Rattle.layout.specs.laws.Step.{stuck, clear}

@@ -1,3 +1,4 @@
+-- `settle` puts the old bits back where there is a refusal, by what a put leaves.
 use mathlib.Core.Path.{refl, sym}
 use Rattle.layout.specs.Correcting.{put-in}
 use borrow.Author.Tests.{eq-eqb, ne-eqb}

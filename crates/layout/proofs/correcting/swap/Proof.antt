@@ -1,3 +1,4 @@
+-- `swap` gives what was read and leaves what a put leaves.
 use Rattle.layout.specs.Correcting.{put-in}
 use borrow.Author.Needs.{needs}
 use Rattle.layout.proofs.correcting.swap.Statement.{statement}

@@ -1,3 +1,4 @@
+-- `inside` goes by its two tests.
 use borrow.Author.Tests.{lt-leb, le-leb}
 use Rattle.layout.proofs.reading.inside.Statement.{statement}
 use Rattle.layout.proofs.reading.inside.Tie as tie

@@ -1,3 +1,4 @@
+-- `range` tests whether the field is there, then its limits.
 use mathlib.Core.Bool.{cond, _&&_}
 use Prim.Native.Nat.{ℕ}
 use lib.Dec.{leb}

@@ -1,3 +1,4 @@
+-- `sign` goes by its tests: to the top, from the bottom, none.
 use borrow.Author.Tests.{lt-leb, le-leb, eq-eqb, ne-eqb}
 use Rattle.layout.proofs.reading.sign.Statement.{statement}
 use Rattle.layout.proofs.reading.sign.Tie as tie

@@ -1,3 +1,4 @@
+-- `signs` tests whether the field is there, then its sign and size.
 use mathlib.Core.Bool.{cond, _||_}
 use Prim.Native.Nat.{ℕ}
 use lib.Dec.{leb, eqb}

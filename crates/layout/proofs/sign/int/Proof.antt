@@ -1,3 +1,4 @@
+-- `int` is the number that the bits spell: what the machine's 32 bits give at each way out.
 use Prim.Native.Nat.{_-_, _/_}
 use native.Mathlib.Omega.{arith}
 use borrow.Author.Tests.{le-leb, lt-leb, lt-ltb, le-ltb}

@@ -1,3 +1,4 @@
+-- `magnitude` is the number without its sign, which 32 bits hold.
 use Rattle.layout.proofs.Ints.{take-up, take-up-fits, add-fits, sub-fits, take-down, take-down-fits}
 use Rattle.layout.proofs.sign.magnitude.Statement.{statement}
 use Rattle.layout.proofs.sign.magnitude.Tie as tie

@@ -1,3 +1,4 @@
+-- `spelled` goes by the size and the sign of the number.
 use mathlib.Core.Path.{_≡_, sym, ap, _∙_}
 use Prim.Native.Nat.{ℕ, _-_}
 use native.Mathlib.Omega.{arith}

@@ -1,3 +1,4 @@
+-- `admits` goes by its tests: an earlier refusal, no field that may be corrected, a value too wide.
 use Prim.Native.Nat.{_^_, _<_}
 use native.Mathlib.Nat.{lt-of-lt-of-le}
 use lib.Pow.{pow-mono}

@@ -1,3 +1,4 @@
+-- `group` has the refusal of its parts, and all else from one step over the whole field.
 use mathlib.Core.Bool.{true}
 use mathlib.Core.Path.{ap, _∙_}
 use Rattle.layout.specs.Reading.{grouped}

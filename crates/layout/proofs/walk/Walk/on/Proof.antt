@@ -1,3 +1,4 @@
+-- `on` makes each entry of the walk by one of the small tests.
 use mathlib.Core.Bool.{true, false, cond, _&&_}
 use mathlib.Core.Path.{ap, ap₂, _∙_}
 use Rattle.layout.specs.Walk.{onward}

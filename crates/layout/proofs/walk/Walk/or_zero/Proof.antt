@@ -1,3 +1,4 @@
+-- `or_zero` goes by its tests: the field is there and zero, or the parts decide.
 use mathlib.Core.Bool.{Bool, cond, _&&_}
 use mathlib.Core.Path.{sym, ap, ap₂, _∙_}
 use lib.Dec.{eqb}

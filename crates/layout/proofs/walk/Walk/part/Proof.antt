@@ -1,3 +1,4 @@
+-- `part` moves the place and keeps the first refusal; all else of the walk stays.
 use mathlib.Core.Bool.{cond}
 use mathlib.Core.Path.{ap, ap₂, _∙_}
 use Rattle.layout.specs.Reading.{parted}

@@ -1,3 +1,4 @@
+-- `signed` is one step, with the bits' value and the fault of their sign and size.
 use mathlib.Core.Bool.{true}
 use mathlib.Core.Path.{ap, ap₂, _∙_}
 use Rattle.layout.specs.Walk.{onward}
