@@ -31,6 +31,25 @@ unfolding sameBytes
 same-refl [] = refl
 same-refl (c ∷ s) = rw (eq-eqb c c refl) (same-refl s)
 
+-- the ways out of the first tests
+module _ (s : List ℕ) where
+  pub lead-short : length s < 54 → leadOf s ≡ 1
+  unfolding leadOf
+  lead-short h = rw (lt-leb 54 (length s) h) refl
+
+  pub lead-long : 60 < length s → leadOf s ≡ 1
+  unfolding leadOf
+  lead-long h = rw (lt-leb (length s) 60 h, and-false (leb 54 (length s))) refl
+
+  module _ (l : 54 ≤ length s) (m : length s ≤ 60) where
+    pub lead-start : sameBytes (take 7 s) startMark ≡ false → leadOf s ≡ 2
+    unfolding leadOf
+    lead-start e = rw (le-leb 54 (length s) l, le-leb (length s) 60 m, e) refl
+
+    pub lead-sum : sameBytes (take 7 s) startMark ≡ true → {z : Bool} → sameBytes (lastFive s) (closingOf (xorOf (summed s))) ≡ z → leadOf s ≡ cond z 0 3
+    unfolding leadOf
+    lead-sum e f = rw (le-leb 54 (length s) l, le-leb (length s) 60 m, e, f) refl
+
 -- what the first tests show where they pass
 pub record Led (s : List ℕ) : Type 0 where
   pub least : 54 ≤ length s
@@ -63,25 +82,6 @@ leads s l =
     let t = closingOf (xorOf (summed s)) in
     let y : sameBytes (lastFive s) t ≡ true = ap (λ u. sameBytes u t) (l .ends) ∙ same-refl t in
     rw (le-leb 54 (length s) (l .least), le-leb (length s) 60 (l .most), x, y) refl
-
--- the ways out of the first tests
-module _ (s : List ℕ) where
-  pub lead-short : length s < 54 → leadOf s ≡ 1
-  unfolding leadOf
-  lead-short h = rw (lt-leb 54 (length s) h) refl
-
-  pub lead-long : 60 < length s → leadOf s ≡ 1
-  unfolding leadOf
-  lead-long h = rw (lt-leb (length s) 60 h, and-false (leb 54 (length s))) refl
-
-  module _ (l : 54 ≤ length s) (m : length s ≤ 60) where
-    pub lead-start : sameBytes (take 7 s) startMark ≡ false → leadOf s ≡ 2
-    unfolding leadOf
-    lead-start e = rw (le-leb 54 (length s) l, le-leb (length s) 60 m, e) refl
-
-    pub lead-sum : sameBytes (take 7 s) startMark ≡ true → {z : Bool} → sameBytes (lastFive s) (closingOf (xorOf (summed s))) ≡ z → leadOf s ≡ cond z 0 3
-    unfolding leadOf
-    lead-sum e f = rw (le-leb 54 (length s) l, le-leb (length s) 60 m, e, f) refl
 
 pub around-led : (s : List ℕ) (code : ℕ) → code ≡ leadOf s → (code ≡ 0 → ⊥) → aroundSo s ≡ refused code 0
 unfolding aroundSo
