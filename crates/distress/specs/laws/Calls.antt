@@ -1,6 +1,6 @@
 -- What the calls' steps say of the definitions: reading takes the accepted sentence apart, writing tests address, report and room. Assumes nothing.
 use mathlib.Core.Bool.{true, false}
-use mathlib.Core.List.{List, [], _++_, append-nil}
+use mathlib.Core.List.{List, _++_, append-nil}
 use mathlib.Core.Path.{_≡_, refl, sym, ap, _∙_, subst}
 use Prim.Native.Nat.{ℕ, _+_, _≤_, _<_}
 use native.Mathlib.Omega.{arith}
@@ -11,8 +11,8 @@ use Rattle.layout.specs.Fmt.{Out, accepted, refused, also}
 use Rattle.layout.specs.Message.{codeOf, leaves, into, readMessage, writeMessage, correctMessage}
 use Rattle.layout.specs.laws.First.{bytes-long}
 use Rattle.layout.specs.laws.Whole.{was, made, write-read-message}
-use Rattle.distress.specs.laws.Demands.{written-read, accepted-correction}
-use Rattle.distress.specs.Promises.{Reads, Writes}
+use Rattle.distress.specs.laws.Demands.{never-written, accepted-correction}
+use Rattle.distress.specs.Promises.{Writes}
 use Rattle.distress.specs.Report.{reports, valuesOf, reportOf, answerOf, plain}
 use Rattle.distress.specs.laws.Sound.{sound}
 use Rattle.distress.specs.Sentence.{Front, allDigits, decimal, unhexed, opening, summedUp, sentence, addressGood, hexPart, aroundSo, readSentence, writeSentence, roomFor, aroundOf, heardOf, sentOf, laidOver, Sends}
@@ -71,13 +71,6 @@ heard-inside s a bs e = rw e (go (readMessage reports bs))
     go (refused c p) = refl
 
 -- ---- the report's calls never answer 0 to refuse
-
-pub never-written : (r : Report) (p : ℕ) → writeMessage reports (valuesOf r) ≡ refused 0 p → ⊥
-unfolding readMessage reports
-never-written r p e =
-    let k : Reads [] (GoodReport r) = written-read [] r [] (ap (λ o. codeOf (into [] o)) (sym e), ap (λ o. leaves (into [] o) []) (sym e)) in
-    let z : _≡_ {A = ℕ} 0 1 = cc in
-    omega arith
 
 pub never-read : (s : List ℕ) (p : ℕ) → readMessage reports s ≡ refused 0 p → ⊥
 unfolding correctMessage

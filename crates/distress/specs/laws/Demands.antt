@@ -58,7 +58,7 @@ judged = (
   ),
 )
 
-never-written : (r : Report) (p : ℕ) → writeMessage reports (valuesOf r) ≡ refused 0 p → ⊥
+pub never-written : (r : Report) (p : ℕ) → writeMessage reports (valuesOf r) ≡ refused 0 p → ⊥
 unfolding reports report valuesOf
 never-written r p e = no-zero-message reports (valuesOf r) p judged tt e
 

@@ -11,11 +11,11 @@ use borrow.Author.Tests.{le-leb, leb-true}
 use Rattle.bits.specs.Bits.{Bytes}
 use Rattle.layout.specs.Fmt.{Out, accepted, refused, orBad, check, also}
 use Rattle.layout.specs.Message.{codeOf, leaves, into, readMessage, writeMessage}
-use Rattle.distress.specs.laws.Demands.{written-read, read-written}
+use Rattle.distress.specs.laws.Demands.{never-written, written-read, read-written}
 use Rattle.distress.specs.Promises.{Reads}
 use Rattle.distress.specs.Report.{reports, valuesOf, answerOf}
 use Rattle.distress.specs.Sentence.{sentence, addressGood, aroundSo, readSentence, writeSentence, roomFor, heardOf, sentOf, laidOver, Hears, Sends}
-use Rattle.distress.specs.laws.Calls.{heard-fails, heardAs, heard-inside, never-written, never-read, bytewise, reported, all-sent}
+use Rattle.distress.specs.laws.Calls.{heard-fails, heardAs, heard-inside, never-read, bytewise, reported, all-sent}
 use Rattle.distress.specs.laws.Digits.{both}
 use Rattle.distress.specs.laws.Parts.{sentenced, sentence-accepted}
 use Rattle.distress.specs.laws.Tests.{never-around}
