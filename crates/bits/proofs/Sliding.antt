@@ -2,7 +2,7 @@
 use mathlib.Core.List.{List, [], _∷_, _++_, append-assoc}
 use mathlib.Core.Path.{_≡_, sym, ap, _∙_}
 use Prim.Native.Nat.{ℕ, zero, suc, _+_, _*_, _-_, _/_, _%_, _^_, _≤_, _<_}
-use native.Mathlib.Nat.{div-add-mod', add-zero, mod-eq-of-lt}
+use native.Mathlib.Nat.{add-zero, mod-eq-of-lt}
 use native.Mathlib.Omega.{arith}
 use lib.Arith.{digits-div}
 use lib.ListN.{length, take, drop, getD, set, length-append, take-append-drop}
@@ -29,10 +29,6 @@ byte-pair s k zero bytes h fits =
 byte-pair s k (suc j) bytes h fits =
     let e : (suc j + 7) / 8 ≡ 1 = omega arith in
     rw (e, ← value-pair s k bytes (omega arith)) (field-window s k 2 (suc j) 8 (8 - suc j) (omega arith) (omega arith))
-
-pub byte-is : (s : List ℕ) (at : ℕ) → Bytes s → at + 8 ≤ length s * 8
-    → (getD s (at / 8) 0 * 256 + getD s (at / 8 + (at % 8 + 7) / 8) 0) / 2 ^ (8 - at % 8) % 256 ≡ fieldAt s at 8
-byte-is s at bytes fits = sym (byte-pair s (at / 8) (at % 8) bytes (omega arith) (omega arith)) ∙ rw (div-add-mod' at 8)
 
 -- ---- the run so far
 
