@@ -1,0 +1,89 @@
+//! Prints what a message costs by the proved code and by the independent program.
+//!
+//! `bench count ROW proved|paper ROUNDS` works through one row and prints nothing: the benchmark runs itself so, under
+//! valgrind, once for some rounds and once for more. The difference is what the rounds cost, whatever came before.
+
+use bellnewt::bench::{rows, Row, MESSAGES};
+use std::process::Command;
+use std::time::Instant;
+
+const TIMED_ROUNDS: usize = 200;
+const COUNTED_ROUNDS: [usize; 2] = [1, 3];
+
+fn main() {
+    let words: Vec<String> = std::env::args().skip(1).collect();
+    match words.iter().map(String::as_str).collect::<Vec<_>>()[..] {
+        [] => table(),
+        ["count", row, side, rounds] => count(row, side, rounds.parse().expect("rounds")),
+        _ => panic!("bench, or bench count ROW proved|paper ROUNDS"),
+    }
+}
+
+fn count(name: &str, side: &str, rounds: usize) {
+    let row = rows().into_iter().find(|row| row.name == name).expect("a row of the table");
+    let mut round = if side == "proved" { row.proved } else { row.paper };
+    (0..rounds).for_each(|_| round());
+}
+
+fn table() {
+    println!("{:<20}{:>30}{:>30}", "", "ns a message", "instructions a message");
+    let heads = ["proved", "paper", "ratio"];
+    print!("{:<20}", "call");
+    heads.iter().chain(&heads).for_each(|head| print!("{head:>10}"));
+    println!();
+    for mut row in rows() {
+        print!("{:<20}", row.name);
+        print_pair(Some(times(&mut row)));
+        print_pair(instructions(row.name));
+        println!();
+    }
+    println!("{MESSAGES} good messages a row; ns: best of {TIMED_ROUNDS} rounds, the two programs in turn.");
+    println!("instructions: by valgrind; '-' where it is missing.");
+    println!("The library's calls can't be inlined, so the independent program's are not either (inline(never)).");
+    if cfg!(not(target_arch = "x86_64")) {
+        println!("This machine is no x86-64: both were compiled for it, the library as rust/native says.");
+    }
+}
+
+fn print_pair(pair: Option<[f64; 2]>) {
+    match pair {
+        Some([proved, paper]) => print!("{proved:>10.1}{paper:>10.1}{:>10.2}", proved / paper),
+        None => print!("{:>10}{:>10}{:>10}", "-", "-", "-"),
+    }
+}
+
+/// Nanoseconds a message, proved and paper.
+fn times(row: &mut Row) -> [f64; 2] {
+    let mut best = [f64::INFINITY; 2];
+    for _ in 0..TIMED_ROUNDS {
+        for (best, round) in best.iter_mut().zip([&mut row.proved, &mut row.paper]) {
+            let start = Instant::now();
+            round();
+            *best = best.min(start.elapsed().as_nanos() as f64 / MESSAGES as f64);
+        }
+    }
+    best
+}
+
+/// Instructions a message, proved and paper, where valgrind is there to count them.
+fn instructions(row: &str) -> Option<[f64; 2]> {
+    Some([instructions_of(row, "proved")?, instructions_of(row, "paper")?])
+}
+
+fn instructions_of(row: &str, side: &str) -> Option<f64> {
+    let [few, many] = COUNTED_ROUNDS;
+    let extra = collected(row, side, many)? - collected(row, side, few)?;
+    Some(extra / ((many - few) * MESSAGES) as f64)
+}
+
+/// All instructions of a run, as callgrind says in a line `Collected : N`.
+fn collected(row: &str, side: &str, rounds: usize) -> Option<f64> {
+    let output = Command::new("valgrind")
+        .args(["--tool=callgrind", "--callgrind-out-file=/dev/null"])
+        .arg(std::env::current_exe().ok()?)
+        .args(["count", row, side, &rounds.to_string()])
+        .output()
+        .ok()?;
+    let said = String::from_utf8_lossy(&output.stderr);
+    said.lines().find_map(|line| line.split_once("Collected : ")?.1.trim().parse().ok())
+}

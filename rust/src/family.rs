@@ -1,0 +1,17 @@
+//! The families that are compared. A new one is a module here, with one each in `relay`, `paper` and `inputs`.
+
+pub mod distress;
+
+use crate::harness::{self, Options, Tally};
+
+/// The answers of the compiled, proved code.
+pub struct Proved;
+
+/// The answers of the independent program. Its calls are never inlined, since those of the library can't be.
+pub struct Paper;
+
+/// Runs every family.
+pub fn run(options: &Options, tally: &mut Tally) {
+    harness::print_head();
+    harness::run::<distress::Distress>(options, tally);
+}

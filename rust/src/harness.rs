@@ -1,0 +1,209 @@
+//! What every comparison shares: guarded memory, a family's run over seeded inputs, and the count of checks.
+
+use crate::inputs::Random;
+use std::fmt::{Debug, Display};
+use std::thread;
+
+/// A part that a call is lent, inside a larger allocation whose cells on both sides must stay as they are.
+#[derive(Clone, PartialEq, Debug)]
+pub struct Guarded<T> {
+    cells: Vec<T>,
+    start: usize,
+    end: usize,
+}
+
+impl<T> Guarded<T> {
+    /// Guards a part. The front guard's length varies, so that the part starts at every alignment.
+    pub fn new(random: &mut Random, part: Vec<T>, cell: fn(&mut Random) -> T) -> Guarded<T> {
+        let start = 16 + random.below(8);
+        let end = start + part.len();
+        let mut cells: Vec<T> = (0..start).map(|_| cell(random)).collect();
+        cells.extend(part);
+        cells.extend((0..24).map(|_| cell(random)));
+        Guarded { cells, start, end }
+    }
+
+    pub fn part(&mut self) -> &mut [T] {
+        &mut self.cells[self.start..self.end]
+    }
+}
+
+/// Options of a run: every input follows from the seed.
+#[derive(Clone, Copy)]
+pub struct Options {
+    pub seed: u64,
+    /// How many inputs each family is given.
+    pub inputs: u64,
+}
+
+impl Options {
+    pub const DEFAULT: Options = Options { seed: 1, inputs: 2_000_000 };
+
+    /// How often each number that a call can give must be met: a thousand times, or in proportion in a shorter run.
+    fn floor(&self) -> u64 {
+        (self.inputs / 1_000).min(1_000)
+    }
+}
+
+/// A call's name, and the numbers that it can give besides 0.
+pub struct Call {
+    pub name: &'static str,
+    pub refusals: &'static [u8],
+}
+
+impl Call {
+    fn gives(&self, number: usize) -> bool {
+        number == 0 || self.refusals.iter().any(|refusal| usize::from(*refusal) == number)
+    }
+}
+
+/// A family of messages: its calls, and the two programs that answer them.
+pub trait Family {
+    const NAME: &'static str;
+    const CALLS: &'static [Call];
+    /// A call's own numbers.
+    type Input: Debug;
+    /// All memory that a call is lent, guards included.
+    type Lent: Clone + PartialEq + Debug;
+
+    fn input(call: usize, random: &mut Random) -> (Self::Input, Self::Lent);
+    fn proved(input: &Self::Input, lent: &mut Self::Lent) -> u8;
+    fn paper(input: &Self::Input, lent: &mut Self::Lent) -> u8;
+}
+
+/// 0 and the eleven refusals.
+const NUMBERS: usize = 12;
+/// Two cores, shared with others.
+const WORKERS: u64 = 2;
+/// How many differing inputs are shown in full.
+const SHOWN: usize = 3;
+
+/// How often a call answered each number, and on how many inputs the programs differ.
+#[derive(Clone, Default)]
+struct Met {
+    numbers: [u64; NUMBERS],
+    differing: u64,
+}
+
+/// What a run met, by call, and the first inputs that differ.
+struct Counts {
+    met: Vec<Met>,
+    shown: Vec<String>,
+}
+
+impl Counts {
+    fn new<F: Family>() -> Counts {
+        Counts { met: vec![Met::default(); F::CALLS.len()], shown: Vec::new() }
+    }
+
+    fn add(&mut self, other: Counts) {
+        for (ours, theirs) in self.met.iter_mut().zip(other.met) {
+            ours.differing += theirs.differing;
+            for (count, more) in ours.numbers.iter_mut().zip(theirs.numbers) {
+                *count += more;
+            }
+        }
+        self.shown.extend(other.shown);
+    }
+
+    /// Gives both programs one input and compares the number, and every lent cell with its guards.
+    fn compare<F: Family>(&mut self, seed: u64, index: u64) {
+        let call = index as usize % F::CALLS.len();
+        let (input, before) = F::input(call, &mut Random::new(seed, F::NAME, index));
+        let (mut proved, mut paper) = (before.clone(), before.clone());
+        let code = F::proved(&input, &mut proved);
+        let due = F::paper(&input, &mut paper);
+        self.met[call].numbers[usize::from(due)] += 1;
+
+        // Only 9 gives something beside its number.
+        let kept = code == 0 || code == 9 || proved == before;
+        if code == due && proved == paper && kept {
+            return;
+        }
+        self.met[call].differing += 1;
+        if self.shown.len() < SHOWN {
+            let name = F::CALLS[call].name;
+            self.shown.push(format!(
+                "{} {name}, seed {seed}, input {index}: {input:?}\n  lent   {before:?}\n  \
+                 proved {code} {proved:?}\n  due    {due} {paper:?}",
+                F::NAME,
+            ));
+        }
+    }
+}
+
+/// Runs a family's inputs, prints what was met, and counts its checks.
+pub fn run<F: Family>(options: &Options, tally: &mut Tally) {
+    let work = |first: u64| {
+        let mut counts = Counts::new::<F>();
+        for index in (first..options.inputs).step_by(WORKERS as usize) {
+            counts.compare::<F>(options.seed, index);
+        }
+        counts
+    };
+    let mut counts = Counts::new::<F>();
+    thread::scope(|scope| {
+        let workers: Vec<_> = (0..WORKERS).map(|first| scope.spawn(move || work(first))).collect();
+        for worker in workers {
+            counts.add(worker.join().expect("a worker ends"));
+        }
+    });
+    counts.shown.iter().take(SHOWN).for_each(|shown| println!("{shown}"));
+    for (call, met) in F::CALLS.iter().zip(&counts.met) {
+        print_met(F::NAME, call, met);
+        judge(&format!("{} {}", F::NAME, call.name), call, met, options.floor(), tally);
+    }
+}
+
+/// The head of the lines that `run` prints.
+pub fn print_head() {
+    print!("{:<10}{:<16}", "family", "call");
+    (0..NUMBERS).for_each(|number| print!("{number:>9}"));
+    println!();
+}
+
+fn print_met(family: &str, call: &Call, met: &Met) {
+    print!("{family:<10}{:<16}", call.name);
+    for (number, count) in met.numbers.iter().enumerate() {
+        if call.gives(number) || *count > 0 {
+            print!("{count:>9}");
+        } else {
+            print!("{:>9}", "-");
+        }
+    }
+    println!();
+}
+
+/// A call's checks: no input differs, every number that it can give is met often enough, and no other is met.
+fn judge(name: &str, call: &Call, met: &Met, floor: u64, tally: &mut Tally) {
+    tally.check(met.differing == 0, format_args!("{name}: {} inputs differ", met.differing));
+    let (given, others): (Vec<_>, Vec<_>) = met.numbers.iter().enumerate().partition(|(number, _)| call.gives(*number));
+    for (number, count) in given {
+        tally.check(*count >= floor, format_args!("{name}: {number} met {count} times, {floor} due"));
+    }
+    let others: u64 = others.iter().map(|(_, count)| *count).sum();
+    tally.check(others == 0, format_args!("{name}: {others} times a number that it can't give"));
+}
+
+/// The checks so far. One that fails is printed.
+#[derive(Default)]
+pub struct Tally {
+    pub passed: u32,
+    pub failed: u32,
+}
+
+impl Tally {
+    pub fn check(&mut self, holds: bool, failure: impl Display) {
+        if holds {
+            self.passed += 1;
+        } else {
+            self.failed += 1;
+            println!("FAILED: {failure}");
+        }
+    }
+
+    /// Checks that two values are equal, and shows both where they are not.
+    pub fn same<T: PartialEq + Debug>(&mut self, name: &str, found: T, due: T) {
+        self.check(found == due, format_args!("{name}: {found:?}, due {due:?}"));
+    }
+}

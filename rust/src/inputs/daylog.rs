@@ -1,0 +1,61 @@
+//! Day logs, good and damaged.
+
+use super::{distress, Random};
+
+const GREATEST: usize = 256;
+const HEAD: usize = 4;
+
+/// A record of any kind around a body.
+pub fn record(kind: u16, body: &[u8]) -> Vec<u8> {
+    let length = (HEAD + body.len()) as u16;
+    [&length.to_le_bytes(), &kind.to_le_bytes(), body].concat()
+}
+
+/// A record whose length is good: a body of its kind, or any bytes.
+fn good_record(random: &mut Random) -> Vec<u8> {
+    let kind = match random.below(8) {
+        0 => random.word() as u16,
+        1 => random.below(8) as u16,
+        // The kinds' low byte with a high byte that isn't zero: no kind at all.
+        2 => random.below(8) as u16 | 1 << (8 + random.below(8)),
+        _ => 3,
+    };
+    let mut body = match random.below(8) {
+        0 => {
+            let size = random.below(GREATEST - HEAD + 1);
+            random.bytes(size)
+        }
+        1 => Vec::new(),
+        _ => distress::message(random),
+    };
+    body.truncate(GREATEST - HEAD);
+    record(kind, &body)
+}
+
+/// A log of so many good records.
+pub fn good_log(random: &mut Random, records: usize) -> Vec<u8> {
+    (0..records).flat_map(|_| good_record(random)).collect()
+}
+
+/// A log of a few records that may end in a broken one: a bad length, a cut, or a few bytes.
+pub fn log(random: &mut Random) -> Vec<u8> {
+    let records = random.below(40);
+    let mut log = good_log(random, records);
+    match random.below(6) {
+        0 => {
+            let mut bad = good_record(random);
+            let length = random.pick(&[0, 1, 2, 3, 257, 258, 0x0400, 0x1500, 0xFFFF]);
+            bad[..2].copy_from_slice(&u16::to_le_bytes(length));
+            log.extend(bad);
+            log.extend(good_log(random, 3));
+        }
+        1 => log.truncate(random.below(log.len() + 1)),
+        2 => {
+            let left = 1 + random.below(3);
+            log.extend(random.bytes(left));
+        }
+        3 => log.extend(record(3, &[0; GREATEST - HEAD])),
+        _ => (),
+    }
+    log
+}
