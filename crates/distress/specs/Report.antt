@@ -4,6 +4,7 @@ use mathlib.Core.Path.{_≡_, refl}
 use mathlib.Core.Bool.{false}
 use mathlib.Core.List.{List, [], _∷_}
 use lib.Dec.{eqb, lit≤}
+use lib.IntN.{pos}
 use lib.ListN.{length, getD}
 use Rattle.bits.specs.Bits.{fieldAt}
 use Rattle.layout.specs.Fmt.{Out, accepted, refused, Fmt, end}
@@ -75,6 +76,9 @@ reportOf vs = record {
   course = getD vs 8 0;
   kind = getD vs 9 0;
 }
+
+abbrev pub blank : Report
+blank = record { mmsi = 0; longitude = pos 0; latitude = pos 0; day = 0; hour = 0; minute = 0; speed = 0; course = 0; kind = 0 }
 
 -- the paper's number and values
 abbrev pub answerOf : Out (List ℕ) → Answer

@@ -1,11 +1,13 @@
 // The distress report (paper 01, "Distress report"; 001, A.1).
 ghost use mathlib.Core.Path.{_≡_};
 ghost use mathlib.Core.List.{[]};
-ghost use Rattle.distress.specs.Report.{reports, report, valuesOf, reportOf, listOf};
+ghost use lib.ListN.{length};
+ghost use Rattle.distress.specs.Report.{reports, report, valuesOf, reportOf, listOf, blank};
 ghost use Rattle.distress.specs.Promises.{Reads, Writes, Corrects};
 ghost use Rattle.bits.specs.Bits.{bitsOf};
 ghost use Rattle.layout.specs.Fmt.{check, read, write};
 ghost use Rattle.layout.specs.Message.{fault};
+ghost use Rattle.layout.specs.Walk.{begun};
 ghost use Rattle.layout.specs.laws.Walked.{Walked};
 ghost use Rattle.layout.specs.laws.Judging.{Judged};
 ghost use Rattle.layout.specs.laws.Putting.{Puts};
@@ -141,11 +143,16 @@ fn lead(s: &[u8]) -> u8
     0
 }
 
-// The fields in bit order, after the first tests' answer, and where field number `want` stands.
+// The fields in bit order, after the first tests' answer, and where field number `want` stands. Once the size is known
+// here, no field has to be tested for it.
 fn fields(s: &[u8], lead: u8, want: usize) -> Whole
+    requires { ⌜ (lead ≡ 0 → length (now s) ≡ 17) ⌝ }
     ensures { λ r. ⌜ Walked (check (fault lead) 0 (read report [] 0 (bitsOf (now (s .entry))))) report want (valuesOf (r .report)) (r .walk)
         × (reportOf (valuesOf (r .report)) ≡ r .report) ⌝ }
 {
+    if s.len() != Report::LEAST {
+        return unread(lead, want);
+    }
     let w = layout::walk::Walk::begin(lead, want);
     let w = w.code(s, 16, CODE);
     let w = w.num(s, 32, 0, 999_999_999);
@@ -178,6 +185,25 @@ fn fields(s: &[u8], lead: u8, want: usize) -> Whole
         speed,
         course,
         kind,
+    };
+    Whole { walk, report }
+}
+
+// Of a message that the first tests refused.
+fn unread(lead: u8, want: usize) -> Whole
+    ensures { λ r. ⌜ (r .walk ≡ begun lead want) × (r .report ≡ blank) ⌝ }
+{
+    let walk = layout::walk::Walk::begin(lead, want);
+    let report = Report {
+        mmsi: 0,
+        longitude: 0,
+        latitude: 0,
+        day: 0,
+        hour: 0,
+        minute: 0,
+        speed: 0,
+        course: 0,
+        kind: 0,
     };
     Whole { walk, report }
 }

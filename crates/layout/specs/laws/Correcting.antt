@@ -21,6 +21,14 @@ use Rattle.layout.specs.laws.Walked.{Walked, read-walked}
 use Rattle.layout.specs.laws.Whole.{was, spot-fits, filled, whole-again, correct-narrow, correct-wide}
 use Rattle.layout.specs.declared.walk.Walk.{Walk}
 
+-- a correction that goes on is of a message that was read
+pub admitted-clean : (r : Walk) (v : ℕ) → admitted r v ≡ 0 → r .code ≡ 0
+admitted-clean r v = go (eqb (r .code) 0) refl
+  where
+    go : (x : Bool) → eqb (r .code) 0 ≡ x → cond x (cond (eqb (r .width) 0) 10 (cond (ltb v (2 ^ r .width)) 0 4)) (r .code) ≡ 0 → r .code ≡ 0
+    go true e z = eqb-true (r .code) 0 e
+    go false e z = z
+
 module _ (l : Layout) (ok : Sound l) (s : List ℕ) (i v : ℕ) {c : ℕ} {vs : List ℕ} {r : Walk} (tests : c ≡ first l s)
     (was-read : Walked (check (fault c) 0 (read (l .fmt) [] 0 (bitsOf (body (l .seal) s)))) (l .fmt) i vs r) where
   reads : readMessage l s ≡ sticky r (accepted vs)

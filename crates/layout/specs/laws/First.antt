@@ -2,16 +2,17 @@
 use mathlib.Core.Path.{_≡_, refl, sym, ap, _∙_}
 use mathlib.Core.Bool.{Bool, true, false, cond, _&&_}
 use mathlib.Core.List.{List, []}
-use Prim.Native.Nat.{ℕ, suc}
+use Prim.Native.Nat.{ℕ, suc, _≤_}
 use native.Mathlib.Nat.{le-refl}
 use native.Mathlib.Omega.{arith}
 use lib.Dec.{leb}
 use lib.ListN.{length, take}
 use lib.Seq.{take-take}
+use borrow.Author.Tests.{leb-true}
 use Rattle.bits.specs.Bits.{valueOf, bitsOf, fieldAt}
 use Rattle.bits.specs.laws.Bytes.{length-bits}
 use Rattle.layout.specs.Fmt.{accepted, good, Fmt, field, readField, read}
-use Rattle.layout.specs.Message.{Layout}
+use Rattle.layout.specs.Message.{Layout, led, between}
 use Rattle.layout.specs.Words.{_‥_, orElse, unless, walk, only}
 use Rattle.layout.specs.laws.Flat.{Plain, span-laid}
 use Rattle.layout.specs.laws.Reading.{only-one}
@@ -38,3 +39,14 @@ pub bytes-long : (l : Layout) {n : ℕ} (x : Plain l n) (s vs : List ℕ) → re
 bytes-long l x s vs e =
     let k = span-laid (l .fmt) [] 0 vs (bitsOf s) (x .even) (read-write (l .fmt) [] 0 vs (bitsOf s) e) ∙ x .spans in
     omega (arith, k, length-bits s)
+
+-- first tests that pass have tested the sizes
+pub led-between : (m lo hi : ℕ) (k : List ℕ → Bool) (s : List ℕ) → led m k (λ s. between lo hi (length s)) s ≡ 0 → (lo ≤ length s) × (length s ≤ hi)
+led-between m lo hi k s e = go (leb m (length s)) (k s) (leb lo (length s)) (leb (length s) hi) refl refl e
+  where
+    go : (w x y z : Bool) → leb lo (length s) ≡ y → leb (length s) hi ≡ z → _≡_ {A = ℕ} (cond w (cond x (cond (y && z) 0 1) 2) 1) 0 → (lo ≤ length s) × (length s ≤ hi)
+    go true true true true ey ez e = (leb-true lo (length s) ey, leb-true (length s) hi ez)
+    go true true true false ey ez e = absurd (omega (arith, e))
+    go true true false z ey ez e = absurd (omega (arith, e))
+    go true false y z ey ez e = absurd (omega (arith, e))
+    go false x y z ey ez e = absurd (omega (arith, e))

@@ -16,7 +16,9 @@ use Rattle.bits.specs.laws.Bytes.{length-bits}
 use Rattle.layout.specs.Fmt.{Out, accepted, refused, orBad, check, Fmt, end, also, read, pad, spot}
 use Rattle.layout.specs.Message.{Layout, fault, body, sealFault, firstOf, first, readMessage}
 use Rattle.layout.specs.Reading.{closes, ended}
-use Rattle.layout.specs.laws.Step.{sticky, stood, sought, Reading, clean}
+use Rattle.layout.specs.Walk.{begun}
+use Rattle.layout.specs.laws.Round.{clash}
+use Rattle.layout.specs.laws.Step.{sticky, clear, stood, sought, Reading, clean}
 use Rattle.layout.specs.declared.walk.Walk.{Walk}
 
 -- The whole walk: its answer, and where the field i stood.
@@ -27,6 +29,19 @@ pub record Walked (o : Out (List ℕ)) (all : Fmt) (i : ℕ) (vs : List ℕ) (r 
 
 pub same-values : {o : Out (List ℕ)} {all : Fmt} {i : ℕ} {us vs : List ℕ} {r : Walk} → us ≡ vs → Walked o all i us r → Walked o all i vs r
 same-values {o} {all} {i} {r = r} e x = subst (λ vs. Walked o all i vs r) e x
+
+-- Where the first tests refused, nothing is walked.
+pub unwalked : {all : Fmt} {i : ℕ} {vs : List ℕ} {r : Walk} (o : Out (List ℕ)) (c : ℕ) → (c ≡ 0 → ⊥) → r ≡ begun c i → Walked (check (fault c) 0 o) all i vs r
+unwalked {all} {i} {vs} o c n d = subst⁻¹ (λ r. Walked (check (fault c) 0 o) all i vs r) d (record { so = go c n; spots = λ z. absurd (n z); slim = omega arith })
+  where
+    go : (c : ℕ) → (c ≡ 0 → ⊥) → check (fault c) 0 o ≡ sticky (begun c i) (accepted vs)
+    go zero n = absurd (n refl)
+    go (suc c) n = rw (ne-eqb (suc c) 0 n) refl
+
+-- A walk that refuses nothing had nothing refused before it.
+pub walked-clean : {all : Fmt} {i : ℕ} {vs : List ℕ} {r : Walk} (o : Out (List ℕ)) (c : ℕ) → Walked (check (fault c) 0 o) all i vs r → r .code ≡ 0 → c ≡ 0
+walked-clean o zero x z = refl
+walked-clean {vs = vs} {r} o (suc c) x z = clash (x .so ∙ clear r (accepted vs) z)
 
 -- fill bits up to a whole byte, and nothing behind them
 pub finish : {o : Out (List ℕ)} {all : Fmt} {i : ℕ} {s : List ℕ} {h : List ℕ} {at : ℕ} {k : List ℕ → List ℕ} {r q : Walk} → at + 8 < 2 ^ 64

@@ -1,8 +1,9 @@
 -- `correct` is the correction in place of every layout, with the report's walk before and behind the change.
-use mathlib.Core.Path.{refl}
-use Rattle.layout.specs.laws.Correcting.{correct-early, correct-late}
+use mathlib.Core.Path.{refl, sym, _∙_}
+use Rattle.layout.specs.laws.Correcting.{admitted-clean, correct-early, correct-late}
+use Rattle.layout.specs.laws.Walked.{walked-clean}
 use Rattle.distress.specs.Report.{reports}
-use Rattle.distress.specs.laws.Sound.{sound}
+use Rattle.distress.specs.laws.Sound.{sound, sized}
 use borrow.Author.Needs.{needs}
 use Rattle.distress.proofs.report.correct.Statement.{statement}
 use Rattle.distress.proofs.report.correct.Tie as tie
@@ -11,7 +12,9 @@ lead-requires : tie.Need-lead-requires
 lead-requires c κs = search needs
 
 fields-requires : tie.Need-fields-requires
-fields-requires c κs = search needs
+fields-requires c κs =
+    let s = c .before .before .before .args .buf .now in
+    λ z. sized s (sym (c .lead .ensures) ∙ z)
 
 admits-requires : tie.Need-admits-requires
 admits-requires c κs = search needs
@@ -30,7 +33,13 @@ swap-requires : tie.Need-swap-requires
 swap-requires c κs = search needs
 
 fields-requires-2 : tie.Need-fields-requires-2
-fields-requires-2 c κs = search needs
+fields-requires-2 c κs =
+    let swap = c .before .before .before in
+    let test = swap .before .before in
+    let f = test .before .before .before in
+    let a = f .before .before .before .before .args in
+    let clean = admitted-clean (f .fields .result .walk) (a .value) (sym (test .before .admits .ensures) ∙ test .if1 .left) in
+    λ z. swap .swap .kept .0 ∙ sized (a .buf .now) (sym (f .before .lead .ensures) ∙ walked-clean _ _ (f .fields .ensures .0) clean)
 
 settle-requires : tie.Need-settle-requires
 settle-requires c κs = search needs

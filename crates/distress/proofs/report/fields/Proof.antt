@@ -1,18 +1,33 @@
 -- `fields` walks the report as its layout stands: one step a field, then the record is that of the values.
-use mathlib.Core.Path.{refl, sym, ap, _∙_}
+use mathlib.Core.Path.{_≡_, refl, sym, ap, _∙_}
 use Prim.Native.Nat.{_≤_, _<_, _^_}
 use mathlib.Core.List.{[], _∷_}
 use lib.Dec.{lit<, lit≤}
 use Rattle.layout.specs.Sign.{spellOf}
 use Rattle.layout.specs.laws.Reading.{start, step-code, step-num, step-signed, step-fill}
-use Rattle.layout.specs.laws.Walked.{finish, same-values}
+use Rattle.bits.specs.Bits.{bitsOf}
+use Rattle.layout.specs.Fmt.{read}
+use Rattle.layout.specs.Sign.{intOf}
+use Rattle.layout.specs.laws.Walked.{unwalked, finish, same-values}
 use Rattle.layout.specs.laws.Sign.{spell-int}
 use mir.Syntax.{w32}
 use mir.ValLaws.{toZ-ofZ}
-use Rattle.distress.specs.Report.{report, valuesOf, again}
+use Rattle.distress.specs.Report.{report, valuesOf, reportOf, blank, again}
 use borrow.Author.Needs.{needs}
 use Rattle.distress.proofs.report.fields.Statement.{statement}
 use Rattle.distress.proofs.report.fields.Tie as tie
+
+unread-requires : tie.Need-unread-requires
+unread-requires c κs = search needs
+
+returns : tie.Need-returns
+unfolding valuesOf reportOf spellOf intOf
+returns c =
+    let i = c .before in
+    let a = i .before .before .args in
+    let n : a .lead ≡ 0 → ⊥ = λ z. i .if1 .taken (i .before .before .pre z) in
+    let e : c .unread .result .report ≡ blank = c .unread .ensures .1 in
+    (unwalked (read report [] 0 (bitsOf (a .s .now))) (a .lead) n (c .unread .ensures .0), rw e refl)
 
 begin-requires : tie.Need-begin-requires
 begin-requires c κs = search needs
@@ -80,9 +95,9 @@ fill-requires c κs = search needs
 end-requires : tie.Need-end-requires
 end-requires c κs = search needs
 
-returns : tie.Need-returns
+returns-2 : tie.Need-returns-2
 unfolding report valuesOf
-returns c =
+returns-2 c =
     let c12 = c .before in
     let c11 = c12 .before .before in
     let c10 = c11 .before .before in
@@ -97,7 +112,7 @@ returns c =
     let c1 = c2 .before .before in
     let c0 = c1 .before in
     let cs = c0 .before in
-    let a = cs .before .before .args in
+    let a = cs .before .before .before .args in
     let s = a .s .now in
     let r0 = start report (a .want) (a .lead) s (cs .begin .ensures) in
     let r1 = step-code 16 (lit< tt) (lit≤ tt) (lit< tt) 0xBDC1 r0 (c0 .code .ensures) in
@@ -120,6 +135,8 @@ pub fields-spec : {M : Type 1} → statement M
 fields-spec =
     tie.close
     (tie.spec
+    unread-requires
+    returns
     begin-requires
     code-requires
     num-requires
@@ -142,4 +159,4 @@ fields-spec =
     cast-kind
     fill-requires
     end-requires
-    returns)
+    returns-2)

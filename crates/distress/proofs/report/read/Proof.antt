@@ -2,6 +2,7 @@
 use mathlib.Core.Path.{refl, sym, ap, _∙_}
 use Rattle.layout.specs.laws.Walked.{read-walked}
 use Rattle.layout.specs.laws.Step.{stuck, clear}
+use Rattle.distress.specs.laws.Sound.{sized}
 use Rattle.distress.specs.Report.{reports, answerOf}
 use Rattle.distress.specs.declared.report.Answer.the-variants.{Good}
 use borrow.Author.Needs.{needs}
@@ -12,7 +13,9 @@ lead-requires : tie.Need-lead-requires
 lead-requires c κs = search needs
 
 fields-requires : tie.Need-fields-requires
-fields-requires c κs = search needs
+fields-requires c κs =
+    let s = c .before .before .args .s .now in
+    λ z. sized s (sym (c .lead .ensures) ∙ z)
 
 returns : tie.Need-returns
 unfolding reports
