@@ -1,4 +1,4 @@
-//! The families that are compared. A new one is a module here, with one each in `relay`, `paper` and `inputs`.
+//! The families that are compared. A new one is a module here, with one each in `relay`, `paper`, `inputs` and `bench`.
 
 pub mod distress;
 

@@ -84,7 +84,7 @@ fn longitude<C: Calls>(case: &str, longitude: i32, spelled: [u8; 4], due: u8, ta
     tally.same(&format!("{case} written"), (code, bytes), (due, or([0; Report::BYTES])));
 
     let mut bytes = EXAMPLE;
-    let code = C::correct(&mut bytes, 2, longitude as u64);
+    let code = C::correct(&mut bytes, Report::LONGITUDE, longitude as u64);
     tally.same(&format!("{case} corrected"), (code, bytes), (due, or(EXAMPLE)));
 }
 

@@ -60,6 +60,17 @@ impl Report {
     /// How many entries a report takes in a row.
     pub const ROW: usize = 9;
 
+    /// The numbers of the fields that can be corrected.
+    pub const MMSI: usize = 1;
+    pub const LONGITUDE: usize = 2;
+    pub const LATITUDE: usize = 3;
+    pub const DAY: usize = 4;
+    pub const HOUR: usize = 5;
+    pub const MINUTE: usize = 6;
+    pub const SPEED: usize = 7;
+    pub const COURSE: usize = 8;
+    pub const KIND: usize = 9;
+
     pub fn row(&self) -> [i64; Report::ROW] {
         [
             self.mmsi.into(),

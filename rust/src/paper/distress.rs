@@ -107,15 +107,15 @@ pub fn write(buf: &mut [u8], report: &Report) -> Result<(), Refusal> {
 pub fn correct(message: &mut [u8], field: usize, value: u64) -> Result<(), Refusal> {
     let mut report = read(message)?;
     match field {
-        1 => report.mmsi = narrow(value, 32)? as u32,
-        2 => report.longitude = signed(narrow(value, 25)?, 25),
-        3 => report.latitude = signed(narrow(value, 24)?, 24),
-        4 => report.day = narrow(value, 5)? as u8,
-        5 => report.hour = narrow(value, 5)? as u8,
-        6 => report.minute = narrow(value, 6)? as u8,
-        7 => report.speed = narrow(value, 7)? as u8,
-        8 => report.course = narrow(value, 9)? as u16,
-        9 => report.kind = narrow(value, 4)? as u8,
+        Report::MMSI => report.mmsi = narrow(value, 32)? as u32,
+        Report::LONGITUDE => report.longitude = signed(narrow(value, 25)?, 25),
+        Report::LATITUDE => report.latitude = signed(narrow(value, 24)?, 24),
+        Report::DAY => report.day = narrow(value, 5)? as u8,
+        Report::HOUR => report.hour = narrow(value, 5)? as u8,
+        Report::MINUTE => report.minute = narrow(value, 6)? as u8,
+        Report::SPEED => report.speed = narrow(value, 7)? as u8,
+        Report::COURSE => report.course = narrow(value, 9)? as u16,
+        Report::KIND => report.kind = narrow(value, 4)? as u8,
         _ => return Err(Refusal::FIELD),
     }
     write(message, &report)

@@ -72,7 +72,7 @@ pub fn write(buf: &mut [u8], report: &Report) -> Result<(), Refusal> {
     })
 }
 
-/// Corrects field `field`, 1 (MMSI) to 9 (kind), to the number that its bits shall spell.
+/// Corrects field `field`, as `Report` numbers them, to the number that its bits shall spell.
 #[inline]
 pub fn correct(message: &mut [u8], field: usize, value: u64) -> Result<(), Refusal> {
     // SAFETY: see `relay`.
