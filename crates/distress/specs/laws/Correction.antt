@@ -1,24 +1,25 @@
 -- Demand 3 for the report, over the changed record: correcting answers as writing that record, a value too wide is 4, and every other field number is 10. Assumes nothing.
 use mathlib.Core.Path.{_≡_, refl, sym, ap, _∙_}
 use mathlib.Core.Bool.{Bool, true, false, cond}
-use mathlib.Core.List.{List, [], _∷_}
+use mathlib.Core.List.{List, [], _∷_, _++_}
 use Prim.Native.Nat.{ℕ, _%_, _≤_, _<_, _^_}
 use native.Mathlib.Omega.{arith}
-use borrow.Author.Tests.{eqb-true, ne-eqb}
+use borrow.Author.Tests.{eqb-true, ne-eqb, le-leb}
 use lib.Dec.{eqb, lit≤}
 use lib.IntN.{ℤ}
-use lib.ListN.{set}
+use lib.ListN.{set, length, take, drop}
+use lib.Seq.{take-at}
 use Rattle.bits.specs.Bits.{Bytes}
 use Rattle.layout.specs.Fmt.{Out, accepted, refused, spot, none, found}
-use Rattle.layout.specs.Message.{readMessage, writeMessage, correctMessage}
+use Rattle.layout.specs.Message.{codeOf, leaves, into, readMessage, writeMessage, correctMessage}
 use Rattle.layout.specs.Sign.{intOf, spellOf}
 use Rattle.layout.specs.laws.Correct.{none-clash}
 use Rattle.layout.specs.laws.Sign.{spell-int}
 use Rattle.layout.specs.laws.Spots.{spotsFrom, spots-flat, eachAt, set-each}
 use Rattle.layout.specs.laws.Whole.{read-write-message, correct-wide}
 use Rattle.distress.specs.Changed.{spotOf, changed}
-use Rattle.distress.specs.laws.Demands.{values-again}
-use Rattle.distress.specs.Promises.{Reads}
+use Rattle.distress.specs.laws.Demands.{never-written, message-long, values-again}
+use Rattle.distress.specs.Promises.{Reads, Writes, Corrects}
 use Rattle.distress.specs.Report.{report, reports, valuesOf, reportOf, answerOf}
 use Rattle.distress.specs.laws.Sound.{sound}
 use Rattle.distress.specs.declared.report.Answer.the-variants.{Good}
@@ -91,3 +92,23 @@ module _ (s : List ℕ) (r : Report) (fine : Bytes s) (good : Reads s (Good r)) 
   pub correction-none : (i v : ℕ) → spotOf i ≡ none → correctMessage reports s i v ≡ refused 10 0
   unfolding correctMessage
   correction-none i v e = rw (read-values, where-it-stands i, e) refl
+
+  -- Demand 3, from the promises of the two calls: where the field can spell the value, correcting answers as writing the changed record into a buffer with room does;
+  -- accepted, the message is what that writing put in front, and refused, no byte differs.
+  pub corrected-as-written : (i v p w : ℕ) → spotOf i ≡ found p w → v < 2 ^ w → (code : ℕ) (t : List ℕ) → Corrects s i v code t
+      → (u : List ℕ) → 17 ≤ length u → (code′ : ℕ) (t′ : List ℕ) → Writes u (changed i v r) code′ t′ → (code ≡ code′) × (code ≡ 0 → t ≡ take 17 t′) × ((code ≡ 0 → ⊥) → t ≡ s)
+  corrected-as-written i v p w e l code t (z, x) u room code′ t′ (z′, x′) = go (writeMessage reports (valuesOf (changed i v r))) refl (correction-writes i v p w e l)
+    where
+      go : (o : Out (List ℕ)) → writeMessage reports (valuesOf (changed i v r)) ≡ o → correctMessage reports s i v ≡ writeMessage reports (valuesOf (changed i v r))
+          → (code ≡ code′) × (code ≡ 0 → t ≡ take 17 t′) × ((code ≡ 0 → ⊥) → t ≡ s)
+      go (refused c q) k h =
+          let a : code ≡ c = z ∙ ap codeOf (h ∙ k) in
+          let b : code′ ≡ c = z′ ∙ ap (λ o. codeOf (into u o)) k in
+          (a ∙ sym b, λ y. absurd (never-written (changed i v r) q (k ∙ ap (λ c. refused c q) (sym a ∙ y))), λ y. x ∙ ap (λ o. leaves o s) (h ∙ k))
+      go (accepted m) k h =
+          let n = message-long (changed i v r) m k in
+          let j : into u (writeMessage reports (valuesOf (changed i v r))) ≡ accepted (m ++ drop (length m) u) = ap (into u) k ∙ rw (le-leb (length m) (length u) (omega arith)) refl in
+          let a : code ≡ 0 = z ∙ ap codeOf (h ∙ k) in
+          let b : code′ ≡ 0 = z′ ∙ ap codeOf j in
+          let front : take 17 t′ ≡ m = ap (take 17) (x′ ∙ ap (λ o. leaves o u) j) ∙ take-at m (drop (length m) u) 17 n in
+          (a ∙ sym b, λ y. x ∙ ap (λ o. leaves o s) (h ∙ k) ∙ sym front, λ y. absurd (y a))

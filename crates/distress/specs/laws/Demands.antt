@@ -106,7 +106,7 @@ module _ (r : Report) (m : List ℕ) (e : writeMessage reports (valuesOf r) ≡ 
   message-read : readMessage reports m ≡ accepted (valuesOf r)
   message-read = write-read-message reports sound m (valuesOf r) e
 
-  message-long : length m ≡ 17
+  pub message-long : length m ≡ 17
   unfolding reports
   message-long = bytes-long reports plain m (valuesOf r) (was reports m (valuesOf r) message-read .walked)
 
