@@ -205,7 +205,7 @@ fn whole_bytes(len: usize, at: usize) -> u64
     if from < len { (len - from) as u64 } else { 0 }
 }
 
-pub fn inside(v: u64, lo: u64, hi: u64, code: u8) -> u8
+pub(crate) fn inside(v: u64, lo: u64, hi: u64, code: u8) -> u8
     ensures { λ r. ⌜ r ≡ cond (leb lo v && leb v hi) 0 code ⌝ }
 {
     if v < lo {
@@ -217,7 +217,7 @@ pub fn inside(v: u64, lo: u64, hi: u64, code: u8) -> u8
     0
 }
 
-pub fn sign(v: u64, top: u64, bottom: u64, none: u64) -> u8
+pub(crate) fn sign(v: u64, top: u64, bottom: u64, none: u64) -> u8
     ensures { λ r. ⌜ r ≡ cond (leb v top || leb bottom v || eqb v none) 0 4 ⌝ }
 {
     if v <= top {

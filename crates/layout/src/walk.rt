@@ -67,43 +67,43 @@ impl Walk {
 
 // ---- small tests
 
-pub fn none(code: u8) -> bool
+pub(crate) fn none(code: u8) -> bool
     ensures { λ r. ⌜ r ≡ eqb code 0 ⌝ }
 {
     code == 0
 }
 
-pub fn last(left: usize) -> bool
+pub(crate) fn last(left: usize) -> bool
     ensures { λ r. ⌜ r ≡ eqb left 0 ⌝ }
 {
     left == 0
 }
 
-pub fn both(a: bool, b: bool) -> bool
+pub(crate) fn both(a: bool, b: bool) -> bool
     ensures { λ r. ⌜ r ≡ (a && b) ⌝ }
 {
     if a { b } else { false }
 }
 
-pub fn not(a: bool) -> bool
+pub(crate) fn not(a: bool) -> bool
     ensures { λ r. ⌜ r ≡ cond a false true ⌝ }
 {
     if a { false } else { true }
 }
 
-pub fn choose(yes: bool, a: u8, b: u8) -> u8
+pub(crate) fn choose(yes: bool, a: u8, b: u8) -> u8
     ensures { λ r. ⌜ r ≡ cond yes a b ⌝ }
 {
     if yes { a } else { b }
 }
 
-pub fn pick(yes: bool, a: usize, b: usize) -> usize
+pub(crate) fn pick(yes: bool, a: usize, b: usize) -> usize
     ensures { λ r. ⌜ r ≡ cond yes a b ⌝ }
 {
     if yes { a } else { b }
 }
 
-pub fn less(n: usize) -> usize
+pub(crate) fn less(n: usize) -> usize
     ensures { λ r. ⌜ r ≡ n - 1 ⌝ }
 {
     if n == 0 { 0 } else { n - 1 }

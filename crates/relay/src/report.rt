@@ -62,7 +62,7 @@ pub extern "C" fn bellnewt_distress_correct(s: &mut [u8], field: usize, value: u
 }
 
 // A sentence's numbers in the paper's order: its address, then the report's.
-pub fn numbers(address: u32, r: Report) -> [i64; 10]
+pub(crate) fn numbers(address: u32, r: Report) -> [i64; 10]
     ensures { λ xs. ⌜ xs ≡ pos address ∷ rowOf r ⌝ }
 {
     let longitude = r.longitude;

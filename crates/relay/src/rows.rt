@@ -3,7 +3,7 @@ ghost use Rattle.layout.specs.Fmt.{accepted};
 ghost use Rattle.relay.specs.Row.{Fills};
 
 // Stores the numbers at the front of a row that has room; the entries past them stay.
-pub fn fill(row: &mut [i64], numbers: &[i64]) -> u8
+pub(crate) fn fill(row: &mut [i64], numbers: &[i64]) -> u8
     ensures { λ code. ⌜ Fills (accepted (now (numbers .entry))) (now (row .entry)) code (now (row .exit)) ⌝ }
 {
     if row.len() < numbers.len() {

@@ -37,7 +37,7 @@ fn figure(n: u8, ten: u8) -> u8
 }
 
 // Whether each byte is a digit of the base.
-pub fn all_digits(part: &[u8], base: u8) -> bool
+pub(crate) fn all_digits(part: &[u8], base: u8) -> bool
     ensures { λ r. ⌜ r ≡ allDigits base (now (part .entry)) ⌝ }
 {
     let mut i = 0;
@@ -51,7 +51,7 @@ pub fn all_digits(part: &[u8], base: u8) -> bool
 }
 
 // The number that decimal digits spell: 0 where it is above every address.
-pub fn number(part: &[u8]) -> u32
+pub(crate) fn number(part: &[u8]) -> u32
     ensures { λ r. ⌜ r ≡ cond (leb (spelt 0 (now (part .entry))) 2_097_151) (spelt 0 (now (part .entry))) 0 ⌝ }
 {
     let mut all: u32 = 0;
@@ -67,13 +67,13 @@ pub fn number(part: &[u8]) -> u32
 }
 
 // Seven places, of which those from `from` on are a number's digits.
-pub struct Figures {
+pub(crate) struct Figures {
     pub from: usize,
     pub places: [u8; 7],
 }
 
 // The decimal digits of a number of at most seven, last to first.
-pub fn decimal(n: u32) -> Figures
+pub(crate) fn decimal(n: u32) -> Figures
     requires { ⌜ n < 10_000_000 ⌝ }
     ensures { λ r. ⌜ (r .from ≤ 7) × (length (r .places) ≡ 7) × (drop (r .from) (r .places) ≡ decimal 7 n) ⌝ }
 {
@@ -89,7 +89,7 @@ pub fn decimal(n: u32) -> Figures
 }
 
 // The bytes that 34 hex digits spell.
-pub fn unhex(part: &[u8]) -> [u8; 17]
+pub(crate) fn unhex(part: &[u8]) -> [u8; 17]
     requires { ⌜ (length (now part) ≡ 34) × (allDigits 16 (now part) ≡ true) ⌝ }
     ensures { λ r. ⌜ r ≡ unhexed (now (part .entry)) ⌝ }
 {
@@ -105,7 +105,7 @@ pub fn unhex(part: &[u8]) -> [u8; 17]
 }
 
 // The hex digits of 17 bytes.
-pub fn hex(bytes: &[u8]) -> [u8; 34]
+pub(crate) fn hex(bytes: &[u8]) -> [u8; 34]
     requires { ⌜ length (now bytes) ≡ 17 ⌝ }
     ensures { λ r. ⌜ r ≡ hexOf (now (bytes .entry)) ⌝ }
 {
@@ -121,7 +121,7 @@ pub fn hex(bytes: &[u8]) -> [u8; 34]
 }
 
 // The end of a sentence by its sum: `*`, two capital hex digits, CR LF.
-pub fn closing(sum: u8) -> [u8; 5]
+pub(crate) fn closing(sum: u8) -> [u8; 5]
     ensures { λ r. ⌜ r ≡ closingOf sum ⌝ }
 {
     [
