@@ -14,7 +14,7 @@ use Rattle.layout.specs.Words.{_‥_, signed, _▹_, num, code, fill}
 use Rattle.layout.specs.laws.Flat.{Plain, span}
 use Rattle.layout.specs.laws.Sign.{int-spell}
 use Rattle.distress.specs.declared.report.Report.{Report}
-use Rattle.distress.specs.declared.report.Values.{Values}
+use Rattle.distress.specs.declared.report.making.Values.{Values}
 use Rattle.distress.specs.declared.report.Answer.{Answer}
 use Rattle.distress.specs.declared.report.Answer.the-variants.{Good, Refused}
 
@@ -81,8 +81,8 @@ abbrev pub blank : Report
 blank = record { mmsi = 0; longitude = pos 0; latitude = pos 0; day = 0; hour = 0; minute = 0; speed = 0; course = 0; kind = 0 }
 
 -- the paper's number and values
-abbrev pub answerOf : Out (List ℕ) → Answer
-answerOf (accepted vs) = Good (reportOf vs)
+abbrev pub answerOf : Out Report → Answer
+answerOf (accepted r) = Good r
 answerOf (refused c p) = Refused c
 
 -- a record whose position fits its bits is that of its values

@@ -1,12 +1,4 @@
--- What is proved of the report, then of the sentence: its digits, the turns of its loops, its tests and parts, what the calls' steps say, the demands.
+-- What is proved of the report: where its fields accept its size is right, the demands, a correction as a record.
 pub mod Sound
 pub mod Demands
 pub mod Correction
-pub mod Digits
-pub mod Hex
-pub mod Turns
-pub mod Tests
-pub mod Parts
-pub mod Front
-pub mod Calls
-pub mod SentenceDemands

@@ -1,3 +1,2 @@
-// Distress (paper 01, "Distress report"; 001, annex A): the report, and the sentence that carries one.
+// The distress report (paper 01, "Distress report"; 001, annex A).
 pub mod report;
-pub mod sentence;

@@ -2,15 +2,16 @@
 ghost use mathlib.Core.Path.{_≡_};
 ghost use mathlib.Core.List.{[]};
 ghost use lib.ListN.{length};
-ghost use Rattle.distress.specs.Report.{reports, report, valuesOf, reportOf, listOf, blank};
-ghost use Rattle.distress.specs.Promises.{Reads, Writes, Corrects};
+ghost use Rattle.distress.specs.Report.{reports, report, valuesOf, reportOf, blank};
+ghost use Rattle.distress.specs.Promises.{Reads};
 ghost use Rattle.bits.specs.Bits.{bitsOf};
-ghost use Rattle.layout.specs.Fmt.{check, read, write};
+ghost use Rattle.layout.specs.Fmt.{check, read};
 ghost use Rattle.layout.specs.Message.{fault};
+ghost use Rattle.layout.specs.Promises.{Writes, Corrects};
 ghost use Rattle.layout.specs.Walk.{begun};
 ghost use Rattle.layout.specs.laws.Walked.{Walked};
-ghost use Rattle.layout.specs.laws.Judging.{Judged};
-ghost use Rattle.layout.specs.laws.Putting.{Puts};
+
+mod making;
 
 pub struct Report {
     pub mmsi: u32,
@@ -62,19 +63,6 @@ impl Report {
 
 pub const CODE: u64 = 0xBDC1;
 
-// A record's fields as the numbers that their bits spell.
-struct Values {
-    mmsi: u64,
-    longitude: u64,
-    latitude: u64,
-    day: u64,
-    hour: u64,
-    minute: u64,
-    speed: u64,
-    course: u64,
-    kind: u64,
-}
-
 struct Whole {
     walk: layout::walk::Walk,
     report: Report,
@@ -94,10 +82,10 @@ pub fn read(s: &[u8]) -> Answer
 
 // Writes the report into the front of a lent buffer: the record is judged, then room (6); the bytes past the message stay.
 pub fn write(buf: &mut [u8], r: Report) -> u8
-    ensures { λ code. ⌜ Writes (now (buf .entry)) r code (now (buf .exit)) ⌝ }
+    ensures { λ code. ⌜ Writes reports (now (buf .entry)) code (now (buf .exit)) (valuesOf r) ⌝ }
 {
-    let v = spelled(r);
-    let w = judged(v);
+    let v = making::spelled(r);
+    let w = making::judged(v);
     let code = w.code;
     if code != 0 {
         return code;
@@ -105,13 +93,13 @@ pub fn write(buf: &mut [u8], r: Report) -> u8
     if buf.len() < Report::LEAST {
         return layout::ROOM;
     }
-    put(buf, v);
+    making::put(buf, v);
     0
 }
 
 // Makes field number `field` of the message be `value`, or leaves every byte.
 pub fn correct(buf: &mut [u8], field: usize, value: u64) -> u8
-    ensures { λ code. ⌜ Corrects (now (buf .entry)) field value code (now (buf .exit)) ⌝ }
+    ensures { λ code. ⌜ Corrects reports (now (buf .entry)) field value code (now (buf .exit)) ⌝ }
 {
     let was = fields(buf, lead(buf), field);
     let w = was.walk;
@@ -206,65 +194,4 @@ fn unread(lead: u8, want: usize) -> Whole
         kind: 0,
     };
     Whole { walk, report }
-}
-
-fn spelled(r: Report) -> Values
-    ensures { λ v. ⌜ listOf v ≡ valuesOf r ⌝ }
-{
-    let east = r.longitude;
-    let north = r.latitude;
-    let longitude = layout::sign::spelled(east, 33_554_432);
-    let latitude = layout::sign::spelled(north, 16_777_216);
-    Values {
-        mmsi: r.mmsi as u64,
-        longitude,
-        latitude,
-        day: r.day as u64,
-        hour: r.hour as u64,
-        minute: r.minute as u64,
-        speed: r.speed as u64,
-        course: r.course as u64,
-        kind: r.kind as u64,
-    }
-}
-
-// The values judged in bit order.
-fn judged(v: Values) -> layout::walk::Walk
-    ensures { λ w. ⌜ Judged (write report [] 0 (listOf v)) w ⌝ }
-{
-    let w = layout::walk::Walk::begin(0, 0);
-    let w = w.fixed(16, CODE);
-    let w = w.value(32, v.mmsi, 0, 999_999_999);
-    let w = w.signed_value(
-        25,
-        v.longitude,
-        33_554_432,
-        10_800_000,
-        22_754_432,
-        10_860_000,
-    );
-    let w = w.signed_value(24, v.latitude, 16_777_216, 5_400_000, 11_377_216, 5_460_000);
-    let w = w.value(5, v.day, 0, 31);
-    let w = w.value(5, v.hour, 0, 24);
-    let w = w.value(6, v.minute, 0, 60);
-    let w = w.value(7, v.speed, 0, 126);
-    let w = w.value(9, v.course, 0, 360);
-    let w = w.value(4, v.kind, 0, 9);
-    w.fixed(3, 0)
-}
-
-fn put(buf: &mut [u8], v: Values)
-    ensures { λ _. ⌜ Puts report (listOf v) (now (buf .entry)) (now (buf .exit)) ⌝ }
-{
-    bits::put(buf, 0, 16, CODE);
-    bits::put(buf, 16, 32, v.mmsi);
-    bits::put(buf, 48, 25, v.longitude);
-    bits::put(buf, 73, 24, v.latitude);
-    bits::put(buf, 97, 5, v.day);
-    bits::put(buf, 102, 5, v.hour);
-    bits::put(buf, 107, 6, v.minute);
-    bits::put(buf, 113, 7, v.speed);
-    bits::put(buf, 120, 9, v.course);
-    bits::put(buf, 129, 4, v.kind);
-    bits::put(buf, 133, 3, 0);
 }

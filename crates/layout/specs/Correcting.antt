@@ -6,7 +6,6 @@ use Prim.Native.Nat.{ℕ, _^_}
 use lib.Dec.{ltb, eqb}
 use Rattle.bits.specs.Answers.{puttable}
 use Rattle.bits.specs.Bits.{putAt}
-use Rattle.layout.specs.Message.{Layout, codeOf, leaves, correctMessage}
 use Rattle.layout.specs.declared.walk.Walk.{Walk}
 
 -- the message's own refusal, 10, then too wide
@@ -20,7 +19,3 @@ putIn s at w v = cond (puttable s at w v) (putAt s at w v) s
 -- what a call of `bits::put` leaves
 pub put-in : (s : List ℕ) (at w v : ℕ) {b : Bool} {t : List ℕ} → (b ≡ puttable s at w v) × (t ≡ cond b (putAt s at w v) s) → t ≡ putIn s at w v
 put-in s at w v p = p .1 ∙ ap (λ b. cond b (putAt s at w v) s) (p .0)
-
--- what a call that corrects answers, and leaves of s
-abbrev pub Corrects : Layout → List ℕ → ℕ → ℕ → ℕ → List ℕ → Type 0
-Corrects l s i v code t = (code ≡ codeOf (correctMessage l s i v)) × (t ≡ leaves (correctMessage l s i v) s)

@@ -4,7 +4,7 @@ use mathlib.Core.Path.{_≡_}
 use mathlib.Core.Bool.{Bool, true, cond, _&&_, _||_}
 use mathlib.Core.List.{List}
 use lib.Dec.{leb, ltb, eqb}
-use Rattle.layout.specs.Message.{Layout, between, codeOf, leaves, into, writeMessage}
+use Rattle.layout.specs.Message.{between}
 use Rattle.layout.specs.Walk.{onward}
 use Rattle.layout.specs.declared.judging.Pieces.{Pieces}
 use Rattle.layout.specs.declared.walk.Walk.{Walk}
@@ -49,7 +49,3 @@ made seal at = cond seal (bytesTo at + 1) (bytesTo at)
 -- after the walk r: its refusal, the size made (1), room (6)
 abbrev pub closing : Bool → ℕ → ℕ → ℕ → Walk → ℕ
 closing seal least most room r = let n = made seal (r .at) in cond (eqb (r .code) 0) (cond (between least most n) (cond (leb n room) 0 6) 1) (r .code)
-
--- what a call answers, and the bytes t that it leaves of s, when it writes the values vs
-abbrev pub Writes : Layout → List ℕ → ℕ → List ℕ → List ℕ → Type 0
-Writes l s code t vs = (code ≡ codeOf (into s (writeMessage l vs))) × (t ≡ leaves (into s (writeMessage l vs)) s)

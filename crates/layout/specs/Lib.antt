@@ -2,6 +2,7 @@
 pub mod Fmt
 pub mod Words
 pub mod Message
+pub mod Promises
 pub mod Sign
 pub mod Walk
 pub mod Reading

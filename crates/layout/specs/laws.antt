@@ -21,3 +21,5 @@ pub mod Flat
 pub mod Sealing
 pub mod Correcting
 pub mod Sign
+pub mod Entries
+pub mod Family

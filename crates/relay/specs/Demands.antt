@@ -1,21 +1,21 @@
--- What the calls' promises decide, from the promises alone: one answer, lent memory untouched by a refusal, and the record of the family's own call. Assumes nothing.
+-- What the reading calls' promises and the sentence's decide, from the promises alone: one answer, lent memory untouched by a refusal, and the record of the family's own call. `bellnewt_distress_write` and `_correct` promise what every layout's calls do (layout/specs/laws/Family: one-writing, one-correction, refused-writing, refused-correction). Assumes nothing.
 use Prim.Native.Nat.{ℕ, _≤_}
 use mathlib.Core.Path.{_≡_, sym, subst, _∙_}
 use mathlib.Core.List.{List, _∷_, _++_}
 use lib.IntN.{ℤ, pos}
 use lib.ListN.{length, drop}
 use Rattle.layout.specs.Fmt.{Out, accepted, refused, also}
-use Rattle.layout.specs.Message.{codeOf, into, writeMessage, leaves}
-use Rattle.distress.specs.laws.SentenceDemands.{no-zero-heard}
-use Rattle.distress.specs.Promises.{Reads, Writes}
-use Rattle.distress.specs.Report.{reports, valuesOf}
+use Rattle.layout.specs.Message.{codeOf, into, leaves}
+use Rattle.layout.specs.laws.Family.{refused-stands}
+use Rattle.sentence.specs.laws.Demands.{no-zero-heard}
+use Rattle.distress.specs.Promises.{Reads}
 use Rattle.distress.specs.declared.report.Report.{Report}
 use Rattle.distress.specs.declared.report.Answer.the-variants.{Good, Refused}
-use Rattle.distress.specs.Sentence.{laidOver, Hears}
-use Rattle.distress.specs.declared.sentence.Heard.the-variants.{Good as Heard, Refused as Unheard}
+use Rattle.sentence.specs.Sentence.{laidOver, Hears}
+use Rattle.sentence.specs.declared.Heard.the-variants.{Good as Heard, Refused as Unheard}
 use Rattle.relay.specs.Row.{Fills}
 use Rattle.relay.specs.Report.{rowOf, numbersOf}
-use Rattle.relay.specs.laws.Row.{row-full, one-filling, refused-stands}
+use Rattle.relay.specs.laws.Row.{row-full, one-filling}
 use Rattle.relay.specs.laws.Report.{good-numbers, refused-numbers, no-zero-read}
 use Rattle.relay.specs.laws.Sentence.{heard-numbers, refused-sentence}
 use Rattle.relay.specs.Sentence.{sentenceNumbers, sentenceInto, SentenceWrites}
@@ -53,11 +53,6 @@ module _ (s : List ℕ) (row : List ℤ) (c : ℕ) (t : List ℤ) (f : Fills (se
 
   pub zero-heard : c ≡ 0 → (d : ℕ) → Hears s (Unheard d) → ⊥
   zero-heard z d g = no-zero-heard s (subst (λ (d : ℕ). Hears s (Unheard d)) (sym (refused-heard d g .0) ∙ z) g)
-
--- ---- `bellnewt_distress_write` and `bellnewt_distress_correct`, whose promises are the report's own (`one-writing`, `one-correction`, `refused-correction`)
-
-pub refused-writing : (s : List ℕ) (r : Report) (c : ℕ) (t : List ℕ) → Writes s r c t → (c ≡ 0 → ⊥) → t ≡ s
-refused-writing s r c t w h = refused-stands (into s (writeMessage reports (valuesOf r))) s t c (w .0) (w .1) h
 
 -- ---- `bellnewt_sentence_write`
 

@@ -3,7 +3,7 @@ use Prim.Native.Nat.{ℕ}
 use mathlib.Core.List.{List, [], _∷_}
 use lib.IntN.{ℤ, pos}
 use Rattle.layout.specs.Fmt.{Out, also}
-use Rattle.layout.specs.Message.{readMessage}
+use Rattle.layout.specs.Promises.{readRecord}
 use Rattle.distress.specs.Report.{reports, reportOf}
 use Rattle.distress.specs.declared.report.Report.{Report}
 
@@ -23,7 +23,7 @@ rowOf r =
 
 -- the reading of the bytes s, as numbers
 abbrev pub numbersOf : List ℕ → Out (List ℤ)
-numbersOf s = also (λ vs. rowOf (reportOf vs)) (readMessage reports s)
+numbersOf s = also rowOf (readRecord reports reportOf s)
 
 -- the record of the numbers that a writing call is given
 abbrev pub recordOf : ℕ → ℤ → ℤ → ℕ → ℕ → ℕ → ℕ → ℕ → ℕ → Report

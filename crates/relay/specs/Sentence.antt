@@ -6,7 +6,7 @@ use lib.IntN.{ℤ, pos}
 use lib.ListN.{length}
 use Rattle.layout.specs.Fmt.{Out, also}
 use Rattle.layout.specs.Message.{codeOf, leaves}
-use Rattle.distress.specs.Sentence.{readSentence, writeSentence, roomFor, laidOver}
+use Rattle.sentence.specs.Sentence.{readSentence, writeSentence, roomFor, laidOver}
 use Rattle.distress.specs.declared.report.Report.{Report}
 use Rattle.relay.specs.Report.{rowOf}
 

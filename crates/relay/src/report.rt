@@ -4,7 +4,8 @@ ghost use mathlib.Core.List.{_∷_};
 ghost use lib.IntN.{pos};
 ghost use Rattle.relay.specs.Row.{Fills};
 ghost use Rattle.relay.specs.Report.{rowOf, numbersOf, recordOf};
-ghost use Rattle.distress.specs.Promises.{Writes, Corrects};
+ghost use Rattle.distress.specs.Report.{reports, valuesOf};
+ghost use Rattle.layout.specs.Promises.{Writes, Corrects};
 use distress::report::Answer;
 use distress::report::Report;
 
@@ -37,7 +38,7 @@ pub extern "C" fn bellnewt_distress_write(
     course: u16,
     kind: u8,
 ) -> u8
-    ensures { λ code. ⌜ Writes (now (buf .entry)) (recordOf mmsi longitude latitude day hour minute speed course kind) code (now (buf .exit)) ⌝ }
+    ensures { λ code. ⌜ Writes reports (now (buf .entry)) code (now (buf .exit)) (valuesOf (recordOf mmsi longitude latitude day hour minute speed course kind)) ⌝ }
 {
     let report = Report {
         mmsi,
@@ -56,7 +57,7 @@ pub extern "C" fn bellnewt_distress_write(
 // Makes field number `field` of the report be `value`, or leaves every byte.
 #[no_mangle]
 pub extern "C" fn bellnewt_distress_correct(s: &mut [u8], field: usize, value: u64) -> u8
-    ensures { λ code. ⌜ Corrects (now (s .entry)) field value code (now (s .exit)) ⌝ }
+    ensures { λ code. ⌜ Corrects reports (now (s .entry)) field value code (now (s .exit)) ⌝ }
 {
     distress::report::correct(s, field, value)
 }

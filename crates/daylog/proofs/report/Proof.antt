@@ -2,9 +2,9 @@
 use mathlib.Core.Path.{_≡_, refl, sym, ap, _∙_}
 use mathlib.Core.List.{List}
 use Prim.Native.Nat.{ℕ}
-use Rattle.layout.specs.Fmt.{Out, accepted, refused}
+use Rattle.layout.specs.Fmt.{Out, accepted, refused, also}
 use Rattle.layout.specs.Message.{codeOf, readMessage}
-use Rattle.distress.specs.Report.{reports, answerOf}
+use Rattle.distress.specs.Report.{reports, reportOf, answerOf}
 use Rattle.distress.specs.declared.report.Answer.{Answer}
 use Rattle.distress.specs.declared.report.Answer.the-variants.{Good, Refused}
 use borrow.Author.Needs.{needs}
@@ -15,7 +15,7 @@ abbrev numberOf : Answer → ℕ
 numberOf (Good r) = 0
 numberOf (Refused code) = code
 
-numbered : (o : Out (List ℕ)) → numberOf (answerOf o) ≡ codeOf o
+numbered : (o : Out (List ℕ)) → numberOf (answerOf (also reportOf o)) ≡ codeOf o
 numbered (accepted vs) = refl
 numbered (refused code p) = refl
 

@@ -11,7 +11,8 @@ use Rattle.bits.specs.Answers.{got}
 use Rattle.bits.specs.Bits.{Bytes, bitsOf, fieldAt, putAt}
 use Rattle.bits.specs.laws.Answers.{got-fits, puttable-fits}
 use Rattle.bits.specs.laws.Fields.{field-lt, length-put, put-put, put-field}
-use Rattle.layout.specs.Correcting.{admitted, putIn, Corrects}
+use Rattle.layout.specs.Correcting.{admitted, putIn}
+use Rattle.layout.specs.Promises.{Corrects}
 use Rattle.layout.specs.Fmt.{accepted, refused, check, also, read, spot, found}
 use Rattle.layout.specs.Message.{Layout, Sound, fault, body, sealed, first, readMessage, correctMessage, refuses, accepts}
 use Rattle.layout.specs.Sealing.{reclosed}

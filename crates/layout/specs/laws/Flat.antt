@@ -7,7 +7,8 @@ use native.Mathlib.Omega.{arith}
 use lib.ListN.{length}
 use borrow.Author.Tests.{eq-eqb, ne-eqb, le-leb, lt-leb}
 use Rattle.layout.specs.Fmt.{accepted, Fmt, check, write}
-use Rattle.layout.specs.Judging.{bytesTo, Writes}
+use Rattle.layout.specs.Judging.{bytesTo}
+use Rattle.layout.specs.Promises.{Writes}
 use Rattle.layout.specs.Message.{Layout, fault, between, size}
 use Rattle.layout.specs.laws.Extent.{extent, extent-laid, flat, flat-extent}
 use Rattle.layout.specs.laws.Judging.{Judged}

@@ -12,7 +12,8 @@ use Rattle.bits.specs.Bits.{bytesOf}
 use Rattle.bits.specs.laws.Bytes.{length-bytes}
 use Rattle.bits.specs.Xor.{xorOf}
 use Rattle.layout.specs.Fmt.{Out, accepted, refused, Fault, good, bad, check, after, write}
-use Rattle.layout.specs.Judging.{bytesTo, made, closing, Writes}
+use Rattle.layout.specs.Judging.{bytesTo, made, closing}
+use Rattle.layout.specs.Promises.{Writes}
 use Rattle.layout.specs.Message.{Layout, fault, between, size, sealed, closed, into, refuses, accepts, writeMessage}
 use Rattle.layout.specs.laws.Judging.{Judged}
 use Rattle.layout.specs.laws.Putting.{Puts}

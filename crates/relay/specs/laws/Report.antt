@@ -8,37 +8,38 @@ use mir.Syntax.{w32}
 use mir.Val.{SFits, toZ, ofZ}
 use mir.ValLaws.{toZ-ofZ}
 use Rattle.layout.specs.Fmt.{Out, accepted, refused, also}
-use Rattle.distress.specs.laws.Calls.{never-read}
+use Rattle.layout.specs.laws.Family.{never-read}
+use Rattle.distress.specs.laws.Demands.{family}
 use Rattle.distress.specs.Promises.{Reads}
 use Rattle.distress.specs.Report.{reports, reportOf, answerOf}
 use Rattle.distress.specs.declared.report.Report.{Report}
 use Rattle.distress.specs.declared.report.Answer.the-variants.{Good, Refused}
-use Rattle.layout.specs.Message.{readMessage}
+use Rattle.layout.specs.Promises.{readRecord}
 use Rattle.relay.specs.Row.{Fills}
 use Rattle.relay.specs.Report.{rowOf, numbersOf, recordOf}
 use Rattle.relay.specs.laws.Row.{row-refused}
 
 pub good-numbers : (s : List ℕ) (r : Report) → Reads s (Good r) → numbersOf s ≡ accepted (rowOf r)
-good-numbers s r e = go (readMessage reports s) e
+good-numbers s r e = go (readRecord reports reportOf s) e
   where
-    go : (o : Out (List ℕ)) → Good r ≡ answerOf o → also (λ vs. rowOf (reportOf vs)) o ≡ accepted (rowOf r)
-    go (accepted vs) e = let k : r ≡ reportOf vs = cc in ap (λ r. accepted (rowOf r)) (sym k)
+    go : (o : Out Report) → Good r ≡ answerOf o → also rowOf o ≡ accepted (rowOf r)
+    go (accepted q) e = let k : r ≡ q = cc in ap (λ r. accepted (rowOf r)) (sym k)
     go (refused c p) e = let z : _≡_ {A = ℕ} 0 1 = cc in absurd (omega arith)
 
 pub refused-numbers : (s : List ℕ) (row : List ℤ) (c : ℕ) → Reads s (Refused c) → Fills (numbersOf s) row c row
-refused-numbers s row c e = go (readMessage reports s) e
+refused-numbers s row c e = go (readRecord reports reportOf s) e
   where
-    go : (o : Out (List ℕ)) → Refused c ≡ answerOf o → Fills (also (λ vs. rowOf (reportOf vs)) o) row c row
-    go (accepted vs) e = let z : _≡_ {A = ℕ} 0 1 = cc in absurd (omega arith)
+    go : (o : Out Report) → Refused c ≡ answerOf o → Fills (also rowOf o) row c row
+    go (accepted q) e = let z : _≡_ {A = ℕ} 0 1 = cc in absurd (omega arith)
     go (refused d p) e = let k : d ≡ c = cc in row-refused row {p = p} (ap (λ c. refused c p) k)
 
 -- no refusal has the number 0
 pub no-zero-read : (s : List ℕ) → Reads s (Refused 0) → ⊥
-no-zero-read s e = go (readMessage reports s) refl e
+no-zero-read s e = go (readRecord reports reportOf s) refl e
   where
-    go : (o : Out (List ℕ)) → readMessage reports s ≡ o → Refused 0 ≡ answerOf o → ⊥
-    go (accepted vs) m e = let z : _≡_ {A = ℕ} 0 1 = cc in omega arith
-    go (refused c p) m e = let k : c ≡ 0 = cc in never-read s p (m ∙ ap (λ c. refused c p) k)
+    go : (o : Out Report) → readRecord reports reportOf s ≡ o → Refused 0 ≡ answerOf o → ⊥
+    go (accepted q) m e = let z : _≡_ {A = ℕ} 0 1 = cc in omega arith
+    go (refused c p) m e = let k : c ≡ 0 = cc in never-read family s p (m ∙ ap (λ c. refused c p) k)
 
 -- the record of the numbers that a call is given: the signed ones fit, so they stand in it as they are
 pub kept : (r : Report) → SFits w32 (r .longitude) → SFits w32 (r .latitude)

@@ -38,11 +38,6 @@ row-stored row xs i e h {t} p =
     let full = row-full {o = accepted xs} row refl h in
     (full .0, p ∙ rw (e, take-length xs) (full .1))
 
--- a refusal leaves what was lent
-pub refused-stands : {A : Type 0} (o : Out A) (was t : A) (c : ℕ) → c ≡ codeOf o → t ≡ leaves o was → (c ≡ 0 → ⊥) → t ≡ was
-refused-stands (accepted a) was t c z x h = absurd (h z)
-refused-stands (refused d p) was t c z x h = x
-
 -- two answers that the promise allows are equal
 pub one-filling : (o : Out (List ℤ)) (row : List ℤ) (c d : ℕ) (t u : List ℤ) → Fills o row c t → Fills o row d u → (c ≡ d) × (t ≡ u)
 one-filling o row c d t u f g = (f .0 ∙ sym (g .0), f .1 ∙ sym (g .1))

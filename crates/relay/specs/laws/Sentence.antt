@@ -7,11 +7,11 @@ use lib.IntN.{ℤ, pos}
 use lib.ListN.{length}
 use Rattle.layout.specs.Fmt.{Out, accepted, refused, also}
 use Rattle.layout.specs.Message.{codeOf, leaves}
-use Rattle.distress.specs.Sentence.{readSentence, heardOf, sentOf, Hears, Sends}
+use Rattle.sentence.specs.Sentence.{readSentence, heardOf, sentOf, Hears, Sends}
 use Rattle.distress.specs.declared.report.Report.{Report}
-use Rattle.distress.specs.declared.sentence.Heard.the-variants.{Good, Refused}
-use Rattle.distress.specs.declared.sentence.Sent.{Sent}
-use Rattle.distress.specs.declared.sentence.Sent.the-variants.{Bytes, Refused as Unsent}
+use Rattle.sentence.specs.declared.Heard.the-variants.{Good, Refused}
+use Rattle.sentence.specs.declared.Sent.{Sent}
+use Rattle.sentence.specs.declared.Sent.the-variants.{Bytes, Refused as Unsent}
 use Rattle.relay.specs.Row.{Fills}
 use Rattle.relay.specs.Report.{rowOf}
 use Rattle.relay.specs.Sentence.{sentenceNumbers, sentenceInto, SentenceWrites}

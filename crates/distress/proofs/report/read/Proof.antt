@@ -3,7 +3,8 @@ use mathlib.Core.Path.{refl, sym, ap, _∙_}
 use Rattle.layout.specs.laws.Walked.{read-walked}
 use Rattle.layout.specs.laws.Step.{stuck, clear}
 use Rattle.distress.specs.laws.Sound.{sized}
-use Rattle.distress.specs.Report.{reports, answerOf}
+use Rattle.layout.specs.Fmt.{also}
+use Rattle.distress.specs.Report.{reports, reportOf, answerOf}
 use Rattle.distress.specs.declared.report.Answer.the-variants.{Good}
 use borrow.Author.Needs.{needs}
 use Rattle.distress.proofs.report.read.Statement.{statement}
@@ -22,7 +23,7 @@ unfolding reports
 returns c =
     let f = c .before .before in
     let s = f .before .before .before .args .s .now in
-    sym (ap answerOf (read-walked reports s (f .before .lead .ensures) (f .fields .ensures .0) ∙ stuck (f .fields .result .walk) _ (c .if1 .taken)))
+    sym (ap (λ o. answerOf (also reportOf o)) (read-walked reports s (f .before .lead .ensures) (f .fields .ensures .0) ∙ stuck (f .fields .result .walk) _ (c .if1 .taken)))
 
 returns-2 : tie.Need-returns-2
 unfolding reports
@@ -30,7 +31,7 @@ returns-2 c =
     let f = c .before .before in
     let s = f .before .before .before .args .s .now in
     let e = read-walked reports s (f .before .lead .ensures) (f .fields .ensures .0) in
-    sym (ap answerOf (e ∙ clear (f .fields .result .walk) _ (c .if1 .left)) ∙ ap Good (f .fields .ensures .1))
+    sym (ap (λ o. answerOf (also reportOf o)) (e ∙ clear (f .fields .result .walk) _ (c .if1 .left)) ∙ ap Good (f .fields .ensures .1))
 
 pub read-spec : {M : Type 1} → statement M
 read-spec = tie.close (tie.spec lead-requires fields-requires returns returns-2)

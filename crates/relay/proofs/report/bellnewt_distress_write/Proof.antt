@@ -1,6 +1,7 @@
 -- `bellnewt_distress_write` is the report's `write` of the record of its numbers.
 use mathlib.Core.Path.{subst}
-use Rattle.distress.specs.Promises.{Writes}
+use Rattle.distress.specs.Report.{reports, valuesOf}
+use Rattle.layout.specs.Promises.{Writes}
 use Rattle.distress.specs.declared.report.Report.{Report}
 use Rattle.relay.specs.Report.{recordOf}
 use Rattle.relay.specs.laws.Report.{kept}
@@ -20,7 +21,7 @@ returns c =
     let start = call .before .before .before in
     let a = start .args in
     let r = recordOf (a .mmsi) (a .longitude) (a .latitude) (a .day) (a .hour) (a .minute) (a .speed) (a .course) (a .kind) in
-    subst (λ (r : Report). Writes (a .buf .now) r (call .write .result) (call .write .last .0))
+    subst (λ (r : Report). Writes reports (a .buf .now) (call .write .result) (call .write .last .0) (valuesOf r))
     (kept r (start .fits .longitude) (start .fits .latitude))
     (call .write .ensures)
 

@@ -1,0 +1,61 @@
+// The distress sentence's calls.
+ghost use Rattle.relay.specs.Row.{Fills};
+ghost use Rattle.relay.specs.Report.{recordOf};
+ghost use Rattle.relay.specs.Sentence.{sentenceNumbers, SentenceWrites};
+use distress::report::Report;
+use sentence::Heard;
+use sentence::Sent;
+
+// Reads the sentence into a row of 10: address, then the report's nine.
+#[no_mangle]
+pub extern "C" fn bellnewt_sentence_read(s: &[u8], row: &mut [i64]) -> u8
+    ensures { λ code. ⌜ Fills (sentenceNumbers (now (s .entry))) (now (row .entry)) code (now (row .exit)) ⌝ }
+{
+    let heard = sentence::read(s);
+    match heard {
+        Heard::Good(address, report) => {
+            let numbers = crate::report::numbers(address, report);
+            crate::rows::fill(row, &numbers)
+        },
+        Heard::Refused(code) => code,
+    }
+}
+
+// Writes the sentence of these numbers into the front of a lent buffer, and how many bytes it has into `size`.
+#[no_mangle]
+pub extern "C" fn bellnewt_sentence_write(
+    buf: &mut [u8],
+    size: &mut usize,
+    address: u32,
+    mmsi: u32,
+    longitude: i32,
+    latitude: i32,
+    day: u8,
+    hour: u8,
+    minute: u8,
+    speed: u8,
+    course: u16,
+    kind: u8,
+) -> u8
+    ensures { λ code. ⌜ SentenceWrites (now (buf .entry)) (now (size .entry)) address (recordOf mmsi longitude latitude day hour minute speed course kind) code (now (buf .exit)) (now (size .exit)) ⌝ }
+{
+    let report = Report {
+        mmsi,
+        longitude,
+        latitude,
+        day,
+        hour,
+        minute,
+        speed,
+        course,
+        kind,
+    };
+    let sent = sentence::write(buf, address, report);
+    match sent {
+        Sent::Bytes(n) => {
+            *size = n;
+            0
+        },
+        Sent::Refused(code) => code,
+    }
+}

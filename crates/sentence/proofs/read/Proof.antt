@@ -1,0 +1,117 @@
+-- `read`: a refused sentence gives its number; an accepted one, taken apart, gives the report's own answer.
+use borrow.Author.Needs.{needs}
+use mathlib.Core.Path.{sym, ap, _∙_}
+use native.Mathlib.Omega.{arith}
+use Prim.Native.Nat.{_-_}
+use lib.ListN.{length}
+use Rattle.sentence.specs.Sentence.{refusalOf}
+use Rattle.layout.specs.Fmt.{accepted}
+use Rattle.sentence.specs.declared.Heard.the-variants.{Refused}
+use Rattle.sentence.specs.laws.Parts.{length-part}
+use Rattle.sentence.specs.laws.Calls.{heard-refused, Taken, taken, heardAs, heard-inside}
+use Rattle.sentence.proofs.read.Statement.{statement}
+use Rattle.sentence.proofs.read.Tie as tie
+
+apart : (c : tie.After-known-told) → Taken (c .before .before .before .before .before .args .s .now) (c .before .outer .given .0 .0)
+apart c =
+    let m = c .before .before .before in
+    taken (m .before .before .args .s .now) (m .accept .result) (c .before .outer .given .0 .0) (m .accept .ensures) (c .before .outer .given .1)
+
+accept-requires : tie.Need-accept-requires
+accept-requires c κs = search needs
+
+enum-known-outer : tie.Need-enum-known-outer
+enum-known-outer c = search needs
+
+enum-told : tie.Need-enum-told
+enum-told c = search needs
+
+refusal-requires : tie.Need-refusal-requires
+refusal-requires c κs = search needs
+
+returns : tie.Need-returns
+returns c =
+    let t = c .before in
+    let m = t .before .before in
+    ap Refused (c .refusal .ensures ∙ ap refusalOf (t .enum-told .given .1))
+    ∙ sym (heard-refused (m .before .before .args .s .now) (m .accept .result) (t .enum-told .given .0 .0) (m .accept .ensures) (t .enum-told .given .1))
+
+sub-unhex : tie.Need-sub-unhex
+sub-unhex c = omega (arith, apart c .least)
+
+sub-unhex-2 : tie.Need-sub-unhex-2
+sub-unhex-2 c = omega (arith, apart c .least)
+
+sub-unhex-3 : tie.Need-sub-unhex-3
+sub-unhex-3 c = search needs
+
+part-unhex-start : tie.Need-part-unhex-start
+part-unhex-start c = search needs
+
+part-unhex-end : tie.Need-part-unhex-end
+part-unhex-end c = search needs
+
+unhex-requires : tie.Need-unhex-requires
+unhex-requires c κs =
+    let k = c .before in
+    let s = k .before .before .before .before .before .args .s .now in
+    let l = apart k .least in
+    (length-part (length s - 39) (length s - 5) s (omega arith) (omega arith) ∙ omega arith, apart k .figures)
+
+slice-aggregate-read : tie.Need-slice-aggregate-read
+slice-aggregate-read c = search needs
+
+read-requires : tie.Need-read-requires
+read-requires c κs = search needs
+
+enum-known-r : tie.Need-enum-known-r
+enum-known-r c = search needs
+
+enum-known-code : tie.Need-enum-known-code
+enum-known-code c = search needs
+
+returns-2 : tie.Need-returns-2
+returns-2 c =
+    let g = c .before in
+    let r = g .before .before in
+    let u = r .before .before in
+    let k = u .before .before in
+    let s = k .before .before .before .before .before .args .s .now in
+    let to = k .before .outer .given .0 .0 in
+    sym
+    (heard-inside s to (u .unhex .result) (apart k .inside ∙ ap (λ b. accepted (to, b)) (sym (u .unhex .ensures)))
+    ∙ ap (heardAs to) (sym (r .read .ensures) ∙ g .r .given .1))
+
+returns-3 : tie.Need-returns-3
+returns-3 c =
+    let g = c .before in
+    let r = g .before .before in
+    let u = r .before .before in
+    let k = u .before .before in
+    let s = k .before .before .before .before .before .args .s .now in
+    let to = k .before .outer .given .0 .0 in
+    sym
+    (heard-inside s to (u .unhex .result) (apart k .inside ∙ ap (λ b. accepted (to, b)) (sym (u .unhex .ensures)))
+    ∙ ap (heardAs to) (sym (r .read .ensures) ∙ g .code .given .1))
+
+pub read-spec : {M : Type 1} → statement M
+read-spec =
+    tie.close
+    (tie.spec
+    accept-requires
+    enum-known-outer
+    enum-told
+    refusal-requires
+    returns
+    sub-unhex
+    sub-unhex-2
+    sub-unhex-3
+    part-unhex-start
+    part-unhex-end
+    unhex-requires
+    slice-aggregate-read
+    read-requires
+    enum-known-r
+    enum-known-code
+    returns-2
+    returns-3)

@@ -1,0 +1,140 @@
+-- What the calls' steps say of the definitions: reading takes the accepted sentence apart, writing tests address, report and room. Assumes nothing.
+use mathlib.Core.Bool.{true, false}
+use mathlib.Core.List.{List, _++_, append-nil}
+use mathlib.Core.Path.{_≡_, refl, sym, ap, _∙_, subst}
+use Prim.Native.Nat.{ℕ, _+_, _≤_, _<_}
+use native.Mathlib.Omega.{arith}
+use lib.ListN.{length, drop, drop-of-length-le}
+use borrow.Author.Tests.{le-leb, lt-leb}
+use Rattle.bits.specs.Bits.{Bytes}
+use Rattle.layout.specs.Fmt.{Out, accepted, refused, also}
+use Rattle.layout.specs.Message.{codeOf, leaves, into, readMessage, writeMessage, correctMessage}
+use Rattle.layout.specs.laws.First.{bytes-long}
+use Rattle.layout.specs.laws.Whole.{was, made, write-read-message}
+use Rattle.layout.specs.laws.Family.{never-written}
+use Rattle.layout.specs.Promises.{readRecord, Writes}
+use Rattle.distress.specs.laws.Demands.{family, long}
+use Rattle.distress.specs.Report.{reports, valuesOf, reportOf, answerOf}
+use Rattle.sentence.specs.Sentence.{Front, allDigits, decimal, unhexed, opening, summedUp, sentence, addressGood, hexPart, aroundSo, readSentence, writeSentence, roomFor, aroundOf, heardOf, sentOf, laidOver, Sends}
+use Rattle.sentence.specs.laws.Parts.{summed-long}
+use Rattle.sentence.specs.laws.Tests.{led, passed, pattern-both}
+use Rattle.distress.specs.declared.report.Report.{Report}
+use Rattle.distress.specs.declared.report.Answer.{Answer}
+use Rattle.distress.specs.declared.report.Answer.the-variants.{Good as GoodReport, Refused as BadReport}
+use Rattle.sentence.specs.declared.Around.{Around}
+use Rattle.sentence.specs.declared.Around.the-variants.{Accepted as Accepts, Refused as Refuses}
+use Rattle.sentence.specs.declared.Heard.{Heard}
+use Rattle.sentence.specs.declared.Heard.the-variants.{Good, Refused}
+use Rattle.sentence.specs.declared.Sent.the-variants.{Bytes as Written, Refused as Unsent}
+
+-- ---- reading
+
+pub heard-fails : (s : List ℕ) (c p : ℕ) → aroundSo s ≡ refused c p → readSentence s ≡ refused c p
+unfolding readSentence
+heard-fails s c p e = rw e refl
+
+pub heard-refused : (s : List ℕ) (x : Around) (c : ℕ) → x ≡ aroundOf (aroundSo s) → x ≡ Refuses c → heardOf (readSentence s) ≡ Refused c
+heard-refused s x c e f = go (aroundSo s) refl e
+  where
+    go : (o : Out (ℕ × List ℕ)) → aroundSo s ≡ o → x ≡ aroundOf o → heardOf (readSentence s) ≡ Refused c
+    go (accepted y) g e = let z : _≡_ {A = ℕ} 0 1 = cc in absurd (omega arith)
+    go (refused d p) g e = let z : d ≡ c = cc in ap heardOf (heard-fails s d p g) ∙ ap Refused z
+
+-- an accepted sentence: its size, its digits, and what is inside
+pub record Taken (s : List ℕ) (a : ℕ) : Type 0 where
+  pub least : 54 ≤ length s
+  pub figures : allDigits 16 (hexPart s) ≡ true
+  pub inside : aroundSo s ≡ accepted (a, unhexed (hexPart s))
+
+pub taken : (s : List ℕ) (x : Around) (a : ℕ) → x ≡ aroundOf (aroundSo s) → x ≡ Accepts a → Taken s a
+taken s x a e f = go (aroundSo s) refl e
+  where
+    go : (o : Out (ℕ × List ℕ)) → aroundSo s ≡ o → x ≡ aroundOf o → Taken s a
+    go (refused d p) g e = let z : _≡_ {A = ℕ} 0 1 = cc in absurd (omega arith)
+    go (accepted y) g e =
+        let p = passed s y g in
+        let z : y .0 ≡ a = cc in
+        let w : y .1 ≡ unhexed (hexPart s) = ap (λ q. q .1) (p .inside) in
+        record { least = led s (p .first) .least; figures = pattern-both s (p .like) .1; inside = g ∙ λ i. accepted (z i, w i) }
+
+-- a report's answer inside a sentence
+abbrev pub heardAs : ℕ → Answer → Heard
+heardAs a (GoodReport r) = Good a r
+heardAs a (BadReport c) = Refused c
+
+pub heard-inside : (s : List ℕ) (a : ℕ) (bs : List ℕ) → aroundSo s ≡ accepted (a, bs) → heardOf (readSentence s) ≡ heardAs a (answerOf (readRecord reports reportOf bs))
+unfolding readSentence
+heard-inside s a bs e = rw e (go (readRecord reports reportOf bs))
+  where
+    go : (o : Out Report) → heardOf (also (λ r. (a, r)) o) ≡ heardAs a (answerOf o)
+    go (accepted r) = refl
+    go (refused c p) = refl
+
+-- ---- a report that is written has 17 bytes
+
+pub record Bytewise (bs : List ℕ) : Type 0 where
+  pub long : length bs ≡ 17
+  pub fine : Bytes bs
+
+pub bytewise : (vs bs : List ℕ) → writeMessage reports vs ≡ accepted bs → Bytewise bs
+unfolding reports
+bytewise vs bs e = let m = made reports bs vs e in record { long = long vs bs e; fine = subst Bytes (m .closes) (m .fine) }
+
+-- what writing into 17 bytes says
+pub record Reported (r : Report) (code : ℕ) (t : List ℕ) : Type 0 where
+  pub good : code ≡ 0 → writeMessage reports (valuesOf r) ≡ accepted t
+  pub bad : (code ≡ 0 → ⊥) → codeOf (writeMessage reports (valuesOf r)) ≡ code
+
+pub reported : (u : List ℕ) (r : Report) (code : ℕ) (t : List ℕ) → length u ≡ 17 → Writes reports u code t (valuesOf r) → Reported r code t
+reported u r code t n (z, x) = go (writeMessage reports (valuesOf r)) refl z x
+  where
+    go : (o : Out (List ℕ)) → writeMessage reports (valuesOf r) ≡ o → code ≡ codeOf (into u o) → t ≡ leaves (into u o) u → Reported r code t
+    go (refused c p) e z x = record { good = λ h. absurd (never-written family r p tt (e ∙ ap (λ c. refused c p) (sym z ∙ h))); bad = λ h. ap codeOf e ∙ sym z }
+    go (accepted m) e z x =
+        let l = bytewise (valuesOf r) m e .long in
+        let y : into u (accepted m) ≡ accepted m =
+        rw (le-leb (length m) (length u) (omega arith)) (ap (λ q. accepted (m ++ q)) (drop-of-length-le u {i = length m} (omega arith)) ∙ ap accepted (append-nil m)) in
+        record { good = λ h. e ∙ ap accepted (sym (x ∙ ap (λ o. leaves o u) y)); bad = λ h. absurd (h (z ∙ ap codeOf y)) }
+
+-- ---- writing
+
+pub sends : (s : List ℕ) (a : ℕ) (r : Report) (o : Out (List ℕ)) → roomFor s (writeSentence a r) ≡ o → Sends s a r (sentOf o) (laidOver o s)
+sends s a r o e = (ap sentOf (sym e), ap (λ o. laidOver o s) (sym e))
+
+module _ (s : List ℕ) (a : ℕ) (r : Report) where
+  pub bad-address : addressGood a ≡ false → Sends s a r (Unsent 4) s
+  unfolding writeSentence
+  bad-address e = sends s a r (refused 4 0) (rw e refl)
+
+  module _ (good : addressGood a ≡ true) where
+    pub bad-report : (c : ℕ) → (c ≡ 0 → ⊥) → codeOf (writeMessage reports (valuesOf r)) ≡ c → Sends s a r (Unsent c) s
+    unfolding writeSentence
+    bad-report c h e = go (writeMessage reports (valuesOf r)) refl e
+      where
+        go : (o : Out (List ℕ)) → writeMessage reports (valuesOf r) ≡ o → codeOf o ≡ c → Sends s a r (Unsent c) s
+        go (accepted m) f e = absurd (h (sym e))
+        go (refused d p) f e = sends s a r (refused c p) (rw (good, f, e) refl)
+
+    module _ (bs : List ℕ) (made : writeMessage reports (valuesOf r) ≡ accepted bs) where
+      wrote : writeSentence a r ≡ accepted (sentence a bs)
+      unfolding writeSentence
+      wrote = rw (good, made) refl
+
+      pub no-room : length s < length (sentence a bs) → Sends s a r (Unsent 6) s
+      no-room h = sends s a r (refused 6 0) (ap (roomFor s) wrote ∙ rw (lt-leb (length (sentence a bs)) (length s) h) refl)
+
+      pub all-sent : length (sentence a bs) ≤ length s → roomFor s (writeSentence a r) ≡ accepted (sentence a bs)
+      all-sent h = ap (roomFor s) wrote ∙ rw (le-leb (length (sentence a bs)) (length s) h) refl
+
+      pub sentence-size : length (sentence a bs) ≡ 53 + length (decimal 7 a)
+      unfolding sentence
+      sentence-size = summed-long (decimal 7 a) bs (bytewise (valuesOf r) bs made .long)
+
+      pub sent-laid : (ds t : List ℕ) (n : ℕ) → ds ≡ decimal 7 a → n ≡ 53 + length (decimal 7 a) → n ≤ length s → Front (summedUp (opening ds bs)) s t
+          → Sends s a r (Written n) t
+      unfolding sentence
+      sent-laid ds t n q k h f =
+          let e = all-sent (omega (arith, sentence-size)) in (
+            ap Written (k ∙ sym sentence-size) ∙ ap sentOf (sym e),
+            f ∙ ap (λ d. let w = summedUp (opening d bs) in w ++ drop (length w) s) q ∙ ap (λ o. laidOver o s) (sym e),
+          )
