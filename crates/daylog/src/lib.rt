@@ -138,10 +138,7 @@ fn report(body: &[u8]) -> u8
     ensures { λ r. ⌜ r ≡ Message·codeOf (readMessage reports (now (body .entry))) ⌝ }
 {
     let answer = distress::report::read(body);
-    match answer {
-        distress::report::Answer::Good(_) => 0,
-        distress::report::Answer::Refused(number) => number,
-    }
+    answer.refusal()
 }
 
 // A record's line, with its kind's word.

@@ -4,7 +4,6 @@ use mathlib.Core.Path.{_≡_, refl}
 use mathlib.Core.Bool.{false}
 use mathlib.Core.List.{List, [], _∷_}
 use lib.Dec.{eqb, lit≤}
-use lib.IntN.{pos}
 use lib.ListN.{length, getD}
 use Rattle.bits.specs.Bits.{fieldAt}
 use Rattle.layout.specs.Fmt.{Out, accepted, refused, Fmt, end}
@@ -77,13 +76,14 @@ reportOf vs = record {
   kind = getD vs 9 0;
 }
 
-abbrev pub blank : Report
-blank = record { mmsi = 0; longitude = pos 0; latitude = pos 0; day = 0; hour = 0; minute = 0; speed = 0; course = 0; kind = 0 }
-
 -- the paper's number and values
 abbrev pub answerOf : Out Report → Answer
 answerOf (accepted r) = Good r
 answerOf (refused c p) = Refused c
+
+abbrev pub numberOf : Answer → ℕ
+numberOf (Good r) = 0
+numberOf (Refused c) = c
 
 -- a record whose position fits its bits is that of its values
 pub again : (r : Report) → spellOf (2 ^ 25) (r .longitude) < 2 ^ 25 → spellOf (2 ^ 24) (r .latitude) < 2 ^ 24 → reportOf (valuesOf r) ≡ r

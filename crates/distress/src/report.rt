@@ -1,15 +1,16 @@
 // The distress report (paper 01, "Distress report"; 001, A.1).
 ghost use mathlib.Core.Path.{_≡_};
+ghost use mathlib.Core.Bool.{cond};
 ghost use mathlib.Core.List.{[]};
+ghost use lib.Dec.{eqb};
+ghost use Rattle.distress.specs.declared.report.Answer.the-variants.{Good, Refused};
 ghost use lib.ListN.{length};
-ghost use Rattle.distress.specs.Report.{reports, report, valuesOf, reportOf, blank};
+ghost use Rattle.distress.specs.Report.{reports, report, valuesOf, reportOf, answerOf, numberOf};
 ghost use Rattle.distress.specs.Promises.{Reads};
 ghost use Rattle.bits.specs.Bits.{bitsOf};
-ghost use Rattle.layout.specs.Fmt.{check, read};
+ghost use Rattle.layout.specs.Fmt.{also, check, read};
 ghost use Rattle.layout.specs.Message.{fault};
 ghost use Rattle.layout.specs.Promises.{Writes, Corrects};
-ghost use Rattle.layout.specs.Walk.{begun};
-ghost use Rattle.layout.specs.laws.Walked.{Walked};
 
 mod making;
 
@@ -32,6 +33,28 @@ pub struct Report {
 pub enum Answer {
     Good(Report),
     Refused(u8),
+}
+
+impl Answer {
+    // The report, unless a walk over it ended with a refusal.
+    fn told(code: u8, report: Report) -> Answer
+        ensures { λ r. ⌜ r ≡ cond (eqb code 0) (Good report) (Refused code) ⌝ }
+    {
+        if code != 0 {
+            return Answer::Refused(code);
+        }
+        Answer::Good(report)
+    }
+
+    // Its number: 0 for a good one.
+    pub fn refusal(self) -> u8
+        ensures { λ r. ⌜ r ≡ numberOf self ⌝ }
+    {
+        match self {
+            Answer::Good(_) => 0,
+            Answer::Refused(code) => code,
+        }
+    }
 }
 
 impl Report {
@@ -63,21 +86,15 @@ impl Report {
 
 pub const CODE: u64 = 0xBDC1;
 
-struct Whole {
-    walk: layout::walk::Walk,
-    report: Report,
-}
+// Where the fields stand in every report, and the widths of those that may be corrected.
+const PLACES: [usize; 11] = [0, 16, 48, 73, 97, 102, 107, 113, 120, 129, 133];
+
+const WIDTHS: [usize; 11] = [0, 32, 25, 24, 5, 5, 6, 7, 9, 4, 0];
 
 pub fn read(s: &[u8]) -> Answer
     ensures { λ r. ⌜ Reads (now (s .entry)) r ⌝ }
 {
-    let all = fields(s, lead(s), 0);
-    let code = all.walk.code;
-    let report = all.report;
-    if code != 0 {
-        return Answer::Refused(code);
-    }
-    Answer::Good(report)
+    fields(s, lead(s))
 }
 
 // Writes the report into the front of a lent buffer: the record is judged, then room (6); the bytes past the message stay.
@@ -101,18 +118,17 @@ pub fn write(buf: &mut [u8], r: Report) -> u8
 pub fn correct(buf: &mut [u8], field: usize, value: u64) -> u8
     ensures { λ code. ⌜ Corrects reports (now (buf .entry)) field value code (now (buf .exit)) ⌝ }
 {
-    let was = fields(buf, lead(buf), field);
-    let w = was.walk;
-    let code = w.admits(value);
+    let was = fields(buf, lead(buf));
+    let spot = layout::correcting::look_up(&PLACES, &WIDTHS, field);
+    let at = spot.at;
+    let width = spot.width;
+    let code = layout::correcting::admits(was.refusal(), width, value);
     if code != 0 {
         return code;
     }
-    let at = w.spot;
-    let width = w.width;
     let old = layout::correcting::swap(buf, at, width, value);
-    let again = fields(buf, 0, 0);
-    let w = again.walk;
-    layout::correcting::settle(buf, at, width, old, w.code)
+    let again = fields(buf, 0);
+    layout::correcting::settle(buf, at, width, old, again.refusal())
 }
 
 // The first tests: smallest size, code, size.
@@ -131,17 +147,15 @@ fn lead(s: &[u8]) -> u8
     0
 }
 
-// The fields in bit order, after the first tests' answer, and where field number `want` stands. Once the size is known
-// here, no field has to be tested for it.
-fn fields(s: &[u8], lead: u8, want: usize) -> Whole
+// The fields in bit order, after the first tests' answer. Once the size is known here, no field has to be tested for it.
+fn fields(s: &[u8], lead: u8) -> Answer
     requires { ⌜ (lead ≡ 0 → length (now s) ≡ 17) ⌝ }
-    ensures { λ r. ⌜ Walked (check (fault lead) 0 (read report [] 0 (bitsOf (now (s .entry))))) report want (valuesOf (r .report)) (r .walk)
-        × (reportOf (valuesOf (r .report)) ≡ r .report) ⌝ }
+    ensures { λ r. ⌜ r ≡ answerOf (also reportOf (check (fault lead) 0 (read report [] 0 (bitsOf (now (s .entry)))))) ⌝ }
 {
     if s.len() != Report::LEAST {
-        return unread(lead, want);
+        return Answer::Refused(lead);
     }
-    let w = layout::walk::Walk::begin(lead, want);
+    let w = layout::walk::Walk::begin(lead, 0);
     let w = w.code(s, 16, CODE);
     let w = w.num(s, 32, 0, 999_999_999);
     let mmsi = w.v as u32;
@@ -161,8 +175,7 @@ fn fields(s: &[u8], lead: u8, want: usize) -> Whole
     let course = w.v as u16;
     let w = w.num(s, 4, 0, 9);
     let kind = w.v as u8;
-    let w = w.fill(s, 3);
-    let walk = w.end(s);
+    let w = w.fill(s, 3).end(s);
     let report = Report {
         mmsi,
         longitude,
@@ -174,24 +187,5 @@ fn fields(s: &[u8], lead: u8, want: usize) -> Whole
         course,
         kind,
     };
-    Whole { walk, report }
-}
-
-// Of a message that the first tests refused.
-fn unread(lead: u8, want: usize) -> Whole
-    ensures { λ r. ⌜ (r .walk ≡ begun lead want) × (r .report ≡ blank) ⌝ }
-{
-    let walk = layout::walk::Walk::begin(lead, want);
-    let report = Report {
-        mmsi: 0,
-        longitude: 0,
-        latitude: 0,
-        day: 0,
-        hour: 0,
-        minute: 0,
-        speed: 0,
-        course: 0,
-        kind: 0,
-    };
-    Whole { walk, report }
+    Answer::told(w.code, report)
 }

@@ -6,11 +6,15 @@ use Prim.Native.Nat.{ℕ, _^_}
 use lib.Dec.{ltb, eqb}
 use Rattle.bits.specs.Answers.{puttable}
 use Rattle.bits.specs.Bits.{putAt}
-use Rattle.layout.specs.declared.walk.Walk.{Walk}
+use Rattle.layout.specs.Fmt.{Spot, none, found}
+
+-- where a field that may be corrected stands, width 0 being none
+abbrev pub standing : ℕ → ℕ → Spot
+standing at width = cond (eqb width 0) none (found at width)
 
 -- the message's own refusal, 10, then too wide
-abbrev pub admitted : Walk → ℕ → ℕ
-admitted r v = cond (eqb (r .code) 0) (cond (eqb (r .width) 0) 10 (cond (ltb v (2 ^ r .width)) 0 4)) (r .code)
+abbrev pub admitted : ℕ → ℕ → ℕ → ℕ
+admitted code width v = cond (eqb code 0) (cond (eqb width 0) 10 (cond (ltb v (2 ^ width)) 0 4)) code
 
 -- s with the field made v, where both fit
 abbrev pub putIn : List ℕ → ℕ → ℕ → ℕ → List ℕ

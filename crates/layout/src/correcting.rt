@@ -2,30 +2,48 @@
 ghost use mathlib.Core.Bool.{cond};
 ghost use mathlib.Core.Path.{_≡_};
 ghost use lib.Dec.{eqb};
+ghost use lib.ListN.{getD};
 ghost use Rattle.bits.specs.Answers.{got};
 ghost use Rattle.layout.specs.Correcting.{admitted, putIn};
-use crate::walk::Walk;
 
-impl Walk {
-    // What a correction of the sought field to v answers before a bit is changed: the message's own refusal, 10, too wide; 0 to go on.
-    pub fn admits(self, v: u64) -> u8
-        ensures { λ r. ⌜ r ≡ admitted self v ⌝ }
-    {
-        let code = self.code;
-        let width = self.width;
-        if code != 0 {
-            return code;
-        }
-        if width == 0 {
-            return crate::FIELD;
-        }
-        if width < 64 {
-            if v >> width != 0 {
-                return crate::RANGE;
-            }
-        }
-        0
+// Where a field stands, and its width: 0 for none that may be corrected.
+pub struct Spot {
+    pub at: usize,
+    pub width: usize,
+}
+
+// The spot of field number `field`, where a layout's fields stand in the same places in every message.
+pub fn look_up(places: &[usize], widths: &[usize], field: usize) -> Spot
+    ensures { λ r. ⌜ (r .at ≡ getD (now (places .entry)) field 0) × (r .width ≡ getD (now (widths .entry)) field 0) ⌝ }
+{
+    let at = entry(places, field);
+    let width = entry(widths, field);
+    Spot { at, width }
+}
+
+// The entry of a table, 0 past its end.
+fn entry(table: &[usize], i: usize) -> usize
+    ensures { λ r. ⌜ r ≡ getD (now (table .entry)) i 0 ⌝ }
+{
+    if i < table.len() { table[i] } else { 0 }
+}
+
+// What a correction to v answers before a bit is changed: the message's own refusal, 10, too wide; 0 to go on.
+pub fn admits(code: u8, width: usize, v: u64) -> u8
+    ensures { λ r. ⌜ r ≡ admitted code width v ⌝ }
+{
+    if code != 0 {
+        return code;
     }
+    if width == 0 {
+        return crate::FIELD;
+    }
+    if width < 64 {
+        if v >> width != 0 {
+            return crate::RANGE;
+        }
+    }
+    0
 }
 
 // Makes the field v, and gives what it was.

@@ -11,18 +11,24 @@ use Rattle.layout.specs.Fmt.{spot, none, found}
 use Rattle.layout.specs.Sign.{intOf, spellOf}
 use Rattle.layout.specs.laws.Correct.{none-clash}
 use Rattle.layout.specs.laws.Sign.{spell-int}
-use Rattle.layout.specs.laws.Spots.{spotsFrom, spots-flat, eachAt, set-each}
+use Rattle.layout.specs.laws.Spots.{Steady, spotsFrom, spots-flat, rows, slim, Table, eachAt, set-each}
 use Rattle.distress.specs.Changed.{spotOf, changed}
 use Rattle.distress.specs.Report.{report, reports, valuesOf}
 use Rattle.distress.specs.declared.report.Report.{Report}
 
+steady : Steady report
+unfolding report
+steady = ((λ h. refl), ((λ h. refl), ((λ h. refl), ((λ h. refl), ((λ h. refl), ((λ h. refl), ((λ h. refl), ((λ h. refl), ((λ h. refl), ((λ h. refl), ((λ h. refl), tt)))))))))))
+
 -- where each field stands is the same in every report
 pub spotted : (r : Report) (i : ℕ) → spot (reports .fmt) [] (valuesOf r) i ≡ spotOf i
 unfolding reports report valuesOf spotsFrom
-spotted r i =
-    spots-flat report (valuesOf r) i refl
-    ((λ h. refl), ((λ h. refl), ((λ h. refl), ((λ h. refl), ((λ h. refl), ((λ h. refl), ((λ h. refl), ((λ h. refl), ((λ h. refl), ((λ h. refl), ((λ h. refl), tt)))))))))))
-    refl
+spotted r i = spots-flat report (valuesOf r) i refl steady refl
+
+-- the table that the code looks in
+pub table : Table reports (0 ∷ 16 ∷ 48 ∷ 73 ∷ 97 ∷ 102 ∷ 107 ∷ 113 ∷ 120 ∷ 129 ∷ 133 ∷ []) (0 ∷ 32 ∷ 25 ∷ 24 ∷ 5 ∷ 5 ∷ 6 ∷ 7 ∷ 9 ∷ 4 ∷ 0 ∷ [])
+unfolding reports report spotsFrom rows slim
+table = record { even = refl; steady = steady; lists = refl; paired = refl; narrow = refl }
 
 -- a changed signed field is spelled by its new value
 spelled : (b : Bool) (full v : ℕ) (x : ℤ) → (b ≡ true → spellOf full (intOf full v) ≡ v) → spellOf full (cond b (intOf full v) x) ≡ cond b v (spellOf full x)

@@ -1,6 +1,5 @@
 -- The report is a family of layout/specs/laws/Family, whose theorems are demands 2 and 3; said here of the report's own promises. Assumes nothing.
 use mathlib.Core.Path.{_≡_, refl, sym, ap, _∙_, subst}
-use mathlib.Core.Bool.{Bool}
 use mathlib.Core.List.{List, [], _∷_}
 use Prim.Native.Nat.{ℕ, _≤_, _<_, _^_}
 use lib.Dec.{lit≤}
@@ -11,7 +10,8 @@ use Rattle.bits.specs.Bits.{Bytes, putAt}
 use Rattle.layout.specs.Fmt.{Out, accepted, refused, found}
 use Rattle.layout.specs.Message.{writeMessage}
 use Rattle.layout.specs.Promises.{readRecord, Writes, Corrects}
-use Rattle.layout.specs.laws.Entries.{fields, entries, held-entries}
+use Rattle.layout.specs.laws.Entries.{entries, held-entries}
+use Rattle.layout.specs.laws.Spots.{spotsFrom}
 use Rattle.layout.specs.laws.Family.{Family, written-read, accepted-correction, corrected-as-written}
 use Rattle.layout.specs.laws.First.{bytes-long}
 use Rattle.layout.specs.laws.Held.{Held, exactly}
@@ -51,7 +51,7 @@ judged = (
 
 -- accepted values are those of their record: the code, the fill and the two signs are as they must be
 same-values : (vs : List ℕ) → Held report [] vs → valuesOf (reportOf vs) ≡ vs
-unfolding report valuesOf reportOf fields entries
+unfolding report valuesOf reportOf spotsFrom entries
 same-values vs h =
     let e = held-entries report vs refl h in
     let g = subst (Held report []) (sym e) h in

@@ -1,15 +1,20 @@
 -- Where the fields of a flat layout stand is the same in every message, and a list with one value changed is the list changed entry by entry: for a family's changed record. Assumes nothing.
 use mathlib.Core.Path.{_≡_, refl, sym, ap, _∙_}
-use mathlib.Core.Bool.{Bool, true, false, cond, false≢true}
+use mathlib.Core.Bool.{Bool, true, false, cond, _&&_, false≢true}
 use mathlib.Core.List.{List, [], _∷_}
-use Prim.Native.Nat.{ℕ, zero, suc, _+_, _<_}
+use Prim.Native.Nat.{ℕ, zero, suc, _+_, _≤_, _<_}
 use native.Mathlib.Nat.{add-zero, zero-add, add-assoc}
 use native.Mathlib.Omega.{arith}
-use borrow.Author.Tests.{eq-eqb, ne-eqb}
-use lib.Dec.{eqb}
+use borrow.Author.Tests.{eq-eqb, ne-eqb, leb-true}
+use lib.Dec.{eqb, leb}
 use lib.ListN.{length, getD, set}
-use Rattle.layout.specs.Fmt.{Fmt, end, field, choice, bytes, Spot, none, found, later, where?, spot}
+use Rattle.layout.specs.Correcting.{standing}
+use Rattle.layout.specs.Fmt.{accepted, Fmt, end, field, choice, bytes, Spot, none, found, later, where?, spot}
+use Rattle.layout.specs.Message.{Layout, readMessage}
 use Rattle.layout.specs.laws.Extent.{flat}
+use Rattle.layout.specs.laws.Held.{Held, held}
+use Rattle.layout.specs.laws.Round.{read-write}
+use Rattle.layout.specs.laws.Whole.{was}
 
 -- the fields from bit `at` on: where each that may be corrected stands
 unfoldable pub spotsFrom : Fmt → ℕ → List Spot
@@ -46,6 +51,16 @@ spots-flat f vs i z s l = unmoved (spot f [] vs i) ∙ spots-from f [] 0 vs i z 
     unmoved none = refl
     unmoved (found p u) = ap (λ q. found q u) (sym (zero-add p))
 
+-- accepted values are as many as the fields
+pub held-long : (f : Fmt) (h : List ℕ) (at : ℕ) (vs : List ℕ) → flat f ≡ true → Held f h vs → length vs ≡ length (spotsFrom f at)
+unfolding spotsFrom
+held-long end h at [] z e = refl
+held-long end h at (v ∷ vs) z e = absurd e
+held-long (field w j m f) h at [] z e = absurd e
+held-long (field w j m f) h at (v ∷ vs) z e = ap suc (held-long f (v ∷ h) (at + w) vs z (e .2))
+held-long (choice w j f) h at vs z e = absurd (false≢true z)
+held-long (bytes f) h at vs z e = absurd (false≢true z)
+
 -- the list whose entry number i, counted from k, is v
 unfoldable pub eachAt : ℕ → ℕ → ℕ → List ℕ → List ℕ
 eachAt i v k [] = []
@@ -66,3 +81,53 @@ each-from (suc i) v k (x ∷ l) =
 
 pub set-each : (i v : ℕ) (l : List ℕ) → set l i v ≡ eachAt i v 0 l
 set-each i v l = sym (each-from i v 0 l) ∙ ap (λ n. eachAt n v 0 l) (omega arith)
+
+-- ---- a table of places and widths, in which code looks a field up
+
+-- the spots of the table's rows
+unfoldable pub rows : List ℕ → List ℕ → List Spot
+rows [] ws = []
+rows (p ∷ ps) [] = []
+rows (p ∷ ps) (w ∷ ws) = standing p w ∷ rows ps ws
+
+row-at : (ps ws : List ℕ) (i : ℕ) → length ps ≡ length ws → standing (getD ps i 0) (getD ws i 0) ≡ getD (rows ps ws) i none
+unfolding rows
+row-at [] [] i e = refl
+row-at [] (w ∷ ws) i e = absurd (omega arith)
+row-at (p ∷ ps) [] i e = absurd (omega arith)
+row-at (p ∷ ps) (w ∷ ws) zero e = refl
+row-at (p ∷ ps) (w ∷ ws) (suc i) e = row-at ps ws i (omega arith)
+
+unfoldable pub slim : List ℕ → Bool
+slim [] = true
+slim (w ∷ ws) = leb w 32 && slim ws
+
+slim-at : (ws : List ℕ) (i : ℕ) → slim ws ≡ true → getD ws i 0 ≤ 32
+unfolding slim
+slim-at [] i e = omega arith
+slim-at (w ∷ ws) i e = each (leb w 32) refl i e (λ i e. slim-at ws i e)
+  where
+    each : (x : Bool) → leb w 32 ≡ x → (i : ℕ) → (x && slim ws) ≡ true → ((i : ℕ) → slim ws ≡ true → getD ws i 0 ≤ 32) → getD (w ∷ ws) i 0 ≤ 32
+    each true f zero e rest = leb-true w 32 f
+    each true f (suc i) e rest = rest i e
+    each false f i e rest = absurd (false≢true e)
+
+-- ps and ws are where the fields of a flat layout stand.
+pub record Table (l : Layout) (ps ws : List ℕ) : Type 0 where
+  pub even : flat (l .fmt) ≡ true
+  pub steady : Steady (l .fmt)
+  pub lists : rows ps ws ≡ spotsFrom (l .fmt) 0
+  pub paired : length ps ≡ length ws
+  pub narrow : slim ws ≡ true
+
+module _ (l : Layout) {ps ws : List ℕ} (t : Table l ps ws) (i : ℕ) {p w : ℕ} (looked-up : (p ≡ getD ps i 0) × (w ≡ getD ws i 0)) where
+  -- The field i of an accepted message stands where the table says.
+  pub table-stands : (s vs : List ℕ) → readMessage l s ≡ accepted vs → spot (l .fmt) [] vs i ≡ standing p w
+  table-stands s vs r =
+      spots-flat (l .fmt) vs i (t .even) (t .steady) (held-long (l .fmt) [] 0 vs (t .even) (held (l .fmt) [] 0 vs _ (read-write (l .fmt) [] 0 vs _ (was l s vs r .walked))))
+      ∙ ap (λ t. getD t i none) (sym (t .lists))
+      ∙ sym (row-at ps ws i (t .paired))
+      ∙ rw (← looked-up .0, ← looked-up .1) refl
+
+  pub table-slim : w ≤ 32
+  table-slim = rw (looked-up .1) (slim-at ws i (t .narrow))

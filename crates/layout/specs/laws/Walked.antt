@@ -1,5 +1,5 @@
 -- The end of a walk, and what the whole walk says of the message: its answer, and where the sought field stood. Assumes nothing.
-use mathlib.Core.Path.{_≡_, refl, sym, ap, _∙_, subst, subst⁻¹}
+use mathlib.Core.Path.{_≡_, refl, ap, _∙_, subst, subst⁻¹}
 use mathlib.Core.Bool.{Bool, true, false, cond}
 use mathlib.Core.List.{List, []}
 use Prim.Native.Nat.{ℕ, zero, suc, _+_, _-_, _*_, _/_, _%_, _≤_, _<_, _^_}
@@ -14,11 +14,9 @@ use Rattle.bits.specs.Answers.{got}
 use Rattle.bits.specs.laws.Answers.{got-fits}
 use Rattle.bits.specs.laws.Bytes.{length-bits}
 use Rattle.layout.specs.Fmt.{Out, accepted, refused, orBad, check, Fmt, end, also, read, pad, spot}
-use Rattle.layout.specs.Message.{Layout, fault, body, sealFault, firstOf, first, readMessage}
+use Rattle.layout.specs.Message.{Layout, fault, body, sealFault, firstOf, first, codeOf, readMessage}
 use Rattle.layout.specs.Reading.{closes, ended}
-use Rattle.layout.specs.Walk.{begun}
-use Rattle.layout.specs.laws.Round.{clash}
-use Rattle.layout.specs.laws.Step.{sticky, clear, stood, sought, Reading, clean}
+use Rattle.layout.specs.laws.Step.{sticky, stood, sought, Reading, clean}
 use Rattle.layout.specs.declared.walk.Walk.{Walk}
 
 -- The whole walk: its answer, and where the field i stood.
@@ -30,18 +28,15 @@ pub record Walked (o : Out (List ℕ)) (all : Fmt) (i : ℕ) (vs : List ℕ) (r 
 pub same-values : {o : Out (List ℕ)} {all : Fmt} {i : ℕ} {us vs : List ℕ} {r : Walk} → us ≡ vs → Walked o all i us r → Walked o all i vs r
 same-values {o} {all} {i} {r = r} e x = subst (λ vs. Walked o all i vs r) e x
 
--- Where the first tests refused, nothing is walked.
-pub unwalked : {all : Fmt} {i : ℕ} {vs : List ℕ} {r : Walk} (o : Out (List ℕ)) (c : ℕ) → (c ≡ 0 → ⊥) → r ≡ begun c i → Walked (check (fault c) 0 o) all i vs r
-unwalked {all} {i} {vs} o c n d = subst⁻¹ (λ r. Walked (check (fault c) 0 o) all i vs r) d (record { so = go c n; spots = λ z. absurd (n z); slim = omega arith })
-  where
-    go : (c : ℕ) → (c ≡ 0 → ⊥) → check (fault c) 0 o ≡ sticky (begun c i) (accepted vs)
-    go zero n = absurd (n refl)
-    go (suc c) n = rw (ne-eqb (suc c) 0 n) refl
+-- Where the first tests refused, that is the answer.
+pub held-back : {A : Type 0} (c : ℕ) (o : Out A) → (c ≡ 0 → ⊥) → check (fault c) 0 o ≡ refused c 0
+held-back zero o n = absurd (n refl)
+held-back (suc c) o n = refl
 
--- A walk that refuses nothing had nothing refused before it.
-pub walked-clean : {all : Fmt} {i : ℕ} {vs : List ℕ} {r : Walk} (o : Out (List ℕ)) (c : ℕ) → Walked (check (fault c) 0 o) all i vs r → r .code ≡ 0 → c ≡ 0
-walked-clean o zero x z = refl
-walked-clean {vs = vs} {r} o (suc c) x z = clash (x .so ∙ clear r (accepted vs) z)
+-- What was accepted behind the first tests passed them.
+pub unled : {A : Type 0} (c : ℕ) (o : Out A) → codeOf (check (fault c) 0 o) ≡ 0 → c ≡ 0
+unled zero o e = refl
+unled (suc c) o e = e
 
 -- fill bits up to a whole byte, and nothing behind them
 pub finish : {o : Out (List ℕ)} {all : Fmt} {i : ℕ} {s : List ℕ} {h : List ℕ} {at : ℕ} {k : List ℕ → List ℕ} {r q : Walk} → at + 8 < 2 ^ 64
@@ -108,8 +103,7 @@ first-tests l s o = go (l .lead s) (l .seal)
         late false = refl
     go zero true = stamped (eqb (getD s (length s - 1) 0) (xorOf (take (length s - 1) s)))
 
--- The walk after the first tests is the reading of the message.
-pub read-walked : (l : Layout) (s : List ℕ) {c i : ℕ} {vs : List ℕ} {r : Walk} → c ≡ first l s
-    → Walked (check (fault c) 0 (read (l .fmt) [] 0 (bitsOf (body (l .seal) s)))) (l .fmt) i vs r → readMessage l s ≡ sticky r (accepted vs)
+-- The message is read by its first tests, then its fields.
+pub read-first : (l : Layout) (s : List ℕ) {c : ℕ} → c ≡ first l s → readMessage l s ≡ check (fault c) 0 (read (l .fmt) [] 0 (bitsOf (body (l .seal) s)))
 unfolding readMessage
-read-walked l s e x = first-tests l s (read (l .fmt) [] 0 (bitsOf (body (l .seal) s))) ∙ rw (← e) (x .so)
+read-first l s e = first-tests l s (read (l .fmt) [] 0 (bitsOf (body (l .seal) s))) ∙ rw (← e) refl

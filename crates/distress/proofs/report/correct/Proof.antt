@@ -1,8 +1,11 @@
--- `correct` is the correction in place of every layout, with the report's walk before and behind the change.
+-- `correct` is the correction in place of every layout, with the report's fields read before and behind the change and its table of places.
 use mathlib.Core.Path.{refl, sym, _∙_}
 use Rattle.layout.specs.laws.Correcting.{admitted-clean, correct-early, correct-late}
-use Rattle.layout.specs.laws.Walked.{walked-clean}
-use Rattle.distress.specs.Report.{reports}
+use Rattle.layout.specs.laws.Spots.{table-stands, table-slim}
+use Rattle.distress.specs.Report.{report, reports}
+use Rattle.distress.specs.laws.Answers.{fields-code, whole-code, clean-lead}
+use Rattle.distress.specs.laws.Correction.{table}
+use Rattle.distress.specs.laws.Demands.{family}
 use Rattle.distress.specs.laws.Sound.{sound, sized}
 use borrow.Author.Needs.{needs}
 use Rattle.distress.proofs.report.correct.Statement.{statement}
@@ -16,6 +19,18 @@ fields-requires c κs =
     let s = c .before .before .before .args .buf .now in
     λ z. sized s (sym (c .lead .ensures) ∙ z)
 
+slice-aggregate-look-up : tie.Need-slice-aggregate-look-up
+slice-aggregate-look-up c = search needs
+
+slice-aggregate-look-up-2 : tie.Need-slice-aggregate-look-up-2
+slice-aggregate-look-up-2 c = search needs
+
+look-up-requires : tie.Need-look-up-requires
+look-up-requires c κs = search needs
+
+refusal-requires : tie.Need-refusal-requires
+refusal-requires c κs = search needs
+
 admits-requires : tie.Need-admits-requires
 admits-requires c κs = search needs
 
@@ -25,9 +40,14 @@ same-length c = search needs
 returns : tie.Need-returns
 unfolding reports
 returns c =
-    let f = c .before .before .before in
+    let g = c .before in
+    let look = g .before .before in
+    let f = look .before .before .before in
     let a = f .before .before .before .before .args in
-    correct-early reports sound (a .buf .now) (a .field) (a .value) (f .before .lead .ensures) (f .fields .ensures .0) (c .before .admits .ensures) (c .if1 .taken)
+    let s = a .buf .now in
+    let reads = whole-code s _ _ _ (g .before .refusal .ensures) (f .fields .ensures) (f .before .lead .ensures) in
+    correct-early reports sound (family .judged) s (a .field) (a .value) _ _ reads (table-stands reports table (a .field) (look .look-up .ensures) s) (table-slim reports table (a .field) (look .look-up .ensures))
+    (g .admits .ensures) (c .if1 .taken)
 
 swap-requires : tie.Need-swap-requires
 swap-requires c κs = search needs
@@ -36,10 +56,15 @@ fields-requires-2 : tie.Need-fields-requires-2
 fields-requires-2 c κs =
     let swap = c .before .before .before in
     let test = swap .before .before in
-    let f = test .before .before .before in
+    let g = test .before in
+    let f = g .before .before .before .before .before in
     let a = f .before .before .before .before .args in
-    let clean = admitted-clean (f .fields .result .walk) (a .value) (sym (test .before .admits .ensures) ∙ test .if1 .left) in
-    λ z. swap .swap .kept .0 ∙ sized (a .buf .now) (sym (f .before .lead .ensures) ∙ walked-clean _ _ (f .fields .ensures .0) clean)
+    let s = a .buf .now in
+    let clean = admitted-clean (g .before .refusal .result) (g .before .before .look-up .result .width) (a .value) (sym (g .admits .ensures) ∙ test .if1 .left) in
+    λ z. swap .swap .kept .0 ∙ sized s (sym (f .before .lead .ensures) ∙ clean-lead s _ _ _ (g .before .refusal .ensures) (f .fields .ensures) clean)
+
+refusal-requires-2 : tie.Need-refusal-requires-2
+refusal-requires-2 c κs = search needs
 
 settle-requires : tie.Need-settle-requires
 settle-requires c κs = search needs
@@ -51,14 +76,19 @@ returns-2 : tie.Need-returns-2
 unfolding reports
 returns-2 c =
     let settle = c .before .before in
-    let again = settle .before .before .before in
-    let swap = again .before .before .before .before in
+    let again = settle .before in
+    let f2 = again .before .before in
+    let swap = f2 .before .before .before .before in
     let test = swap .before .before in
-    let f = test .before .before .before in
+    let g = test .before in
+    let look = g .before .before in
+    let f = look .before .before .before in
     let known = f .before .before .before in
     let a = known .before .args in
-    correct-late reports sound (a .buf .now) (a .field) (a .value) (f .before .lead .ensures) (f .fields .ensures .0) (λ i. known .slice-known .given i .fits)
-    (test .before .admits .ensures) (test .if1 .left) (swap .swap .ensures) (again .fields2 .ensures .0) (settle .settle .ensures) refl
+    let s = a .buf .now in
+    let reads = whole-code s _ _ _ (g .before .refusal .ensures) (f .fields .ensures) (f .before .lead .ensures) in
+    correct-late reports sound (family .judged) s (a .field) (a .value) _ _ reads (table-stands reports table (a .field) (look .look-up .ensures) s) (table-slim reports table (a .field) (look .look-up .ensures))
+    (λ i. known .slice-known .given i .fits) (g .admits .ensures) (test .if1 .left) (swap .swap .ensures) (fields-code _ 0 _ _ (again .refusal2 .ensures) (f2 .fields2 .ensures)) (settle .settle .ensures) refl
 
 pub correct-spec : {M : Type 1} → statement M
 correct-spec =
@@ -66,11 +96,16 @@ correct-spec =
     (tie.spec
     lead-requires
     fields-requires
+    slice-aggregate-look-up
+    slice-aggregate-look-up-2
+    look-up-requires
+    refusal-requires
     admits-requires
     same-length
     returns
     swap-requires
     fields-requires-2
+    refusal-requires-2
     settle-requires
     same-length-2
     returns-2)

@@ -2,32 +2,29 @@
 use mathlib.Core.Path.{_≡_, refl, sym, ap, _∙_}
 use Prim.Native.Nat.{_≤_, _<_, _^_}
 use mathlib.Core.List.{[], _∷_}
-use lib.Dec.{lit<, lit≤}
+use lib.Dec.{eqb, lit<, lit≤}
 use Rattle.layout.specs.Sign.{spellOf}
 use Rattle.layout.specs.laws.Reading.{start, step-code, step-num, step-signed, step-fill}
 use Rattle.bits.specs.Bits.{bitsOf}
-use Rattle.layout.specs.Fmt.{read}
-use Rattle.layout.specs.Sign.{intOf}
-use Rattle.layout.specs.laws.Walked.{unwalked, finish, same-values}
+use Rattle.layout.specs.Fmt.{also, read}
+use mathlib.Core.Bool.{cond}
+use Rattle.layout.specs.laws.Walked.{held-back, finish, same-values}
 use Rattle.layout.specs.laws.Sign.{spell-int}
 use mir.Syntax.{w32}
 use mir.ValLaws.{toZ-ofZ}
-use Rattle.distress.specs.Report.{report, valuesOf, reportOf, blank, again}
+use Rattle.distress.specs.Report.{report, valuesOf, reportOf, answerOf, again}
+use Rattle.distress.specs.laws.Answers.{told-so}
+use Rattle.distress.specs.declared.report.Answer.the-variants.{Good, Refused}
 use borrow.Author.Needs.{needs}
 use Rattle.distress.proofs.report.fields.Statement.{statement}
 use Rattle.distress.proofs.report.fields.Tie as tie
 
-unread-requires : tie.Need-unread-requires
-unread-requires c κs = search needs
-
 returns : tie.Need-returns
-unfolding valuesOf reportOf spellOf intOf
 returns c =
-    let i = c .before in
-    let a = i .before .before .args in
-    let n : a .lead ≡ 0 → ⊥ = λ z. i .if1 .taken (i .before .before .pre z) in
-    let e : c .unread .result .report ≡ blank = c .unread .ensures .1 in
-    (unwalked (read report [] 0 (bitsOf (a .s .now))) (a .lead) n (c .unread .ensures .0), rw e refl)
+    let i = c .before .before in
+    let a = i .args in
+    let n : a .lead ≡ 0 → ⊥ = λ z. c .if1 .taken (i .pre z) in
+    sym (ap (λ o. answerOf (also reportOf o)) (held-back (a .lead) (read report [] 0 (bitsOf (a .s .now))) n))
 
 begin-requires : tie.Need-begin-requires
 begin-requires c κs = search needs
@@ -95,10 +92,14 @@ fill-requires c κs = search needs
 end-requires : tie.Need-end-requires
 end-requires c κs = search needs
 
+told-requires : tie.Need-told-requires
+told-requires c κs = search needs
+
 returns-2 : tie.Need-returns-2
 unfolding report valuesOf
 returns-2 c =
-    let c12 = c .before in
+    let ended = c .before in
+    let c12 = ended .before in
     let c11 = c12 .before .before in
     let c10 = c11 .before .before in
     let c9 = c10 .before .before in
@@ -114,7 +115,7 @@ returns-2 c =
     let cs = c0 .before in
     let a = cs .before .before .before .args in
     let s = a .s .now in
-    let r0 = start report (a .want) (a .lead) s (cs .begin .ensures) in
+    let r0 = start report 0 (a .lead) s (cs .begin .ensures) in
     let r1 = step-code 16 (lit< tt) (lit≤ tt) (lit< tt) 0xBDC1 r0 (c0 .code .ensures) in
     let r2 = step-num 32 (lit< tt) (lit≤ tt) (lit< tt) 0 999_999_999 r1 (c1 .num .ensures .0) in
     let r3 = step-signed 25 (lit< tt) (lit≤ tt) (lit< tt) 10_800_000 10_860_000 r2 (c2 .signed .ensures .0) in
@@ -126,16 +127,16 @@ returns-2 c =
     let r9 = step-num 9 (lit< tt) (lit≤ tt) (lit< tt) 0 360 r8 (c10 .num6 .ensures .0) in
     let r10 = step-num 4 (lit< tt) (lit≤ tt) (lit< tt) 0 9 r9 (c11 .num7 .ensures .0) in
     let r11 = step-fill 3 (lit< tt) (lit≤ tt) (lit< tt) r10 (c12 .fill .ensures) in
-    let r12 = finish (lit< tt) r11 (c .end .ensures) in
+    let r12 = finish (lit< tt) r11 (ended .end .ensures) in
     let east = ap (spellOf (2 ^ 25)) (toZ-ofZ w32 (c3 .int .result) (record { sfits = c3 .int .ok }) ∙ c3 .int .ensures) ∙ spell-int (2 ^ 25) (c2 .signed .result .v) (lit≤ tt) refl (c2 .signed .ensures .1) in
     let north = ap (spellOf (2 ^ 24)) (toZ-ofZ w32 (c5 .int2 .result) (record { sfits = c5 .int2 .ok }) ∙ c5 .int2 .ensures) ∙ spell-int (2 ^ 24) (c4 .signed2 .result .v) (lit≤ tt) refl (c4 .signed2 .ensures .1) in
-    (same-values (λ i. 0xBDC1 ∷ c1 .num .result .v ∷ sym east i ∷ sym north i ∷ c6 .num2 .result .v ∷ c7 .num3 .result .v ∷ c8 .num4 .result .v ∷ c9 .num5 .result .v ∷ c10 .num6 .result .v ∷ c11 .num7 .result .v ∷ 0 ∷ []) r12, again _ (rw east (c2 .signed .ensures .1)) (rw north (c4 .signed2 .ensures .1)))
+    let w = same-values (λ i. 0xBDC1 ∷ c1 .num .result .v ∷ sym east i ∷ sym north i ∷ c6 .num2 .result .v ∷ c7 .num3 .result .v ∷ c8 .num4 .result .v ∷ c9 .num5 .result .v ∷ c10 .num6 .result .v ∷ c11 .num7 .result .v ∷ 0 ∷ []) r12 in
+    c .told .ensures ∙ ap (λ r. cond (eqb (ended .end .result .code) 0) (Good r) (Refused (ended .end .result .code))) (sym (again _ (rw east (c2 .signed .ensures .1)) (rw north (c4 .signed2 .ensures .1)))) ∙ told-so _ _ (ended .end .result .code) (ended .end .result .place) (w .so)
 
 pub fields-spec : {M : Type 1} → statement M
 fields-spec =
     tie.close
     (tie.spec
-    unread-requires
     returns
     begin-requires
     code-requires
@@ -159,4 +160,5 @@ fields-spec =
     cast-kind
     fill-requires
     end-requires
+    told-requires
     returns-2)

@@ -5,8 +5,8 @@ use lib.Pow.{pow-mono}
 use borrow.Author.Tests.{eq-eqb, ne-eqb, lt-ltb, le-ltb}
 use Rattle.bits.specs.laws.Digits.{small, large}
 use borrow.Author.Needs.{needs}
-use Rattle.layout.proofs.walk.Walk.admits.Statement.{statement}
-use Rattle.layout.proofs.walk.Walk.admits.Tie as tie
+use Rattle.layout.proofs.correcting.admits.Statement.{statement}
+use Rattle.layout.proofs.correcting.admits.Tie as tie
 
 returns : tie.Need-returns
 returns c = rw (ne-eqb _ 0 (c .if1 .taken))
@@ -20,18 +20,18 @@ shr-if4 c = search needs
 returns-3 : tie.Need-returns-3
 returns-3 c =
     let a = c .before .before .before .before .args in
-    rw (eq-eqb _ 0 (c .before .before .before .if1 .left), ne-eqb _ 0 (c .before .before .if2 .left), le-ltb (a .v) (2 ^ a .self .width) (large (a .v) (a .self .width) (c .if4 .taken)))
+    rw (eq-eqb _ 0 (c .before .before .before .if1 .left), ne-eqb _ 0 (c .before .before .if2 .left), le-ltb (a .v) (2 ^ a .width) (large (a .v) (a .width) (c .if4 .taken)))
 
 returns-4 : tie.Need-returns-4
 returns-4 c =
     let a = c .before .before .before .before .args in
-    rw (eq-eqb _ 0 (c .before .before .before .if1 .left), ne-eqb _ 0 (c .before .before .if2 .left), lt-ltb (a .v) (2 ^ a .self .width) (small (a .v) (a .self .width) (c .if4 .left)))
+    rw (eq-eqb _ 0 (c .before .before .before .if1 .left), ne-eqb _ 0 (c .before .before .if2 .left), lt-ltb (a .v) (2 ^ a .width) (small (a .v) (a .width) (c .if4 .left)))
 
 returns-5 : tie.Need-returns-5
 returns-5 c =
     let a = c .before .before .before .args in
-    let l : a .v < 2 ^ a .self .width = lt-of-lt-of-le (c .before .before .before .fits .v .fits) (pow-mono (c .if3 .left)) in
-    rw (eq-eqb _ 0 (c .before .before .if1 .left), ne-eqb _ 0 (c .before .if2 .left), lt-ltb (a .v) (2 ^ a .self .width) l)
+    let l : a .v < 2 ^ a .width = lt-of-lt-of-le (c .before .before .before .fits .v .fits) (pow-mono (c .if3 .left)) in
+    rw (eq-eqb _ 0 (c .before .before .if1 .left), ne-eqb _ 0 (c .before .if2 .left), lt-ltb (a .v) (2 ^ a .width) l)
 
 pub admits-spec : {M : Type 1} → statement M
 admits-spec = tie.close (tie.spec returns returns-2 shr-if4 returns-3 returns-4 returns-5)
