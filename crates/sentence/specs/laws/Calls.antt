@@ -8,9 +8,8 @@ use lib.ListN.{length, drop, drop-of-length-le}
 use borrow.Author.Tests.{le-leb, lt-leb}
 use Rattle.bits.specs.Bits.{Bytes}
 use Rattle.layout.specs.Fmt.{Out, accepted, refused, also}
-use Rattle.layout.specs.Message.{codeOf, leaves, into, readMessage, writeMessage, correctMessage}
-use Rattle.layout.specs.laws.First.{bytes-long}
-use Rattle.layout.specs.laws.Whole.{was, made, write-read-message}
+use Rattle.layout.specs.Message.{codeOf, leaves, into, writeMessage}
+use Rattle.layout.specs.laws.Whole.{made}
 use Rattle.layout.specs.laws.Family.{never-written}
 use Rattle.layout.specs.Promises.{readRecord, Writes}
 use Rattle.distress.specs.laws.Demands.{family, long}

@@ -1,16 +1,16 @@
 -- Demand 2 for the sentence, from the promises of its two calls alone. Assumes nothing.
 use mathlib.Core.Bool.{Bool, true, false}
-use mathlib.Core.List.{List, _++_, append-nil}
+use mathlib.Core.List.{List, _++_}
 use mathlib.Core.Path.{_≡_, refl, sym, ap, _∙_}
 use Prim.Native.Nat.{ℕ, _≤_}
 use native.Mathlib.Omega.{arith}
 use lib.Dec.{leb}
-use lib.ListN.{length, take, drop, drop-of-length-le}
-use lib.Seq.{take-at, take-all, drop-length}
+use lib.ListN.{length, take, drop}
+use lib.Seq.{take-at}
 use borrow.Author.Tests.{le-leb, leb-true}
 use Rattle.bits.specs.Bits.{Bytes}
 use Rattle.layout.specs.Fmt.{Out, accepted, refused, orBad, check, also}
-use Rattle.layout.specs.Message.{codeOf, leaves, into, readMessage, writeMessage}
+use Rattle.layout.specs.Message.{writeMessage}
 use Rattle.layout.specs.laws.Family.{never-read, never-written, written-record, read-writes}
 use Rattle.layout.specs.Promises.{readRecord}
 use Rattle.distress.specs.laws.Demands.{family, good}

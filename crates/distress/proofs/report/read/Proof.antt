@@ -7,10 +7,6 @@ use Rattle.distress.specs.Report.{reports, reportOf, answerOf}
 use borrow.Author.Needs.{needs}
 use Rattle.distress.proofs.report.read.Statement.{statement}
 use Rattle.distress.proofs.report.read.Tie as tie
-use Rattle.distress.proofs.report.read.Reads as reads
-use Rattle.distress.proofs.report.read.Lts as lts
-use Rattle.distress.proofs.report.fields.Reads as fields-reads
-use Rattle.distress.proofs.report.lead.Reads as lead-reads
 
 lead-requires : tie.Need-lead-requires
 lead-requires c κs = search needs

@@ -3,8 +3,6 @@ use mathlib.Core.Path.{refl}
 use borrow.Author.Tests.{eq-eqb, ne-eqb}
 use Rattle.distress.proofs.report.Answer.told.Statement.{statement}
 use Rattle.distress.proofs.report.Answer.told.Tie as tie
-use Rattle.distress.proofs.report.Answer.told.Reads as reads
-use Rattle.distress.proofs.report.Answer.told.Lts as lts
 
 returns : tie.Need-returns
 returns c = rw (ne-eqb _ 0 (c .if1 .taken)) refl
