@@ -13,6 +13,7 @@ use Rattle.bits.specs.Bits.{valueOf, bitsOf, fieldAt}
 use Rattle.bits.specs.Answers.{within, got}
 use Rattle.bits.specs.laws.Bytes.{length-bits}
 use Rattle.layout.specs.Fmt.{Out, accepted, refused, Fault, good, bad, orBad, Judge, Fmt, field, choice, check, also, readField, read, Spot, none, found, later, where?, spot}
+use Rattle.layout.specs.Correcting.{standing}
 use Rattle.layout.specs.Walk.{onward}
 use Rattle.layout.specs.Words.{Test, walk, orElse, unless, only, code}
 use Rattle.layout.specs.declared.walk.Walk.{Walk}
@@ -29,7 +30,7 @@ clear r o h = rw (eq-eqb (r .code) 0 h) refl
 
 -- where the field stood that was sought, if it may be corrected
 abbrev pub stood : Walk → Spot
-stood r = cond (eqb (r .width) 0) none (found (r .spot) (r .width))
+stood r = standing (r .spot) (r .width)
 
 -- where the sought field will be found to stand, if g says where it is from `at` on
 abbrev pub sought : Walk → ℕ → (ℕ → Spot) → Spot
