@@ -6,8 +6,9 @@ use mathlib.Core.List.{List, [], _∷_}
 use lib.Dec.{eqb, lit≤}
 use lib.ListN.{length, getD}
 use Rattle.bits.specs.Bits.{fieldAt}
-use Rattle.layout.specs.Fmt.{Out, accepted, refused, Fmt, end}
+use Rattle.layout.specs.Fmt.{Out, Fmt, end}
 use Rattle.layout.specs.Message.{Layout, led, between}
+use Rattle.layout.specs.Promises.{answered}
 use Rattle.layout.specs.Sign.{intOf, spellOf}
 use Rattle.layout.specs.Words.{_‥_, signed, _▹_, num, code, fill}
 use Rattle.layout.specs.laws.Flat.{Plain, span}
@@ -78,8 +79,7 @@ reportOf vs = record {
 
 -- the paper's number and values
 abbrev pub answerOf : Out Report → Answer
-answerOf (accepted r) = Good r
-answerOf (refused c p) = Refused c
+answerOf = answered Good Refused
 
 abbrev pub numberOf : Answer → ℕ
 numberOf (Good r) = 0

@@ -1,7 +1,7 @@
 -- What each step of judging a record answers, from its values. Assumes nothing.
 use Prim.Native.Nat.{ℕ, _+_, _-_, _/_, _%_, _^_}
 use mathlib.Core.Path.{_≡_}
-use mathlib.Core.Bool.{Bool, true, cond, _&&_, _||_}
+use mathlib.Core.Bool.{Bool, true, false, cond, _&&_, _||_}
 use mathlib.Core.List.{List}
 use lib.Dec.{leb, ltb, eqb}
 use Rattle.layout.specs.Message.{between}
@@ -12,6 +12,10 @@ use Rattle.layout.specs.declared.walk.Walk.{Walk}
 -- a record's value
 abbrev pub valued : ℕ → ℕ → ℕ → ℕ → Walk → Walk
 valued w v lo hi r = onward w true v (cond (leb lo v && leb v hi) 0 4) 0 r
+
+-- a fill that a record keeps
+abbrev pub filled : ℕ → ℕ → Walk → Walk
+filled w v r = onward w false v (cond (leb 0 v && leb v 0) 0 5) 0 r
 
 abbrev pub signedlyValued : ℕ → ℕ → ℕ → ℕ → ℕ → ℕ → Walk → Walk
 signedlyValued w v full top bottom none r = onward w true v (cond (ltb v full) (cond (leb v top || leb bottom v || eqb v none) 0 4) 4) 0 r

@@ -22,6 +22,14 @@ signing s at w top bottom none = cond (within (length s) at w) (cond (leb (got s
 abbrev pub ranged : List ℕ → ℕ → Bool → ℕ → ℕ → ℕ → Walk → Walk
 ranged s w free lo hi c r = onward w free (got s (r .at) w) (ranging s (r .at) w lo hi c) 0 r
 
+-- a number that the caller judged, with the fault c
+abbrev pub given : List ℕ → ℕ → ℕ → Walk → Walk
+given s w c r = onward w false (got s (r .at) w) (cond (within (length s) (r .at) w) c 1) 0 r
+
+-- content
+abbrev pub carried : List ℕ → ℕ → Walk → Walk
+carried s w r = onward w false 0 (cond (leb (r .at + w) (length s * 8)) 0 1) 0 r
+
 abbrev pub signedly : List ℕ → ℕ → ℕ → ℕ → ℕ → Walk → Walk
 signedly s w top bottom none r = onward w true (got s (r .at) w) (signing s (r .at) w top bottom none) 0 r
 

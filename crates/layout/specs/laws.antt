@@ -11,6 +11,7 @@ pub mod Reading
 pub mod Group
 pub mod Along
 pub mod Walked
+pub mod Answers
 pub mod Extent
 pub mod Judging
 pub mod Pieces

@@ -3,7 +3,7 @@ ghost use mathlib.Core.Bool.{cond, true, false, _||_};
 ghost use mathlib.Core.Path.{_≡_};
 ghost use Prim.Native.Nat.{_-_, _/_, _%_, _^_};
 ghost use lib.Dec.{eqb, leb, ltb};
-ghost use Rattle.layout.specs.Judging.{valued, signedlyValued, unpieced, pieced, unlessZero, made, closing};
+ghost use Rattle.layout.specs.Judging.{valued, filled, signedlyValued, unpieced, pieced, unlessZero, made, closing};
 ghost use Rattle.layout.specs.Walk.{onward};
 use crate::reading::inside;
 use crate::reading::sign;
@@ -25,6 +25,13 @@ impl Walk {
         ensures { λ r. ⌜ r ≡ signedlyValued w v full top bottom none self ⌝ }
     {
         self.on(w, true, v, spells(v, full, top, bottom, none), 0)
+    }
+
+    // A fill of w bits that a record keeps.
+    pub fn fill_value(self, w: usize, v: u64) -> Self
+        ensures { λ r. ⌜ r ≡ filled w v self ⌝ }
+    {
+        self.on(w, false, v, inside(v, 0, 0, crate::FILL), 0)
     }
 
     // A field that a record does not hold: it has one good value.

@@ -1,12 +1,12 @@
 // Reading: each kind of field, from the bytes.
 ghost use mathlib.Core.Bool.{cond, true, false, _&&_, _||_};
 ghost use mathlib.Core.Path.{_≡_};
-ghost use Prim.Native.Nat.{_-_, _*_, _/_, _^_, _<_};
+ghost use Prim.Native.Nat.{_+_, _-_, _*_, _/_, _^_, _<_};
 ghost use lib.Dec.{eqb, leb};
 ghost use lib.ListN.{length};
 ghost use Rattle.bits.specs.Answers.{within, got};
 ghost use Rattle.layout.specs.Fmt.{pad};
-ghost use Rattle.layout.specs.Reading.{ranged, ranging, signedly, signing, parted, grouped, wholly, closes, ended};
+ghost use Rattle.layout.specs.Reading.{given, carried, ranged, ranging, signedly, signing, parted, grouped, wholly, closes, ended};
 ghost use Rattle.layout.specs.Walk.{onward};
 use crate::walk::Walk;
 use crate::walk::choose;
@@ -40,6 +40,29 @@ impl Walk {
         ensures { λ r. ⌜ (r ≡ ranged (now (s .entry)) w false lo hi 4 self) × (r .v < 2 ^ w) ⌝ }
     {
         self.number(s, w, false, lo, hi, crate::RANGE)
+    }
+
+    // A number that decides what follows and that the caller judged: `fault` is 0, or what is wrong with it.
+    pub fn given(self, s: &[u8], w: usize, fault: u8) -> Self
+        ensures { λ r. ⌜ (r ≡ given (now (s .entry)) w fault self) × (r .v < 2 ^ w) ⌝ }
+    {
+        let at = self.at;
+        let there = bits::holds(s.len(), at, w);
+        self.on(
+            w,
+            false,
+            bits::get(s, at, w),
+            choose(there, fault, crate::SIZE),
+            0,
+        )
+    }
+
+    // Content of w bits, of which no number is made.
+    pub fn content(self, s: &[u8], w: u32) -> Self
+        ensures { λ r. ⌜ r ≡ carried (now (s .entry)) w self ⌝ }
+    {
+        let at = self.at;
+        self.wide(w as usize, choose(lies(s.len(), at, w), 0, crate::SIZE))
     }
 
     // A fixed code.
@@ -168,6 +191,13 @@ fn signs(s: &[u8], at: usize, w: usize, top: u64, bottom: u64, none: u64) -> u8
     } else {
         crate::SIZE
     }
+}
+
+// Whether w bits from bit `at` on lie within `len` bytes.
+fn lies(len: usize, at: usize, w: u32) -> bool
+    ensures { λ r. ⌜ r ≡ leb (at + w) (len * 8) ⌝ }
+{
+    at / 8 + (at % 8 + w as usize + 7) / 8 <= len
 }
 
 // The fill bits up to a whole byte.

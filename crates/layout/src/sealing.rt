@@ -2,7 +2,7 @@
 ghost use mathlib.Core.Bool.{true};
 ghost use mathlib.Core.Path.{_≡_};
 ghost use Rattle.layout.specs.Message.{body, firstOf, sealFault};
-ghost use Rattle.layout.specs.Sealing.{resealed};
+ghost use Rattle.layout.specs.Sealing.{resealed, stamped};
 use crate::walk::less;
 
 // What the layout lays out: all bytes but the last.
@@ -32,8 +32,15 @@ pub fn stamped(s: &[u8], code: u8) -> u8
 pub fn seal(buf: &mut [u8])
     ensures { λ _. ⌜ now (buf .exit) ≡ resealed (now (buf .entry)) ⌝ }
 {
-    if buf.len() > 0 {
-        let n = buf.len() - 1;
+    let n = less(buf.len());
+    stamp(buf, n);
+}
+
+// Makes the seal of a message that was just put in the first `n` bytes.
+pub fn stamp(buf: &mut [u8], n: usize)
+    ensures { λ _. ⌜ now (buf .exit) ≡ stamped n (now (buf .entry)) ⌝ }
+{
+    if n < buf.len() {
         let sum = bits::xor(&buf[..n]);
         buf[n] = sum;
     }

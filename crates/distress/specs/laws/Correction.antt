@@ -1,34 +1,35 @@
 -- The report with one field changed has the values with that one changed, and where its fields stand is a table. Assumes nothing.
 use mathlib.Core.Path.{_≡_, refl, sym, ap, _∙_}
 use mathlib.Core.Bool.{Bool, true, false, cond}
-use mathlib.Core.List.{[], _∷_}
+use mathlib.Core.List.{List, [], _∷_}
 use Prim.Native.Nat.{ℕ, _%_, _≤_, _<_, _^_}
 use borrow.Author.Tests.{eqb-true, ne-eqb}
 use lib.Dec.{eqb, lit≤}
 use lib.IntN.{ℤ}
-use lib.ListN.{set}
+use lib.ListN.{getD, set}
 use Rattle.layout.specs.Fmt.{spot, none, found}
 use Rattle.layout.specs.Sign.{intOf, spellOf}
 use Rattle.layout.specs.laws.Correct.{none-clash}
 use Rattle.layout.specs.laws.Sign.{spell-int}
-use Rattle.layout.specs.laws.Spots.{Steady, spotsFrom, spots-flat, rows, slim, Table, eachAt, set-each}
+use Rattle.layout.specs.laws.Spots.{spotsAlong, spot-along, rows, eachAt, set-each}
 use Rattle.distress.specs.Changed.{spotOf, changed}
 use Rattle.distress.specs.Report.{report, reports, valuesOf}
 use Rattle.distress.specs.declared.report.Report.{Report}
 
-steady : Steady report
-unfolding report
-steady = ((λ h. refl), ((λ h. refl), ((λ h. refl), ((λ h. refl), ((λ h. refl), ((λ h. refl), ((λ h. refl), ((λ h. refl), ((λ h. refl), ((λ h. refl), ((λ h. refl), tt)))))))))))
+abbrev pub places : List ℕ
+places = 0 ∷ 16 ∷ 48 ∷ 73 ∷ 97 ∷ 102 ∷ 107 ∷ 113 ∷ 120 ∷ 129 ∷ 133 ∷ []
 
--- where each field stands is the same in every report
+abbrev pub widths : List ℕ
+widths = 0 ∷ 32 ∷ 25 ∷ 24 ∷ 5 ∷ 5 ∷ 6 ∷ 7 ∷ 9 ∷ 4 ∷ 0 ∷ []
+
+-- where each field stands is the same in every report, and so the table that the code looks in
+pub along : (r : Report) → spotsAlong (reports .fmt) [] (valuesOf r) 0 ≡ rows places widths
+unfolding reports report valuesOf spotsAlong rows
+along r = refl
+
 pub spotted : (r : Report) (i : ℕ) → spot (reports .fmt) [] (valuesOf r) i ≡ spotOf i
-unfolding reports report valuesOf spotsFrom
-spotted r i = spots-flat report (valuesOf r) i refl steady refl
-
--- the table that the code looks in
-pub table : Table reports (0 ∷ 16 ∷ 48 ∷ 73 ∷ 97 ∷ 102 ∷ 107 ∷ 113 ∷ 120 ∷ 129 ∷ 133 ∷ []) (0 ∷ 32 ∷ 25 ∷ 24 ∷ 5 ∷ 5 ∷ 6 ∷ 7 ∷ 9 ∷ 4 ∷ 0 ∷ [])
-unfolding reports report spotsFrom rows slim
-table = record { even = refl; steady = steady; lists = refl; paired = refl; narrow = refl }
+unfolding rows
+spotted r i = spot-along (reports .fmt) (valuesOf r) i ∙ ap (λ t. getD t i none) (along r)
 
 -- a changed signed field is spelled by its new value
 spelled : (b : Bool) (full v : ℕ) (x : ℤ) → (b ≡ true → spellOf full (intOf full v) ≡ v) → spellOf full (cond b (intOf full v) x) ≡ cond b v (spellOf full x)

@@ -11,7 +11,6 @@ use Rattle.layout.specs.Fmt.{Out, accepted, refused, found}
 use Rattle.layout.specs.Message.{writeMessage}
 use Rattle.layout.specs.Promises.{readRecord, Writes, Corrects}
 use Rattle.layout.specs.laws.Entries.{entries, held-entries}
-use Rattle.layout.specs.laws.Spots.{spotsFrom}
 use Rattle.layout.specs.laws.Family.{Family, written-read, accepted-correction, corrected-as-written}
 use Rattle.layout.specs.laws.First.{bytes-long}
 use Rattle.layout.specs.laws.Held.{Held, exactly}
@@ -51,9 +50,9 @@ judged = (
 
 -- accepted values are those of their record: the code, the fill and the two signs are as they must be
 same-values : (vs : List ℕ) → Held report [] vs → valuesOf (reportOf vs) ≡ vs
-unfolding report valuesOf reportOf spotsFrom entries
+unfolding report valuesOf reportOf entries
 same-values vs h =
-    let e = held-entries report vs refl h in
+    let e = held-entries report 11 vs tt h in
     let g = subst (Held report []) (sym e) h in
     let z = g .2 .2 .2 .2 .2 .2 .2 .2 .2 .2 in
     let code = exactly 16 1 0xBDC1 _ (getD vs 0 0) (g .0) (g .1) in

@@ -13,8 +13,8 @@ use Rattle.layout.specs.Fmt.{Out, accepted, refused, orBad, check, also,
 use Rattle.layout.specs.Message.{Layout, Sound, codeOf, leaves, into, readMessage, writeMessage, correctMessage}
 use Rattle.layout.specs.Promises.{readRecord, Writes, Corrects}
 use Rattle.layout.specs.laws.Held.{Held, held}
-use Rattle.layout.specs.laws.Round.{clash, also-inv}
-use Rattle.layout.specs.laws.Whole.{made, write-read-message, read-write-message, correct-wide, Corrected, corrected, same-size}
+use Rattle.layout.specs.laws.Round.{clash, also-inv, read-write}
+use Rattle.layout.specs.laws.Whole.{was, made, write-read-message, read-write-message, correct-wide, Corrected, corrected, same-size}
 use Rattle.layout.specs.laws.Zero.{Judged, Counted, no-zero-message, read-zero-message, correct-zero}
 
 -- What a family brings for its records of type R: those of them that a caller can lend, the values of a record, the record of values, and the record with one field changed.
@@ -53,6 +53,10 @@ roomy : (u m : List ℕ) → length m ≤ length u → into u (accepted m) ≡ a
 roomy u m h = rw (le-leb (length m) (length u) h) refl
 
 module _ {l : Layout} {R : Type 0} {Lent : R → Type 0} {valuesOf : R → List ℕ} {recordOf : List ℕ → R} {changed : ℕ → ℕ → R → R} (F : Family l R Lent valuesOf recordOf changed) where
+  -- The values that reading accepts are those of their record.
+  pub record-values : (s vs : List ℕ) → readMessage l s ≡ accepted vs → valuesOf (recordOf vs) ≡ vs
+  record-values s vs e = F .same-values vs (held (l .fmt) [] 0 vs _ (read-write (l .fmt) [] 0 vs _ (was l s vs e .walked)))
+
   -- ---- no number 0 but for success
 
   pub never-read : (s : List ℕ) (p : ℕ) → readRecord l recordOf s ≡ refused 0 p → ⊥

@@ -7,7 +7,6 @@ use native.Mathlib.Omega.{arith}
 use native.Mathlib.Nat.{le-refl, mod-eq-of-lt}
 use lib.Dec.{leb, ltb, eqb}
 use lib.ListN.{length, length-append}
-use lib.Seq.{take-all}
 use borrow.Author.Tests.{le-leb, lt-leb, lt-ltb, le-ltb, ltb-true, ltb-false, eqb-true, ne-eqb}
 use Rattle.bits.specs.Bits.{valueOf, digits}
 use Rattle.bits.specs.laws.Digits.{length-digits, value-digits, value-lt, digits-value}
@@ -15,10 +14,10 @@ use Rattle.layout.specs.Fmt.{Out, accepted, refused, Fault, good, bad, o
 use Rattle.layout.specs.Judging.{valued, signedlyValued}
 use Rattle.layout.specs.Message.{fault}
 use Rattle.layout.specs.Walk.{begun, onward}
-use Rattle.layout.specs.Words.{Test, _‥_, signed, walk, orElse, unless, only, num, deciding, code}
+use Rattle.layout.specs.Words.{Test, _‥_, signed, orElse, only, num, deciding, code}
 use Rattle.layout.specs.laws.Extent.{Opens, opens-field, opens-choice, extent, extent-laid}
 use Rattle.layout.specs.laws.Round.{sized-at}
-use Rattle.layout.specs.laws.Step.{sticky, stuck, blamed}
+use Rattle.layout.specs.laws.Step.{sticky, stuck, blamed, Tells, only-tells}
 use Rattle.layout.specs.declared.walk.Walk.{Walk}
 
 -- o is what writing vs in f from `at` on answers, the bits before them put in front by k, unless r was refused before.
@@ -94,16 +93,14 @@ judge-refused {g = g} {r = r} h′ to us n e = record {
 
 -- ---- the fault of a value
 
--- of one number, judged by a test
+-- of one number, by a judge that tells a number
+pub wrong-tells : (w v : ℕ) {j : List Bool → Fault} {faultOf : ℕ → ℕ} → Tells w j faultOf → v < 2 ^ w → wrong w j v ≡ blamed (faultOf v) 0
+wrong-tells w v x l = rw (lt-ltb v (2 ^ w) l, x .whole (digits w v) (length-digits w v), value-digits w l) refl
+
+-- by a test
 module _ (w c : ℕ) (t : Test) (h : List ℕ) (v : ℕ) where
   pub wrong-narrow : v < 2 ^ w → wrong w (only w (suc c) t h) v ≡ blamed (cond (t h v) 0 (suc c)) 0
-  unfolding walk
-  wrong-narrow l =
-      rw (lt-ltb v (2 ^ w) l, le-leb w (length (digits w v)) (omega (arith, length-digits w v)), take-all w (digits w v) (omega (arith, length-digits w v)), value-digits w l) (go (t h v))
-    where
-      go : (x : Bool) → orElse (unless x (suc c) 0) good ≡ blamed (cond x 0 (suc c)) 0
-      go true = refl
-      go false = refl
+  wrong-narrow l = wrong-tells w v (only-tells w c t h) l
 
   pub wrong-wide : 2 ^ w ≤ v → wrong w (only w (suc c) t h) v ≡ bad 4 0
   wrong-wide l = rw (le-ltb v (2 ^ w) l) refl
@@ -150,6 +147,11 @@ module _ {o : Out (List Bool)} {h : List ℕ} {at v : ℕ} {vs : List ℕ} {r g 
       go : (t : Bool) → ltb v (2 ^ w) ≡ t → wrong w (only w 4 (signed w m x) h) v ≡ blamed (cond t (cond (signed w m x h v) 0 4) 4) 0
       go true e = wrong-narrow w 3 (signed w m x) h v (ltb-true v (2 ^ w) e)
       go false e = wrong-wide w 3 (signed w m x) h v (ltb-false v (2 ^ w) e)
+
+-- a field whose judge tells the number c of the record's value, which has at most w bits
+pub judge-tells : {o : Out (List Bool)} {f g : Fmt} {h : List ℕ} {at v : ℕ} {vs : List ℕ} {r q : Walk} {j : Judge} {faultOf : ℕ → ℕ} (w : ℕ) (b : Bool) (u c : ℕ) → at + w < 2 ^ 64 → v < 2 ^ w
+    → Tells w (j h) faultOf → c ≡ faultOf v → Opens f at v vs w j g → Judging o f h at (v ∷ vs) r → q ≡ onward w b u c 0 r → Judging o g (v ∷ h) (at + w) vs q
+judge-tells {v = v} w b u c reach l x z opens e d = judge b u c 0 (omega arith) reach opens (wrong-tells w v x l ∙ ap (λ c. blamed c 0) (sym z)) e d
 
 -- a field that the record does not hold
 pub judge-fixed : {o : Out (List Bool)} {f : Fmt} {h : List ℕ} {at : ℕ} {vs : List ℕ} {r g : Walk} {m : List ℕ → Bool} (w c n : ℕ) → at + w < 2 ^ 64 → n < 2 ^ w

@@ -2,18 +2,19 @@
 use mathlib.Core.Path.{_≡_, refl, sym, ap, ap₂, _∙_}
 use mathlib.Core.Bool.{Bool, true, false, cond}
 use mathlib.Core.List.{List, [], _∷_, _++_}
-use Prim.Native.Nat.{ℕ, _+_, _*_, _/_, _≤_}
+use Prim.Native.Nat.{ℕ, suc, _+_, _*_, _/_, _≤_, _<_}
 use native.Mathlib.Omega.{arith}
 use lib.Dec.{leb, eqb}
 use lib.ListN.{length, take, drop, length-append, take-append-drop}
 use lib.Seq.{take-at, drop-at, drop-drop}
-use borrow.Author.Tests.{leb-true, eqb-true, eqb-false}
+use borrow.Author.Tests.{leb-true, lt-ltb, eqb-true, eqb-false}
 use Rattle.bits.specs.Bits.{bytesOf}
 use Rattle.bits.specs.laws.Bytes.{length-bytes}
 use Rattle.bits.specs.Xor.{xorOf}
 use Rattle.layout.specs.Fmt.{Out, accepted, refused, Fault, good, bad, check, after, write}
 use Rattle.layout.specs.Judging.{bytesTo, made, closing}
 use Rattle.layout.specs.Promises.{Writes}
+use Rattle.layout.specs.Sealing.{stamped}
 use Rattle.layout.specs.Message.{Layout, fault, between, size, sealed, closed, into, refuses, accepts, writeMessage}
 use Rattle.layout.specs.laws.Judging.{Judged}
 use Rattle.layout.specs.laws.Putting.{Puts}
@@ -102,3 +103,21 @@ module _ (l : Layout) (vs s : List ℕ) {r : Walk} (j : Judged (check (fault (l 
   -- with no seal
   pub write-bare : {code : ℕ} {t : List ℕ} → l .seal ≡ false → code ≡ closing (l .seal) (l .least) (l .most) (length s) r → code ≡ 0 → Puts (l .fmt) vs s t → Writes l s 0 t vs
   write-bare {t = t} z e h p = write-stands e h p (rw z (sym (take-append-drop n t)))
+
+  -- with the seal stamped behind the fields
+  pub write-stamped : {code n : ℕ} {t u : List ℕ} → l .seal ≡ true → code ≡ closing (l .seal) (l .least) (l .most) (length s) r → code ≡ 0 → Puts (l .fmt) vs s t → length t ≡ length s
+      → n ≡ bytesTo (r .at) → u ≡ stamped n t → Writes l s 0 u vs
+  unfolding stamped
+  write-stamped {n = n} {t} z e h p same k d =
+      let room : bytesTo (r .at) < length t = omega (arith, fits (sym e ∙ h), same, ap (λ z. made z (r .at)) z) in
+      let next : suc (bytesTo (r .at)) ≡ bytesTo (r .at) + 1 = omega arith in
+      write-stands e h p (d ∙ rw (k, lt-ltb (bytesTo (r .at)) (length t) room, z, next) refl)
+    where
+      fits : closing (l .seal) (l .least) (l .most) (length s) r ≡ 0 → whole ≤ length s
+      fits = go (eqb (r .code) 0) (between (l .least) (l .most) whole) (leb whole (length s)) refl refl
+        where
+          go : (x y z : Bool) → eqb (r .code) 0 ≡ x → leb whole (length s) ≡ z → cond x (cond y (cond z 0 6) 1) (r .code) ≡ 0 → whole ≤ length s
+          go x y true ex ez k = leb-true whole (length s) ez
+          go false y false ex ez k = absurd (eqb-false (r .code) 0 ex k)
+          go true true false ex ez k = absurd (omega (arith, k))
+          go true false false ex ez k = absurd (omega (arith, k))

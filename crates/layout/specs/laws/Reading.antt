@@ -1,6 +1,6 @@
 -- The code's walk reads a layout, field by field: each kind of field is one step, and the walk over all of them is the reading. Assumes nothing.
 use mathlib.Core.Path.{_≡_, refl, sym, ap, _∙_, subst, subst⁻¹}
-use mathlib.Core.Bool.{Bool, true, false, cond, _&&_}
+use mathlib.Core.Bool.{Bool, true, false, cond, _&&_, false≢true}
 use mathlib.Core.List.{List, [], _∷_}
 use Prim.Native.Nat.{ℕ, zero, suc, _+_, _-_, _*_, _/_, _%_, _≤_, _<_, _^_}
 use native.Mathlib.Omega.{arith}
@@ -8,18 +8,17 @@ use native.Mathlib.Nat.{add-zero, zero-add, mod-eq-of-lt}
 use lib.Dec.{leb, eqb}
 use lib.ListN.{length, take, drop, length-drop}
 use lib.Pow.{pow-pos}
-use borrow.Author.Tests.{leb-true, eq-eqb, ne-eqb, eqb-true, eqb-false}
+use borrow.Author.Tests.{leb-true, ne-eqb}
 use Rattle.bits.specs.Bits.{valueOf, bitsOf, fieldAt}
 use Rattle.bits.specs.Answers.{within, got}
-use Rattle.bits.specs.laws.Answers.{got-fits}
 use Rattle.bits.specs.laws.Bytes.{length-bits}
 use Rattle.bits.specs.laws.Fields.{field-lt}
-use Rattle.layout.specs.Fmt.{Out, accepted, refused, Judge, Fmt, end, field, choice, bytes, check, also, read, pad, Spot, none, found, later, spot}
-use Rattle.layout.specs.Message.{Layout, fault, body, first, readMessage}
-use Rattle.layout.specs.Reading.{ranging, signing, ranged, signedly, wholly, closes, ended}
+use Rattle.layout.specs.Fmt.{Out, accepted, refused, Judge, Fmt, field, choice, bytes, check, also, read, Spot, none, found, later, spot}
+use Rattle.layout.specs.Message.{fault}
+use Rattle.layout.specs.Reading.{ranging, signing, ranged, given, carried, signedly, wholly}
 use Rattle.layout.specs.Walk.{begun, onward}
-use Rattle.layout.specs.Words.{Test, _‥_, signed, only, free, num, code, fill}
-use Rattle.layout.specs.laws.Step.{sticky, stood, sought, Reading, Steps, step, step-choice, step-spots, tested, clean, also-also}
+use Rattle.layout.specs.Words.{Test, any, _‥_, signed, only, kept, num, code, fill}
+use Rattle.layout.specs.laws.Step.{sticky, sought, Reading, Steps, Tells, only-tells, step, step-choice, step-late, step-spots, told, tested, clean, also-also}
 use Rattle.layout.specs.declared.walk.Walk.{Walk}
 
 -- ---- the code's steps
@@ -44,7 +43,45 @@ known s at w c n = go (within (length s) at w)
 limited : (s : List ℕ) (at w c lo hi : ℕ) (t : Test) (h : List ℕ) (m : Bool) → 0 < w → w ≤ 32 → at + w < 2 ^ 64 → ((v : ℕ) → t h v ≡ (lo ‥ hi) h v)
     → Steps s at w (only w (suc c) t) h m (got s at w) (ranging s at w lo hi (suc c)) 0
 limited s at w c lo hi t h m some small reach l =
-    subst (λ b. Steps s at w (only w (suc c) t) h m (got s at w) (cond (within (length s) at w) (cond b 0 (suc c)) 1) 0) (l (got s at w)) (tested s at w c t h some small reach m)
+    subst (λ b. Steps s at w (only w (suc c) t) h m (got s at w) (cond (within (length s) at w) (cond b 0 (suc c)) 1) 0) (l (got s at w)) (tested s at w (only w (suc c) t) h (only-tells w c t h) reach (λ l. some) small m (λ e. some))
+
+module _ {o : Out (List ℕ)} {all : Fmt} {i : ℕ} {s : List ℕ} {h : List ℕ} {at : ℕ} {k : List ℕ → List ℕ} {r : Walk} {g : Walk} (w : ℕ) (small : w ≤ 32) (reach : at + w < 2 ^ 64) where
+  -- A field of one good value, which is kept.
+  pub step-one : (c n : ℕ) {f : Fmt} → Reading o all i s (field w (only w (suc c) (n ‥ n)) kept f) h at k r → g ≡ ranged s w false n n (suc c) r
+      → Reading o all i s f (n ∷ h) (at + w) (λ vs. k (n ∷ vs)) g
+  step-one c n {f} e d =
+      subst⁻¹ (λ g. Reading o all i s f (n ∷ h) (at + w) (λ vs. k (n ∷ vs)) g)
+      (d ∙ ap (λ a. onward w false (got s a w) (ranging s a w n n (suc c)) 0 r) (e .here))
+      (step-late (got s at w) reach e (λ _ l.
+      let x = tested s at w (only w (suc c) (n ‥ n)) h (only-tells w c (n ‥ n) h) reach (λ m. absurd (omega arith)) small false (λ e. absurd (false≢true e)) in
+      record { findable = x .findable; reach = reach; into = x .into; same = x .same; holds = λ z. sym (known s at w c n z) ∙ x .holds z }))
+
+  pub step-code : (n : ℕ) {f : Fmt} → Reading o all i s (code w n f) h at k r → g ≡ ranged s w false n n 2 r
+      → Reading o all i s f (n ∷ h) (at + w) (λ vs. k (n ∷ vs)) g
+  step-code n e d = step-one 1 n e d
+
+  -- Fill, of no bits too.
+  pub step-fill : {f : Fmt} → Reading o all i s (fill w f) h at k r → g ≡ ranged s w false 0 0 5 r → Reading o all i s f (0 ∷ h) (at + w) (λ vs. k (0 ∷ vs)) g
+  step-fill e d = step-one 4 0 e d
+
+  -- A number that decides what follows, by any judge that tells a number.
+  pub step-given : 0 < w → {f : ℕ → Fmt} {j : Judge} {faultOf : ℕ → ℕ} {c : ℕ} → Tells w (j h) faultOf → c ≡ faultOf (got s at w)
+      → Reading o all i s (choice w j f) h at k r → g ≡ given s w c r → Reading o all i s (f (g .v)) (g .v ∷ h) (at + w) (λ vs. k (g .v ∷ vs)) g
+  unfolding onward
+  step-given some {f} {j} {c = c} t z e d =
+      subst⁻¹ (λ g. Reading o all i s (f (g .v)) (g .v ∷ h) (at + w) (λ vs. k (g .v ∷ vs)) g)
+      (d ∙ ap (λ a. onward w false (got s a w) (cond (within (length s) a w) c 1) 0 r) (e .here) ∙ ap (λ c. onward w false (got s at w) (cond (within (length s) at w) c 1) 0 r) z)
+      (step-choice (got s at w) e (tested s at w j h t reach (λ l. some) small false (λ e. absurd (false≢true e))))
+
+-- Content, of any width.
+pub step-content : {o : Out (List ℕ)} {all : Fmt} {i : ℕ} {s : List ℕ} {h : List ℕ} {at : ℕ} {k : List ℕ → List ℕ} {r : Walk} {g : Walk} {f : Fmt} (w : ℕ) → at + w < 2 ^ 64
+    → Reading o all i s (field w (only w 4 any) kept f) h at k r → g ≡ carried s w r
+    → let u = valueOf (take w (drop at (bitsOf s))) in Reading o all i s f (u ∷ h) (at + w) (λ vs. k (u ∷ vs)) g
+step-content {o} {all} {i} {s} {h} {at} {k} {r} {f = f} w reach e d =
+    let u = valueOf (take w (drop at (bitsOf s))) in
+    subst⁻¹ (λ g. Reading o all i s f (u ∷ h) (at + w) (λ vs. k (u ∷ vs)) g)
+    (d ∙ ap (λ a. onward w false 0 (cond (leb (a + w) (length s * 8)) 0 1) 0 r) (e .here))
+    (step-late 0 reach e (λ _ l. told s at w (only w 4 any) h (only-tells w 3 any h) reach (λ m. absurd (omega arith))))
 
 module _ {o : Out (List ℕ)} {all : Fmt} {i : ℕ} {s : List ℕ} {h : List ℕ} {at : ℕ} {k : List ℕ → List ℕ} {r : Walk} {g : Walk}
     (w : ℕ) (some : 0 < w) (small : w ≤ 32) (reach : at + w < 2 ^ 64) where
@@ -78,23 +115,7 @@ module _ {o : Out (List ℕ)} {all : Fmt} {i : ℕ} {s : List ℕ} {h : List ℕ
   step-signed m x {f} e d =
       subst⁻¹ (λ g. Reading o all i s f (g .v ∷ h) (at + w) (λ vs. k (g .v ∷ vs)) g)
       (d ∙ ap (λ a. onward w true (got s a w) (signing s a w m (2 ^ w - m) x) 0 r) (e .here))
-      (step (got s at w) e (tested s at w 3 (signed w m x) h some small reach true))
-
-  -- A field of one good value.
-  step-one : (c n : ℕ) {m : List ℕ → Bool} {f : Fmt} → Reading o all i s (field w (only w (suc c) (n ‥ n)) m f) h at k r → g ≡ ranged s w (m h) n n (suc c) r
-      → Reading o all i s f (n ∷ h) (at + w) (λ vs. k (n ∷ vs)) g
-  step-one c n {m} {f} e d =
-      let x = tested s at w c (n ‥ n) h some small reach (m h) in
-      subst⁻¹ (λ g. Reading o all i s f (n ∷ h) (at + w) (λ vs. k (n ∷ vs)) g)
-      (d ∙ ap (λ a. onward w (m h) (got s a w) (ranging s a w n n (suc c)) 0 r) (e .here))
-      (step (got s at w) e (record { findable = x .findable; reach = reach; into = x .into; same = x .same; holds = λ z. sym (known s at w c n z) ∙ x .holds z }))
-
-  pub step-code : (n : ℕ) {f : Fmt} → Reading o all i s (code w n f) h at k r → g ≡ ranged s w false n n 2 r
-      → Reading o all i s f (n ∷ h) (at + w) (λ vs. k (n ∷ vs)) g
-  step-code n e d = step-one 1 n e d
-
-  pub step-fill : {f : Fmt} → Reading o all i s (fill w f) h at k r → g ≡ ranged s w false 0 0 5 r → Reading o all i s f (0 ∷ h) (at + w) (λ vs. k (0 ∷ vs)) g
-  step-fill e d = step-one 4 0 e d
+      (step (got s at w) e (tested s at w (only w 4 (signed w m x)) h (only-tells w 3 (signed w m x) h) reach (λ l. some) small true (λ e. some)))
 
 -- How many whole bytes are left.
 pub step-rest : {o : Out (List ℕ)} {all : Fmt} {i : ℕ} {s : List ℕ} {h : List ℕ} {at : ℕ} {k : List ℕ → List ℕ} {r g : Walk} {f : ℕ → Fmt} → at < 2 ^ 64

@@ -1,20 +1,20 @@
 -- A field put in a message's body leaves the rest, and a seal made anew closes the body: what a correction does to a sealed message. Assumes nothing.
 use mathlib.Core.Path.{_≡_, refl, sym, ap, _∙_}
 use mathlib.Core.Bool.{Bool, true, false, cond}
-use mathlib.Core.List.{List, [], _∷_, _++_, append-assoc}
+use mathlib.Core.List.{List, [], _∷_, _++_, append-assoc, append-nil}
 use Prim.Native.Nat.{ℕ, zero, suc, _+_, _-_, _*_, _≤_, _<_}
 use native.Mathlib.Omega.{arith}
 use lib.Dec.{eqb}
 use lib.ListN.{length, take, drop, getD, set, length-append, take-append-drop, drop-of-length-le}
 use lib.Seq.{take-at, length-take-le, take-append-le, drop-append-le, set-split}
-use borrow.Author.Tests.{ne-eqb}
-use Rattle.bits.specs.Bits.{Bytes, digits, bitsOf, splice, putAt}
+use borrow.Author.Tests.{ne-eqb, lt-ltb, le-ltb}
+use Rattle.bits.specs.Bits.{Bytes, bitsOf, splice, putAt}
 use Rattle.bits.specs.laws.Bytes.{length-bits, bits-append, bits-same, bytes-append, bytes-drop}
 use Rattle.bits.specs.laws.Fields.{length-put, bytes-put, bits-put}
 use Rattle.bits.specs.Xor.{xorOf}
 use Rattle.layout.specs.Fmt.{Fault, good, bad, orBad}
 use Rattle.layout.specs.Message.{body, sealed, sealFault, firstOf}
-use Rattle.layout.specs.Sealing.{resealed, reclosed}
+use Rattle.layout.specs.Sealing.{resealed, stamped, reclosed}
 
 -- a change within the first of two lists
 splice-first : (xs ys : List Bool) (at w v : ℕ) → at + w ≤ length xs → splice at w v (xs ++ ys) ≡ splice at w v xs ++ ys
@@ -54,13 +54,22 @@ unfolding resealed
 reclosed-body false s h = refl
 reclosed-body true s h = let l = h refl in rw (ne-eqb (length s) 0 (λ e. omega arith)) refl
 
--- the last byte made the sum of all before it
-pub set-seal : (s : List ℕ) (x : ℕ) → 0 < length s → x ≡ xorOf (take (length s - 1) s) → set s (length s - 1) x ≡ resealed s
-unfolding resealed
-set-seal s x l e =
-    let n = length s - 1 in
-    let o : drop (suc n) s ≡ [] = drop-of-length-le s {i = suc n} (omega arith) in
-    rw (ne-eqb (length s) 0 (λ z. omega arith), set-split s n x (omega arith), o, e) refl
+-- byte n made the sum of all before it
+pub set-stamp : (s : List ℕ) (n x : ℕ) → n < length s → x ≡ xorOf (take n s) → set s n x ≡ stamped n s
+unfolding stamped
+set-stamp s n x l e = rw (lt-ltb n (length s) l, set-split s n x l, e) (simp append-assoc)
+
+pub stamp-past : (s : List ℕ) (n : ℕ) → length s ≤ n → s ≡ stamped n s
+unfolding stamped
+stamp-past s n l = rw (le-ltb n (length s) l) refl
+
+-- the last byte is the seal
+pub stamp-last : (s : List ℕ) → stamped (length s - 1) s ≡ resealed s
+unfolding stamped resealed
+stamp-last [] = refl
+stamp-last (x ∷ s) =
+    let o : drop (suc (length (x ∷ s) - 1)) (x ∷ s) ≡ [] = drop-of-length-le (x ∷ s) {i = suc (length (x ∷ s) - 1)} (omega arith) in
+    rw (ne-eqb (length (x ∷ s)) 0 (λ z. omega arith), lt-ltb (length (x ∷ s) - 1) (length (x ∷ s)) (omega arith), o) (append-nil _)
 
 -- a refusal of the first tests comes before the seal
 pub first-past : (x : Fault) (c : ℕ) → (c ≡ 0 → ⊥) → c ≡ firstOf x c

@@ -1,4 +1,4 @@
--- Where the fields of a flat layout stand is the same in every message, and a list with one value changed is the list changed entry by entry: for a family's changed record. Assumes nothing.
+-- Where the fields of a message stand, as a list and as a table in which code looks one up; and a list with one value changed is the list changed entry by entry: for a family's changed record. Assumes nothing.
 use mathlib.Core.Path.{_≡_, refl, sym, ap, _∙_}
 use mathlib.Core.Bool.{Bool, true, false, cond, _&&_, false≢true}
 use mathlib.Core.List.{List, [], _∷_}
@@ -9,57 +9,37 @@ use borrow.Author.Tests.{eq-eqb, ne-eqb, leb-true}
 use lib.Dec.{eqb, leb}
 use lib.ListN.{length, getD, set}
 use Rattle.layout.specs.Correcting.{standing}
-use Rattle.layout.specs.Fmt.{accepted, Fmt, end, field, choice, bytes, Spot, none, found, later, where?, spot}
-use Rattle.layout.specs.Message.{Layout, readMessage}
-use Rattle.layout.specs.laws.Extent.{flat}
-use Rattle.layout.specs.laws.Held.{Held, held}
-use Rattle.layout.specs.laws.Round.{read-write}
-use Rattle.layout.specs.laws.Whole.{was}
+use Rattle.layout.specs.Fmt.{Fmt, end, field, choice, bytes, Spot, none, found, later, where?, spot}
 
--- the fields from bit `at` on: where each that may be corrected stands
-unfoldable pub spotsFrom : Fmt → ℕ → List Spot
-spotsFrom end at = []
-spotsFrom (field w j m f) at = later at (where? (m []) w) ∷ spotsFrom f (at + w)
-spotsFrom (choice w j f) at = []
-spotsFrom (bytes f) at = []
-
--- whether a field may be corrected does not hang on the values before it
-abbrev pub Steady : Fmt → Type 0
-Steady end = Unit
-Steady (field w j m f) = ((h : List ℕ) → m h ≡ m []) × Steady f
-Steady (choice w j f) = Unit
-Steady (bytes f) = Unit
+-- the fields of the values vs, from bit `at` on: where each that may be corrected stands
+unfoldable pub spotsAlong : Fmt → List ℕ → List ℕ → ℕ → List Spot
+spotsAlong f h [] at = []
+spotsAlong end h (v ∷ vs) at = []
+spotsAlong (field w j m f) h (v ∷ vs) at = later at (where? (m h) w) ∷ spotsAlong f (v ∷ h) vs (at + w)
+spotsAlong (choice w j f) h (v ∷ vs) at = none ∷ spotsAlong (f v) (v ∷ h) vs (at + w)
+spotsAlong (bytes f) h (v ∷ vs) at = none ∷ spotsAlong (f v) (v ∷ h) vs at
 
 later-later : (a b : ℕ) (x : Spot) → later a (later b x) ≡ later (a + b) x
 later-later a b none = refl
 later-later a b (found p u) = ap (λ q. found q u) (sym (add-assoc a b p))
 
-spots-from : (f : Fmt) (h : List ℕ) (at : ℕ) (vs : List ℕ) (i : ℕ) → flat f ≡ true → Steady f → length vs ≡ length (spotsFrom f at) → later at (spot f h vs i) ≡ getD (spotsFrom f at) i none
-unfolding spot spotsFrom
-spots-from end h at [] i z s l = refl
-spots-from end h at (v ∷ vs) i z s l = absurd (omega arith)
-spots-from (field w j m f) h at [] i z s l = absurd (omega arith)
-spots-from (field w j m f) h at (v ∷ vs) zero z s l = ap (λ b. later at (where? b w)) (s .0 h)
-spots-from (field w j m f) h at (v ∷ vs) (suc i) z s l = later-later at w (spot f (v ∷ h) vs i) ∙ spots-from f (v ∷ h) (at + w) vs i z (s .1) (omega arith)
-spots-from (choice w j f) h at vs i z s l = absurd (false≢true z)
-spots-from (bytes f) h at vs i z s l = absurd (false≢true z)
+spots-from : (f : Fmt) (h : List ℕ) (at : ℕ) (vs : List ℕ) (i : ℕ) → later at (spot f h vs i) ≡ getD (spotsAlong f h vs at) i none
+unfolding spot spotsAlong
+spots-from f h at [] i = refl
+spots-from end h at (v ∷ vs) i = refl
+spots-from (field w j m f) h at (v ∷ vs) zero = refl
+spots-from (field w j m f) h at (v ∷ vs) (suc i) = later-later at w (spot f (v ∷ h) vs i) ∙ spots-from f (v ∷ h) (at + w) vs i
+spots-from (choice w j f) h at (v ∷ vs) zero = refl
+spots-from (choice w j f) h at (v ∷ vs) (suc i) = later-later at w (spot (f v) (v ∷ h) vs i) ∙ spots-from (f v) (v ∷ h) (at + w) vs i
+spots-from (bytes f) h at (v ∷ vs) zero = refl
+spots-from (bytes f) h at (v ∷ vs) (suc i) = spots-from (f v) (v ∷ h) at vs i
 
-pub spots-flat : (f : Fmt) (vs : List ℕ) (i : ℕ) → flat f ≡ true → Steady f → length vs ≡ length (spotsFrom f 0) → spot f [] vs i ≡ getD (spotsFrom f 0) i none
-spots-flat f vs i z s l = unmoved (spot f [] vs i) ∙ spots-from f [] 0 vs i z s l
+pub spot-along : (f : Fmt) (vs : List ℕ) (i : ℕ) → spot f [] vs i ≡ getD (spotsAlong f [] vs 0) i none
+spot-along f vs i = unmoved (spot f [] vs i) ∙ spots-from f [] 0 vs i
   where
     unmoved : (x : Spot) → x ≡ later 0 x
     unmoved none = refl
     unmoved (found p u) = ap (λ q. found q u) (sym (zero-add p))
-
--- accepted values are as many as the fields
-pub held-long : (f : Fmt) (h : List ℕ) (at : ℕ) (vs : List ℕ) → flat f ≡ true → Held f h vs → length vs ≡ length (spotsFrom f at)
-unfolding spotsFrom
-held-long end h at [] z e = refl
-held-long end h at (v ∷ vs) z e = absurd e
-held-long (field w j m f) h at [] z e = absurd e
-held-long (field w j m f) h at (v ∷ vs) z e = ap suc (held-long f (v ∷ h) (at + w) vs z (e .2))
-held-long (choice w j f) h at vs z e = absurd (false≢true z)
-held-long (bytes f) h at vs z e = absurd (false≢true z)
 
 -- the list whose entry number i, counted from k, is v
 unfoldable pub eachAt : ℕ → ℕ → ℕ → List ℕ → List ℕ
@@ -112,22 +92,17 @@ slim-at (w ∷ ws) i e = each (leb w 32) refl i e (λ i e. slim-at ws i e)
     each true f (suc i) e rest = rest i e
     each false f i e rest = absurd (false≢true e)
 
--- ps and ws are where the fields of a flat layout stand.
-pub record Table (l : Layout) (ps ws : List ℕ) : Type 0 where
-  pub even : flat (l .fmt) ≡ true
-  pub steady : Steady (l .fmt)
-  pub lists : rows ps ws ≡ spotsFrom (l .fmt) 0
-  pub paired : length ps ≡ length ws
-  pub narrow : slim ws ≡ true
+-- a width that hangs on a test
+pub where-row : (b : Bool) (p w : ℕ) → later p (where? b (suc w)) ≡ standing p (cond b (suc w) 0)
+where-row true p w = rw (ne-eqb (suc w) 0 (λ z. omega arith), add-zero p) refl
+where-row false p w = refl
 
-module _ (l : Layout) {ps ws : List ℕ} (t : Table l ps ws) (i : ℕ) {p w : ℕ} (looked-up : (p ≡ getD ps i 0) × (w ≡ getD ws i 0)) where
-  -- The field i of an accepted message stands where the table says.
-  pub table-stands : (s vs : List ℕ) → readMessage l s ≡ accepted vs → spot (l .fmt) [] vs i ≡ standing p w
-  table-stands s vs r =
-      spots-flat (l .fmt) vs i (t .even) (t .steady) (held-long (l .fmt) [] 0 vs (t .even) (held (l .fmt) [] 0 vs _ (read-write (l .fmt) [] 0 vs _ (was l s vs r .walked))))
-      ∙ ap (λ t. getD t i none) (sym (t .lists))
-      ∙ sym (row-at ps ws i (t .paired))
-      ∙ rw (← looked-up .0, ← looked-up .1) refl
+-- The field i looked up in the table of ps and ws.
+module _ (ps ws : List ℕ) (i : ℕ) {p w : ℕ} (looked-up : (p ≡ getD ps i 0) × (w ≡ getD ws i 0)) where
+  -- It stands where the table says, if that is where the fields of vs stand.
+  pub table-stands : (f : Fmt) (vs : List ℕ) → length ps ≡ length ws → spotsAlong f [] vs 0 ≡ rows ps ws → spot f [] vs i ≡ standing p w
+  table-stands f vs n e =
+      spot-along f vs i ∙ ap (λ t. getD t i none) e ∙ sym (row-at ps ws i n) ∙ rw (← looked-up .0, ← looked-up .1) refl
 
-  pub table-slim : w ≤ 32
-  table-slim = rw (looked-up .1) (slim-at ws i (t .narrow))
+  pub table-slim : slim ws ≡ true → w ≤ 32
+  table-slim e = rw (looked-up .1) (slim-at ws i e)

@@ -1,13 +1,13 @@
 -- One step of the walk, over any judge: where reading stands at a field, it stands behind it afterwards. Assumes nothing.
-use mathlib.Core.Path.{_≡_, refl, sym, ap, _∙_}
-use mathlib.Core.Bool.{Bool, true, false, cond, _&&_}
+use mathlib.Core.Path.{_≡_, refl, sym, ap, ap₂, _∙_}
+use mathlib.Core.Bool.{Bool, true, false, cond, _&&_, false≢true}
 use mathlib.Core.List.{List, [], _∷_}
 use Prim.Native.Nat.{ℕ, zero, suc, _+_, _-_, _*_, _%_, _≤_, _<_, _^_}
 use native.Mathlib.Omega.{arith}
-use native.Mathlib.Nat.{add-zero, add-assoc, le-refl, mod-eq-of-lt}
+use native.Mathlib.Nat.{add-zero, add-assoc, mod-eq-of-lt}
 use lib.Dec.{leb, eqb}
 use lib.ListN.{length, take, drop, length-take, length-drop}
-use lib.Seq.{length-take-le, take-take, drop-drop}
+use lib.Seq.{length-take-le, take-all, drop-drop}
 use borrow.Author.Tests.{le-leb, lt-leb, leb-true, leb-false, eq-eqb, ne-eqb, eqb-true, eqb-false}
 use Rattle.bits.specs.Bits.{valueOf, bitsOf, fieldAt}
 use Rattle.bits.specs.Answers.{within, got}
@@ -15,7 +15,7 @@ use Rattle.bits.specs.laws.Bytes.{length-bits}
 use Rattle.layout.specs.Fmt.{Out, accepted, refused, Fault, good, bad, orBad, Judge, Fmt, field, choice, check, also, readField, read, Spot, none, found, later, where?, spot}
 use Rattle.layout.specs.Correcting.{standing}
 use Rattle.layout.specs.Walk.{onward}
-use Rattle.layout.specs.Words.{Test, walk, orElse, unless, only, code}
+use Rattle.layout.specs.Words.{Test, walk, orElse, unless, only, twice, kept}
 use Rattle.layout.specs.declared.walk.Walk.{Walk}
 
 -- a refusal sticks
@@ -189,37 +189,107 @@ module _ {o : Out (List ℕ)} {all : Fmt} {i : ℕ} {s : List ℕ} {h : List ℕ
     within = step-within r (e .here) x v (e .within);
   }
 
--- ---- a field of one number, judged by a test
+-- over a field that may not be corrected, which is looked at only where nothing was refused
+pub step-late : {o : Out (List ℕ)} {all : Fmt} {i : ℕ} {s : List ℕ} {h : List ℕ} {at : ℕ} {k : List ℕ → List ℕ} {r : Walk} {w : ℕ} {j : Judge} {f : Fmt} {u c q : ℕ} (v : ℕ) → at + w < 2 ^ 64
+    → Reading o all i s (field w j kept f) h at k r → (r .code ≡ 0 → at ≤ length s * 8 → Steps s at w j h false u c q)
+    → Reading o all i s f (u ∷ h) (at + w) (λ vs. k (u ∷ vs)) (onward w false v c q r)
+unfolding onward
+step-late {o} {all} {i} {s} {h} {at} {k} {r} {w} {j} {f} {u} {c} {q} v reach e x = go (eqb (r .code) 0) refl
+  where
+    thin : (a : Bool) → cond a 0 (r .width) ≤ 32
+    thin true = omega arith
+    thin false = e .slim
 
-module _ (s : List ℕ) (at w c : ℕ) (t : Test) (h : List ℕ) (some : 0 < w) (small : w ≤ 32) (reach : at + w < 2 ^ 64) where
-  abbrev number : ℕ
-  number = cond (within (length s) at w) (cond (t h (got s at w)) 0 (suc c)) 1
+    late : (r .code ≡ 0 → ⊥) → Reading o all i s f (u ∷ h) (at + w) (λ vs. k (u ∷ vs)) (onward w false v c q r)
+    late n = record {
+      so = e .so ∙ rw (ne-eqb (r .code) 0 n, ne-eqb (r .code) 0 n) refl;
+      here = ap (λ a. (a + w) % 2 ^ 64) (e .here) ∙ mod-eq-of-lt reach;
+      spots = λ z. absurd (n (clean (r .code) c z .0));
+      slim = thin (r .seek && eqb (r .left) 0);
+      within = λ z. absurd (n (clean (r .code) c z .0));
+    }
 
+    go : (t : Bool) → eqb (r .code) 0 ≡ t → Reading o all i s f (u ∷ h) (at + w) (λ vs. k (u ∷ vs)) (onward w false v c q r)
+    go true t = let z = eqb-true (r .code) 0 t in step v e (x z (e .within z))
+    go false t = late (eqb-false (r .code) 0 t)
+
+-- ---- a field of one number
+
+-- The judge's fault is a number that the field's value gives, or 1 where the field is cut.
+pub record Tells (w : ℕ) (j : List Bool → Fault) (faultOf : ℕ → ℕ) : Type 0 where
+  pub whole : (b : List Bool) → length b ≡ w → j b ≡ blamed (faultOf (valueOf b)) 0
+  pub cut : (b : List Bool) → length b < w → j b ≡ bad 1 0
+
+pub only-tells : (w c : ℕ) (t : Test) (h : List ℕ) → Tells w (only w (suc c) t h) (λ v. cond (t h v) 0 (suc c))
+unfolding walk
+only-tells w c t h = record {
+  whole = λ b e. rw (le-leb w (length b) (omega (arith, e)), take-all w b (omega (arith, e))) (go (t h (valueOf b)));
+  cut = λ b l. rw (lt-leb w (length b) l) refl;
+}
+  where
+    go : (x : Bool) → orElse (unless x (suc c) 0) good ≡ blamed (cond x 0 (suc c)) 0
+    go true = refl
+    go false = refl
+
+-- under two tests
+pub twice-tells : (w c d : ℕ) (t u : Test) (h : List ℕ) → Tells w (twice w (suc c) t (suc d) u h) (λ v. cond (t h v) (cond (u h v) 0 (suc d)) (suc c))
+twice-tells w c d t u h =
+    let x = only-tells w c t h in
+    let y = only-tells w d u h in
+    record {
+      whole = λ b e. ap₂ orElse (x .whole b e) (y .whole b e) ∙ go (t h (valueOf b)) (u h (valueOf b));
+      cut = λ b l. ap₂ orElse (x .cut b l) (y .cut b l);
+    }
+  where
+    go : (x y : Bool) → orElse (blamed (cond x 0 (suc c)) 0) (blamed (cond y 0 (suc d)) 0) ≡ blamed (cond x (cond y 0 (suc d)) (suc c)) 0
+    go true true = refl
+    go true false = refl
+    go false y = refl
+
+-- under a judge that hangs on a test of the values before
+pub cond-tells : (w : ℕ) (x : Bool) {j k : List Bool → Fault} {f g : ℕ → ℕ} → Tells w j f → Tells w k g → Tells w (λ b. cond x (j b) (k b)) (λ v. cond x (f v) (g v))
+cond-tells w true y z = y
+cond-tells w false y z = z
+
+module _ (s : List ℕ) (at w : ℕ) (j : Judge) (h : List ℕ) {faultOf : ℕ → ℕ} (x : Tells w (j h) faultOf) (reach : at + w < 2 ^ 64) (some : length s * 8 < at → 0 < w) where
   abbrev rest : List Bool
   rest = drop at (bitsOf s)
 
-  there : at + w ≤ length s * 8 → (flaw w (only w (suc c) t h) rest ≡ blamed (cond (t h (valueOf (take w rest))) 0 (suc c)) 0)
-  unfolding walk
+  there : at + w ≤ length s * 8 → flaw w (j h) rest ≡ blamed (faultOf (valueOf (take w rest))) 0
   there l =
       let n : w ≤ length rest = omega (arith, length-drop at (bitsOf s), length-bits s) in
-      rw (le-leb w (length (take w rest)) (omega (arith, length-take-le w rest n)), take-take w w rest (le-refl w), le-leb w (length rest) n) (go (t h (valueOf (take w rest))))
+      rw (x .whole (take w rest) (length-take-le w rest n), le-leb w (length rest) n) (go (faultOf (valueOf (take w rest))))
     where
-      go : (x : Bool) → orElse (orElse (unless x (suc c) 0) good) good ≡ blamed (cond x 0 (suc c)) 0
-      go true = refl
-      go false = refl
+      go : (c : ℕ) → orElse (blamed c 0) good ≡ blamed c 0
+      go zero = refl
+      go (suc c) = refl
 
-  cut : length s * 8 < at + w → flaw w (only w (suc c) t h) rest ≡ bad 1 0
-  unfolding walk
-  cut l = rw (lt-leb w (length (take w rest)) (omega (arith, length-take w rest, length-drop at (bitsOf s), length-bits s))) refl
+  missed : length s * 8 < at + w → flaw w (j h) rest ≡ bad 1 0
+  missed l = rw (x .cut (take w rest) (short (leb at (length s * 8)) refl)) refl
+    where
+      short : (y : Bool) → leb at (length s * 8) ≡ y → length (take w rest) < w
+      short true e = omega (arith, leb-true at (length s * 8) e, length-take w rest, length-drop at (bitsOf s), length-bits s)
+      short false e = omega (arith, some (leb-false at (length s * 8) e), length-take w rest, length-drop at (bitsOf s), length-bits s)
 
-  pub tested : (m : Bool) → Steps s at w (only w (suc c) t) h m (got s at w) number 0
+  -- of any width, by its value
+  pub told : Steps s at w j h false (valueOf (take w rest)) (cond (leb (at + w) (length s * 8)) (faultOf (valueOf (take w rest))) 1) 0
+  told = record { findable = λ e. absurd (false≢true e); reach = reach; into = omega arith; same = go (leb (at + w) (length s * 8)) refl; holds = λ z. refl }
+    where
+      go : (y : Bool) → leb (at + w) (length s * 8) ≡ y → flaw w (j h) rest ≡ blamed (cond y (faultOf (valueOf (take w rest))) 1) 0
+      go true e = there (leb-true (at + w) (length s * 8) e)
+      go false e = missed (leb-false (at + w) (length s * 8) e)
+
+  -- of at most 32 bits, as it is got
+  pub tested : w ≤ 32 → (m : Bool) → (m ≡ true → 0 < w) → Steps s at w j h m (got s at w) (cond (within (length s) at w) (faultOf (got s at w)) 1) 0
   unfolding fieldAt
-  tested m = record { findable = λ _. (some, small); reach = reach; into = omega arith; same = same′ (leb (at + w) (length s * 8)) refl; holds = holds′ (leb (at + w) (length s * 8)) refl }
+  tested small m more = record { findable = λ e. (more e, small); reach = reach; into = omega arith; same = same′ (leb (at + w) (length s * 8)) refl; holds = holds′ (leb (at + w) (length s * 8)) refl }
     where
-      same′ : (x : Bool) → leb (at + w) (length s * 8) ≡ x → flaw w (only w (suc c) t h) (drop at (bitsOf s)) ≡ blamed number 0
+      same′ : (y : Bool) → leb (at + w) (length s * 8) ≡ y → flaw w (j h) (drop at (bitsOf s)) ≡ blamed (cond (within (length s) at w) (faultOf (got s at w)) 1) 0
       same′ true e = rw (le-leb w 32 small, e) (there (leb-true (at + w) (length s * 8) e))
-      same′ false e = rw (le-leb w 32 small, e) (cut (leb-false (at + w) (length s * 8) e))
+      same′ false e = rw (le-leb w 32 small, e) (missed (leb-false (at + w) (length s * 8) e))
 
-      holds′ : (x : Bool) → leb (at + w) (length s * 8) ≡ x → number ≡ 0 → got s at w ≡ valueOf (take w (drop at (bitsOf s)))
+      holds′ : (y : Bool) → leb (at + w) (length s * 8) ≡ y → cond (within (length s) at w) (faultOf (got s at w)) 1 ≡ 0 → got s at w ≡ valueOf (take w (drop at (bitsOf s)))
       holds′ true e z = rw (le-leb w 32 small, e) refl
-      holds′ false e z = let y : number ≡ 1 = rw (le-leb w 32 small, e) refl in absurd (omega (arith, z, y))
+      holds′ false e z =
+          let n : cond (within (length s) at w) (faultOf (got s at w)) 1 ≡ 1 = rw (le-leb w 32 small, e) refl in
+          absurd (omega (arith, z, n))

@@ -11,7 +11,7 @@ use Rattle.bits.specs.Bits.{valueOf, digits, bitsOf, bytesOf, putAt}
 use Rattle.bits.specs.Xor.{xorOf}
 use Rattle.layout.specs.Fmt.{Out, accepted, refused, Fault, good, bad, Judge, Fmt, end, field, choice, bytes, orBad, pad, check, also, after, readField, read, writeField, sized, write, Spot, none, found, spot, unless10}
 use Rattle.layout.specs.Message.{Layout, Sound, fault, between, body, sealed, sealFault, closed, readMessage, writeMessage, correctMessage}
-use Rattle.layout.specs.Words.{Test, Part, part, orElse, unless, orZero, walk, only}
+use Rattle.layout.specs.Words.{Test, Part, part, orElse, unless, orZero, walk, only, twice}
 use Rattle.layout.specs.laws.Round.{lay, sized-at, write-lay}
 use Rattle.layout.specs.laws.Whole.{correct-narrow, correct-wide}
 
@@ -54,6 +54,13 @@ walk-numbered (part w c t ∷ ps) k z h b i e =
 
 pub only-numbered : (w c : ℕ) (t : Test) → Numbered (only w (suc c) t)
 only-numbered w c t = walk-numbered (part w (suc c) t ∷ []) 0 ((λ z. omega arith), tt)
+
+pub twice-numbered : (w c d : ℕ) (t u : Test) → Numbered (twice w (suc c) t (suc d) u)
+twice-numbered w c d t u h b i = go (only w (suc c) t h b) (only w (suc d) u h b) (only-numbered w c t h b i) (only-numbered w d u h b i)
+  where
+    go : (x y : Fault) → (x ≡ bad 0 i → ⊥) → (y ≡ bad 0 i → ⊥) → orElse x y ≡ bad 0 i → ⊥
+    go good y m n e = n e
+    go (bad c i) y m n e = m e
 
 pub zero-numbered : (w : ℕ) (j : Judge) → Numbered j → Numbered (orZero w j)
 unfolding orZero

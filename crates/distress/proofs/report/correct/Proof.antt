@@ -1,15 +1,27 @@
 -- `correct` is the correction in place of every layout, with the report's fields read before and behind the change and its table of places.
-use mathlib.Core.Path.{refl, sym, _∙_}
+use mathlib.Core.Path.{_≡_, refl, sym, ap, _∙_}
+use mathlib.Core.List.{List, []}
+use Prim.Native.Nat.{ℕ}
+use lib.ListN.{getD}
+use Rattle.layout.specs.Correcting.{standing}
+use Rattle.layout.specs.Fmt.{accepted, spot}
+use Rattle.layout.specs.Message.{readMessage}
+use Rattle.layout.specs.laws.Family.{record-values}
 use Rattle.layout.specs.laws.Correcting.{admitted-clean, correct-early, correct-late}
-use Rattle.layout.specs.laws.Spots.{table-stands, table-slim}
-use Rattle.distress.specs.Report.{report, reports}
-use Rattle.distress.specs.laws.Answers.{fields-code, whole-code, clean-lead}
-use Rattle.distress.specs.laws.Correction.{table}
+use Rattle.layout.specs.laws.Spots.{spotsAlong, slim, table-stands, table-slim}
+use Rattle.distress.specs.Report.{report, reports, reportOf, numberOf}
+use Rattle.distress.specs.declared.report.Answer.the-variants.{Good, Refused}
+use Rattle.layout.specs.laws.Answers.{fields-code, whole-code, clean-lead}
+use Rattle.distress.specs.laws.Correction.{places, widths, along}
 use Rattle.distress.specs.laws.Demands.{family}
 use Rattle.distress.specs.laws.Sound.{sound, sized}
 use borrow.Author.Needs.{needs}
 use Rattle.distress.proofs.report.correct.Statement.{statement}
 use Rattle.distress.proofs.report.correct.Tie as tie
+
+-- the field stands where the table says
+stands : (s : List ℕ) (i : ℕ) {p w : ℕ} → (p ≡ getD places i 0) × (w ≡ getD widths i 0) → (vs : List ℕ) → readMessage reports s ≡ accepted vs → spot (reports .fmt) [] vs i ≡ standing p w
+stands s i l vs e = table-stands places widths i l (reports .fmt) vs refl (ap (λ vs. spotsAlong (reports .fmt) [] vs 0) (sym (record-values family s vs e)) ∙ along (reportOf vs))
 
 lead-requires : tie.Need-lead-requires
 lead-requires c κs = search needs
@@ -38,21 +50,22 @@ same-length : tie.Need-same-length
 same-length c = search needs
 
 returns : tie.Need-returns
-unfolding reports
+unfolding reports slim
 returns c =
     let g = c .before in
     let look = g .before .before in
     let f = look .before .before .before in
     let a = f .before .before .before .before .args in
     let s = a .buf .now in
-    let reads = whole-code s _ _ _ (g .before .refusal .ensures) (f .fields .ensures) (f .before .lead .ensures) in
-    correct-early reports sound (family .judged) s (a .field) (a .value) _ _ reads (table-stands reports table (a .field) (look .look-up .ensures) s) (table-slim reports table (a .field) (look .look-up .ensures))
+    let reads = whole-code Good Refused reportOf numberOf (λ r. refl) (λ c. refl) reports s _ _ _ (g .before .refusal .ensures) (f .fields .ensures) s refl (f .before .lead .ensures) in
+    correct-early reports sound (family .judged) s (a .field) (a .value) _ _ reads (stands s (a .field) (look .look-up .ensures)) (table-slim places widths (a .field) (look .look-up .ensures) refl)
     (g .admits .ensures) (c .if1 .taken)
 
 swap-requires : tie.Need-swap-requires
 swap-requires c κs = search needs
 
 fields-requires-2 : tie.Need-fields-requires-2
+unfolding reports
 fields-requires-2 c κs =
     let swap = c .before .before .before in
     let test = swap .before .before in
@@ -61,7 +74,7 @@ fields-requires-2 c κs =
     let a = f .before .before .before .before .args in
     let s = a .buf .now in
     let clean = admitted-clean (g .before .refusal .result) (g .before .before .look-up .result .width) (a .value) (sym (g .admits .ensures) ∙ test .if1 .left) in
-    λ z. swap .swap .kept .0 ∙ sized s (sym (f .before .lead .ensures) ∙ clean-lead s _ _ _ (g .before .refusal .ensures) (f .fields .ensures) clean)
+    λ z. swap .swap .kept .0 ∙ sized s (sym (f .before .lead .ensures) ∙ clean-lead Good Refused reportOf numberOf (λ r. refl) (λ c. refl) reports s _ _ _ (g .before .refusal .ensures) (f .fields .ensures) clean)
 
 refusal-requires-2 : tie.Need-refusal-requires-2
 refusal-requires-2 c κs = search needs
@@ -73,7 +86,7 @@ same-length-2 : tie.Need-same-length-2
 same-length-2 c = search needs
 
 returns-2 : tie.Need-returns-2
-unfolding reports
+unfolding reports slim
 returns-2 c =
     let settle = c .before .before in
     let again = settle .before in
@@ -86,9 +99,9 @@ returns-2 c =
     let known = f .before .before .before in
     let a = known .before .args in
     let s = a .buf .now in
-    let reads = whole-code s _ _ _ (g .before .refusal .ensures) (f .fields .ensures) (f .before .lead .ensures) in
-    correct-late reports sound (family .judged) s (a .field) (a .value) _ _ reads (table-stands reports table (a .field) (look .look-up .ensures) s) (table-slim reports table (a .field) (look .look-up .ensures))
-    (λ i. known .slice-known .given i .fits) (g .admits .ensures) (test .if1 .left) (swap .swap .ensures) (fields-code _ 0 _ _ (again .refusal2 .ensures) (f2 .fields2 .ensures)) (settle .settle .ensures) refl
+    let reads = whole-code Good Refused reportOf numberOf (λ r. refl) (λ c. refl) reports s _ _ _ (g .before .refusal .ensures) (f .fields .ensures) s refl (f .before .lead .ensures) in
+    correct-late reports sound (family .judged) s (a .field) (a .value) _ _ reads (stands s (a .field) (look .look-up .ensures)) (table-slim places widths (a .field) (look .look-up .ensures) refl)
+    (λ i. known .slice-known .given i .fits) (g .admits .ensures) (test .if1 .left) (swap .swap .ensures) (fields-code Good Refused reportOf numberOf (λ r. refl) (λ c. refl) reports _ 0 _ _ (again .refusal2 .ensures) (f2 .fields2 .ensures)) (settle .settle .ensures) refl
 
 pub correct-spec : {M : Type 1} → statement M
 correct-spec =

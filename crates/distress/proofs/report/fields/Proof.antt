@@ -13,7 +13,7 @@ use Rattle.layout.specs.laws.Sign.{spell-int}
 use mir.Syntax.{w32}
 use mir.ValLaws.{toZ-ofZ}
 use Rattle.distress.specs.Report.{report, valuesOf, reportOf, answerOf, again}
-use Rattle.distress.specs.laws.Answers.{told-so}
+use Rattle.layout.specs.laws.Answers.{told-so}
 use Rattle.distress.specs.declared.report.Answer.the-variants.{Good, Refused}
 use borrow.Author.Needs.{needs}
 use Rattle.distress.proofs.report.fields.Statement.{statement}
@@ -116,7 +116,7 @@ returns-2 c =
     let a = cs .before .before .before .args in
     let s = a .s .now in
     let r0 = start report 0 (a .lead) s (cs .begin .ensures) in
-    let r1 = step-code 16 (lit< tt) (lit≤ tt) (lit< tt) 0xBDC1 r0 (c0 .code .ensures) in
+    let r1 = step-code 16 (lit≤ tt) (lit< tt) 0xBDC1 r0 (c0 .code .ensures) in
     let r2 = step-num 32 (lit< tt) (lit≤ tt) (lit< tt) 0 999_999_999 r1 (c1 .num .ensures .0) in
     let r3 = step-signed 25 (lit< tt) (lit≤ tt) (lit< tt) 10_800_000 10_860_000 r2 (c2 .signed .ensures .0) in
     let r4 = step-signed 24 (lit< tt) (lit≤ tt) (lit< tt) 5_400_000 5_460_000 r3 (c4 .signed2 .ensures .0) in
@@ -126,12 +126,12 @@ returns-2 c =
     let r8 = step-num 7 (lit< tt) (lit≤ tt) (lit< tt) 0 126 r7 (c9 .num5 .ensures .0) in
     let r9 = step-num 9 (lit< tt) (lit≤ tt) (lit< tt) 0 360 r8 (c10 .num6 .ensures .0) in
     let r10 = step-num 4 (lit< tt) (lit≤ tt) (lit< tt) 0 9 r9 (c11 .num7 .ensures .0) in
-    let r11 = step-fill 3 (lit< tt) (lit≤ tt) (lit< tt) r10 (c12 .fill .ensures) in
+    let r11 = step-fill 3 (lit≤ tt) (lit< tt) r10 (c12 .fill .ensures) in
     let r12 = finish (lit< tt) r11 (ended .end .ensures) in
     let east = ap (spellOf (2 ^ 25)) (toZ-ofZ w32 (c3 .int .result) (record { sfits = c3 .int .ok }) ∙ c3 .int .ensures) ∙ spell-int (2 ^ 25) (c2 .signed .result .v) (lit≤ tt) refl (c2 .signed .ensures .1) in
     let north = ap (spellOf (2 ^ 24)) (toZ-ofZ w32 (c5 .int2 .result) (record { sfits = c5 .int2 .ok }) ∙ c5 .int2 .ensures) ∙ spell-int (2 ^ 24) (c4 .signed2 .result .v) (lit≤ tt) refl (c4 .signed2 .ensures .1) in
     let w = same-values (λ i. 0xBDC1 ∷ c1 .num .result .v ∷ sym east i ∷ sym north i ∷ c6 .num2 .result .v ∷ c7 .num3 .result .v ∷ c8 .num4 .result .v ∷ c9 .num5 .result .v ∷ c10 .num6 .result .v ∷ c11 .num7 .result .v ∷ 0 ∷ []) r12 in
-    c .told .ensures ∙ ap (λ r. cond (eqb (ended .end .result .code) 0) (Good r) (Refused (ended .end .result .code))) (sym (again _ (rw east (c2 .signed .ensures .1)) (rw north (c4 .signed2 .ensures .1)))) ∙ told-so _ _ (ended .end .result .code) (ended .end .result .place) (w .so)
+    c .told .ensures ∙ ap (λ r. cond (eqb (ended .end .result .code) 0) (Good r) (Refused (ended .end .result .code))) (sym (again _ (rw east (c2 .signed .ensures .1)) (rw north (c4 .signed2 .ensures .1)))) ∙ told-so Good Refused reportOf _ _ (ended .end .result .code) (ended .end .result .place) (w .so)
 
 pub fields-spec : {M : Type 1} → statement M
 fields-spec =
