@@ -24,3 +24,4 @@ pub mod Correcting
 pub mod Sign
 pub mod Entries
 pub mod Family
+pub mod Corrections

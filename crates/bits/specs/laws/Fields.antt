@@ -132,3 +132,14 @@ field-byte s i bytes h =
     (length-front i s (omega arith))
     (length-digits 8 (getD s i 0))
     ∙ value-digits 8 (bytes i)
+
+-- a field of the first n bytes
+pub field-front : (s : List ℕ) (n at w : ℕ) → n ≤ length s → at + w ≤ n * 8 → fieldAt (take n s) at w ≡ fieldAt s at w
+unfolding fieldAt
+field-front s n at w l h =
+    let b = bitsOf (take n s) in
+    let k : length b ≡ n * 8 = length-bits (take n s) ∙ ap (_* 8) (length-take-le n s l) in
+    let whole : bitsOf s ≡ b ++ bitsOf (drop n s) = ap bitsOf (sym (take-append-drop n s)) ∙ bits-append (take n s) (drop n s) in
+    sym (ap (λ b. valueOf (take w (drop at b))) whole
+    ∙ ap (λ b. valueOf (take w b)) (drop-append-le at b (bitsOf (drop n s)) (omega (arith, k)))
+    ∙ ap valueOf (take-append-le w (drop at b) (bitsOf (drop n s)) (omega (arith, k, length-drop at b))))

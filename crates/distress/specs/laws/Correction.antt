@@ -9,9 +9,8 @@ use lib.IntN.{ℤ}
 use lib.ListN.{getD, set}
 use Rattle.layout.specs.Fmt.{spot, none, found}
 use Rattle.layout.specs.Sign.{intOf, spellOf}
-use Rattle.layout.specs.laws.Correct.{none-clash}
 use Rattle.layout.specs.laws.Sign.{spell-int}
-use Rattle.layout.specs.laws.Spots.{spotsAlong, spot-along, rows, eachAt, set-each}
+use Rattle.layout.specs.laws.Spots.{spotsAlong, spot-along, rows, eachAt, set-each, kept-entry}
 use Rattle.distress.specs.Changed.{spotOf, changed}
 use Rattle.distress.specs.Report.{report, reports, valuesOf}
 use Rattle.distress.specs.declared.report.Report.{Report}
@@ -37,10 +36,6 @@ spelled true full v x e = e refl
 spelled false full v x e = refl
 
 module _ (r : Report) (i v p w : ℕ) (e : spotOf i ≡ found p w) where
-  -- a field that is kept is not the one that is changed
-  kept : (k old : ℕ) → spotOf k ≡ none → old ≡ cond (eqb i k) v old
-  kept k old n = rw (ne-eqb i k (λ z. none-clash (sym n ∙ ap spotOf (sym z) ∙ e))) refl
-
   -- a signed field of u bits
   signed : (k q u : ℕ) (x : ℤ) → spotOf k ≡ found q u → 2 ^ u ≤ 2_147_483_648 → 2 ^ u % 2 ≡ 0 → v < 2 ^ w → spellOf (2 ^ u) (cond (eqb i k) (intOf (2 ^ u) v) x) ≡ cond (eqb i k) v (spellOf (2 ^ u) x)
   signed k q u x s small even l = spelled (eqb i k) (2 ^ u) v x (λ z.
@@ -54,8 +49,8 @@ module _ (r : Report) (i v p w : ℕ) (e : spotOf i ≡ found p w) where
   changed-values l =
       let east = signed 2 48 25 (r .longitude) refl (lit≤ tt) refl l in
       let north = signed 3 73 24 (r .latitude) refl (lit≤ tt) refl l in
-      let code = kept 0 0xBDC1 refl in
-      let fill = kept 10 0 refl in
+      let code = kept-entry spotOf i v e 0 0xBDC1 refl in
+      let fill = kept-entry spotOf i v e 10 0 refl in
       let f : ℕ → ℕ → ℕ = λ k x. cond (eqb i k) v x in
       (λ y. code y ∷ f 1 (r .mmsi) ∷ east y ∷ north y ∷ f 4 (r .day) ∷ f 5 (r .hour) ∷ f 6 (r .minute) ∷ f 7 (r .speed) ∷ f 8 (r .course) ∷ f 9 (r .kind) ∷ fill y ∷ [])
       ∙ sym (set-each i v (valuesOf r))

@@ -21,7 +21,7 @@ module _ {R A : Type 0} (good : R → A) (bad : ℕ → A) (recordOf : List ℕ 
 
   -- the number of an answer
   module _ (numberOf : A → ℕ) (of-good : (r : R) → numberOf (good r) ≡ 0) (of-bad : (c : ℕ) → numberOf (bad c) ≡ c) where
-    numbered : (o : Out (List ℕ)) → numberOf (answered good bad (also recordOf o)) ≡ codeOf o
+    pub numbered : (o : Out (List ℕ)) → numberOf (answered good bad (also recordOf o)) ≡ codeOf o
     numbered (accepted vs) = of-good (recordOf vs)
     numbered (refused c p) = of-bad c
 

@@ -1,38 +1,44 @@
 -- What the fields of an accepted message say of its first tests: for a layout's proof that it is sound. Assumes nothing.
-use mathlib.Core.Path.{_≡_, refl, sym, ap, _∙_}
+use mathlib.Core.Path.{_≡_, refl, sym, _∙_, subst}
 use mathlib.Core.Bool.{Bool, true, false, cond, _&&_}
-use mathlib.Core.List.{List, []}
-use Prim.Native.Nat.{ℕ, suc, _≤_}
-use native.Mathlib.Nat.{le-refl}
+use mathlib.Core.List.{List, [], _∷_}
+use Prim.Native.Nat.{ℕ, suc, _+_, _≤_}
 use native.Mathlib.Omega.{arith}
-use lib.Dec.{leb}
-use lib.ListN.{length, take}
-use lib.Seq.{take-take}
+use lib.Dec.{leb, leb→le}
+use lib.ListN.{length, take, drop}
 use borrow.Author.Tests.{leb-true}
 use Rattle.bits.specs.Bits.{valueOf, bitsOf, fieldAt}
 use Rattle.bits.specs.laws.Bytes.{length-bits}
-use Rattle.layout.specs.Fmt.{accepted, good, Fmt, field, readField, read}
+use Rattle.layout.specs.Fmt.{accepted, Judge, Fmt, field, orBad, readField, read}
 use Rattle.layout.specs.Message.{Layout, led, between}
-use Rattle.layout.specs.Words.{_‥_, orElse, unless, walk, only}
+use Rattle.layout.specs.Words.{_‥_, only}
 use Rattle.layout.specs.laws.Flat.{Plain, span-laid}
-use Rattle.layout.specs.laws.Reading.{only-one}
-use Rattle.layout.specs.laws.Round.{checked, read-write}
+use Rattle.layout.specs.laws.Held.{Held, held, exactly}
+use Rattle.layout.specs.laws.Round.{checked, passed, also-inv, read-write}
+
+-- A field in front is there, and what is behind it is read.
+pub record Opened (w : ℕ) (f : Fmt) (h : List ℕ) (at : ℕ) (b : List Bool) (vs : List ℕ) : Type 0 where
+  pub rest : List ℕ
+  pub front : vs ≡ valueOf (take w b) ∷ rest
+  pub there : w ≤ length b
+  pub after : read f (valueOf (take w b) ∷ h) (at + w) (drop w b) ≡ accepted rest
+
+pub opened : (w : ℕ) (j : Judge) (m : List ℕ → Bool) (f : Fmt) (h : List ℕ) (at : ℕ) (b : List Bool) (vs : List ℕ) → read (field w j m f) h at b ≡ accepted vs → Opened w f h at b vs
+unfolding read readField
+opened w j m f h at b vs e =
+    let (x, y) = checked (j h (take w b)) at _ e in
+    let (t, z) = checked (orBad (leb w (length b)) 1) at _ y in
+    let (rest, after, front) = also-inv (valueOf (take w b) ∷_) (read f (valueOf (take w b) ∷ h) (at + w) (drop w b)) z in
+    record { rest = rest; front = sym front; there = leb→le w (length b) (passed (leb w (length b)) 1 t); after = after }
 
 -- a code in front is there
 pub opens : (w c n : ℕ) (m : List ℕ → Bool) (f : Fmt) (s vs : List ℕ) → read (field w (only w (suc c) (n ‥ n)) m f) [] 0 (bitsOf s) ≡ accepted vs → fieldAt s 0 w ≡ n
-unfolding read readField walk fieldAt
+unfolding fieldAt
 opens w c n m f s vs e =
-    let b = bitsOf s in
-    let (x, _) = checked (only w (suc c) (n ‥ n) [] (take w b)) 0 _ e in
-    ap valueOf (sym (take-take w w b (le-refl w))) ∙ go (leb w (length (take w b))) (valueOf (take w (take w b))) x
-  where
-    judged : (x : Bool) → orElse (unless x (suc c) 0) good ≡ good → cond x 0 (suc c) ≡ 0
-    judged true e = refl
-    judged false e = let z : _≡_ {A = ℕ} 0 1 = cc in absurd (omega arith)
-
-    go : (t : Bool) (v : ℕ) → orElse (unless t 1 0) (orElse (unless (leb n v && leb v n) (suc c) 0) good) ≡ good → v ≡ n
-    go true v x = only-one n v c (judged (leb n v && leb v n) x)
-    go false v x = let z : _≡_ {A = ℕ} 0 1 = cc in absurd (omega arith)
+    let o = opened w (only w (suc c) (n ‥ n)) m f [] 0 (bitsOf s) vs e in
+    let g = field w (only w (suc c) (n ‥ n)) m f in
+    let h = subst (Held g []) (o .front) (held g [] 0 vs (bitsOf s) (read-write g [] 0 vs (bitsOf s) e)) in
+    exactly w c n [] (valueOf (take w (bitsOf s))) (h .0) (h .1)
 
 -- an accepted message of a flat layout has its bytes
 pub bytes-long : (l : Layout) {n : ℕ} (x : Plain l n) (s vs : List ℕ) → read (l .fmt) [] 0 (bitsOf s) ≡ accepted vs → length s ≡ n

@@ -9,6 +9,7 @@ use borrow.Author.Tests.{eq-eqb, ne-eqb, leb-true}
 use lib.Dec.{eqb, leb}
 use lib.ListN.{length, getD, set}
 use Rattle.layout.specs.Correcting.{standing}
+use Rattle.layout.specs.laws.Correct.{none-clash}
 use Rattle.layout.specs.Fmt.{Fmt, end, field, choice, bytes, Spot, none, found, later, where?, spot}
 
 -- the fields of the values vs, from bit `at` on: where each that may be corrected stands
@@ -61,6 +62,10 @@ each-from (suc i) v k (x ∷ l) =
 
 pub set-each : (i v : ℕ) (l : List ℕ) → set l i v ≡ eachAt i v 0 l
 set-each i v l = sym (each-from i v 0 l) ∙ ap (λ n. eachAt n v 0 l) (omega arith)
+
+-- an entry that is kept is not the one that is changed
+pub kept-entry : (spotOf : ℕ → Spot) (i v : ℕ) {p w : ℕ} → spotOf i ≡ found p w → (k old : ℕ) → spotOf k ≡ none → old ≡ cond (eqb i k) v old
+kept-entry spotOf i v e k old n = rw (ne-eqb i k (λ z. none-clash (sym n ∙ ap spotOf (sym z) ∙ e))) refl
 
 -- ---- a table of places and widths, in which code looks a field up
 

@@ -1,0 +1,21 @@
+-- `first` is the lead, then the seal.
+use mathlib.Core.Path.{ap, _∙_}
+use mathlib.Core.Bool.{true}
+use Rattle.layout.specs.Message.{firstOf, sealFault}
+use borrow.Author.Needs.{needs}
+use Rattle.frame.proofs.first.Statement.{statement}
+use Rattle.frame.proofs.first.Tie as tie
+
+lead-requires : tie.Need-lead-requires
+lead-requires c κs = search needs
+
+stamped-requires : tie.Need-stamped-requires
+stamped-requires c κs = search needs
+
+returns : tie.Need-returns
+returns c =
+    let s = c .before .before .before .args .s .now in
+    c .stamped .ensures ∙ ap (firstOf (sealFault true s)) (c .before .lead .ensures)
+
+pub first-spec : {M : Type 1} → statement M
+first-spec = tie.close (tie.spec lead-requires stamped-requires returns)

@@ -1,0 +1,55 @@
+-- `fields` walks the frame as its layout stands: one step a field, then the record is that of the values.
+use mathlib.Core.Path.{_∙_}
+use lib.Dec.{lit<, lit≤}
+use Rattle.frame.specs.laws.Head.{head-read}
+use Rattle.layout.specs.laws.Answers.{told-so}
+use Rattle.layout.specs.laws.Reading.{step-num}
+use Rattle.layout.specs.laws.Walked.{finish}
+use Rattle.gljc.specs.Gljc.{letters, gljc, recordOf}
+use Rattle.gljc.specs.declared.Answer.the-variants.{Good, Refused}
+use borrow.Author.Needs.{needs}
+use Rattle.gljc.proofs.fields.Statement.{statement}
+use Rattle.gljc.proofs.fields.Tie as tie
+
+head-requires : tie.Need-head-requires
+head-requires c κs = search needs
+
+cast-address : tie.Need-cast-address
+cast-address c = search needs
+
+num-requires : tie.Need-num-requires
+num-requires c κs = search needs
+
+cast-minutes : tie.Need-cast-minutes
+cast-minutes c = search needs
+
+end-requires : tie.Need-end-requires
+end-requires c κs = search needs
+
+told-requires : tie.Need-told-requires
+told-requires c κs = search needs
+
+returns : tie.Need-returns
+unfolding gljc recordOf
+returns c =
+    let ended = c .before in
+    let c1 = ended .before .before in
+    let c0 = c1 .before .before in
+    let a = c0 .before .before .args in
+    let s = a .s .now in
+    let r0 = head-read letters 12 12 _ s (a .code) (c0 .head .ensures .0) in
+    let r1 = step-num 8 (lit< tt) (lit≤ tt) (lit< tt) 0 255 r0 (c1 .num .ensures .0) in
+    let w = finish (lit< tt) r1 (ended .end .ensures) in
+    c .told .ensures ∙ told-so Good Refused recordOf _ _ (ended .end .result .code) (ended .end .result .place) (w .so)
+
+pub fields-spec : {M : Type 1} → statement M
+fields-spec =
+    tie.close
+    (tie.spec
+    head-requires
+    cast-address
+    num-requires
+    cast-minutes
+    end-requires
+    told-requires
+    returns)
