@@ -4,26 +4,22 @@ use mathlib.Core.List.{List, [], _∷_}
 use Prim.Native.Nat.{ℕ, _≤_, _<_, _^_}
 use lib.Dec.{lit≤}
 use native.Mathlib.Omega.{arith}
-use lib.ListN.{length, getD, take, drop}
-use lib.Seq.{take-at}
+use lib.ListN.{length, getD, take}
 use Rattle.bits.specs.Bits.{Bytes, putAt}
 use Rattle.layout.specs.Fmt.{Out, accepted, refused, found}
 use Rattle.layout.specs.Message.{writeMessage}
 use Rattle.layout.specs.Promises.{readRecord, Writes, Corrects}
 use Rattle.layout.specs.laws.Entries.{entries, held-entries}
-use Rattle.layout.specs.laws.Family.{Family, written-read, accepted-correction, corrected-as-written}
-use Rattle.layout.specs.laws.First.{bytes-long}
+use Rattle.layout.specs.laws.Family.{Family, one-size, written-front, accepted-correction, corrected-as-written}
 use Rattle.layout.specs.laws.Held.{Held, exactly}
 use Rattle.layout.specs.laws.Sign.{spell-int}
-use Rattle.layout.specs.laws.Whole.{was, write-read-message}
 use Rattle.layout.specs.laws.Zero.{Judged, only-numbered}
 use Rattle.distress.specs.Changed.{spotOf, changed}
 use Rattle.distress.specs.Promises.{Reads}
-use Rattle.distress.specs.Report.{report, reports, valuesOf, reportOf, answerOf, again, plain}
+use Rattle.distress.specs.Report.{report, reports, valuesOf, reportOf, answerOf, again}
 use Rattle.distress.specs.laws.Correction.{spotted, changed-values}
 use Rattle.distress.specs.laws.Sound.{sound}
 use Rattle.distress.specs.declared.report.Report.{Report}
-use Rattle.distress.specs.declared.report.Answer.{Answer}
 use Rattle.distress.specs.declared.report.Answer.the-variants.{Good}
 
 judged : Judged report
@@ -75,9 +71,6 @@ family = record {
 
 -- ---- said of the report's promises
 
-pub one-reading : (s : List ℕ) (a b : Answer) → Reads s a → Reads s b → a ≡ b
-one-reading s a b d e = d ∙ sym e
-
 -- an answer that is good is an accepted reading
 pub good : (s : List ℕ) (r : Report) → Reads s (Good r) → readRecord reports reportOf s ≡ accepted r
 good s r a = go (readRecord reports reportOf s) a
@@ -89,14 +82,11 @@ good s r a = go (readRecord reports reportOf s) a
 -- a report that is written has 17 bytes
 pub long : (vs m : List ℕ) → writeMessage reports vs ≡ accepted m → length m ≡ 17
 unfolding reports
-long vs m e = bytes-long reports plain m vs (was reports m vs (write-read-message reports sound m vs e) .walked)
+long = one-size reports 17 refl refl
 
 -- What is written is read back as the same record.
 pub written-reads : (s : List ℕ) (r : Report) (t : List ℕ) → Writes reports s 0 t (valuesOf r) → Reads (take 17 t) (Good r)
-written-reads s r t w =
-    let y = written-read family s r t tt w in
-    let k = ap (take 17) (y .front) ∙ take-at (y .message) (drop (length (y .message)) s) 17 (long (valuesOf r) (y .message) (y .made-so)) in
-    sym (ap (λ m. answerOf (readRecord reports reportOf m)) k ∙ ap answerOf (y .reads))
+written-reads s r t w = sym (ap answerOf (written-front family s r t 17 tt w (long (valuesOf r))))
 
 -- A correction changes the field's bits alone.
 pub correction-bits : (s : List ℕ) (i v : ℕ) (t : List ℕ) (e : Corrects reports s i v 0 t) → let c = accepted-correction family s i v t e in

@@ -1,19 +1,18 @@
 -- A serial frame is sound: what its fields accept has its `$`, its letters and its length where the first tests look. Assumes nothing.
 use mathlib.Core.Path.{_≡_, refl, sym, ap, _∙_, subst}
-use mathlib.Core.Bool.{Bool, true, cond, and-true}
+use mathlib.Core.Bool.{Bool, and-true}
 use mathlib.Core.List.{List, [], _∷_}
-use Prim.Native.Nat.{ℕ, suc, _+_, _-_, _*_, _≤_, _<_}
+use Prim.Native.Nat.{ℕ, _+_, _-_, _*_, _≤_, _<_}
 use native.Mathlib.Omega.{arith}
-use lib.Dec.{lit<}
 use lib.ListN.{length, take, drop, getD, length-drop}
 use lib.Seq.{length-take-le, drop-drop}
 use borrow.Author.Tests.{le-leb, eq-eqb}
 use Rattle.bits.specs.Bits.{valueOf, bitsOf, fieldAt}
 use Rattle.bits.specs.laws.Bytes.{length-bits}
 use Rattle.bits.specs.laws.Fields.{field-front}
-use Rattle.layout.specs.Fmt.{accepted, Fmt, field, read}
+use Rattle.layout.specs.Fmt.{accepted, Fmt, read}
 use Rattle.layout.specs.Message.{Sound}
-use Rattle.layout.specs.Words.{_‥_, only, kept, free}
+use Rattle.layout.specs.Words.{kept, free}
 use Rattle.layout.specs.laws.First.{opened}
 use Rattle.layout.specs.laws.Held.{Held, held, exactly}
 use Rattle.layout.specs.laws.Round.{read-write}

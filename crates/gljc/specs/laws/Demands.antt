@@ -1,21 +1,20 @@
 -- The frame GLJC is a family of layout/specs/laws/Family, whose theorems are demands 2 and 3; said here of the frame's own promises. Assumes nothing.
 use mathlib.Core.Path.{_≡_, refl, sym, ap, _∙_, subst}
 use mathlib.Core.Bool.{Bool}
-use mathlib.Core.List.{List, [], _∷_}
+use mathlib.Core.List.{List, [], _∷_, _++_}
 use Prim.Native.Nat.{ℕ, _+_, _*_, _≤_, _<_, _^_}
 use native.Mathlib.Omega.{arith}
-use lib.Dec.{lit<, lit≤}
-use lib.ListN.{length, getD, take}
+use lib.Dec.{lit<}
+use lib.ListN.{length, getD, take, drop}
 use Rattle.bits.specs.Bits.{Bytes}
 use Rattle.frame.specs.laws.Head.{head-numbered}
 use Rattle.frame.specs.laws.Sound.{frame-sound}
 use Rattle.layout.specs.Fmt.{Out, accepted, refused, end, read, found}
-use Rattle.layout.specs.Message.{Sound}
 use Rattle.layout.specs.Promises.{readRecord, Writes, Corrects}
 use Rattle.layout.specs.Words.{_‥_, num}
-use Rattle.layout.specs.laws.Entries.{entries, Long, held-entries}
+use Rattle.layout.specs.laws.Entries.{entries, held-entries}
 use Rattle.layout.specs.laws.Extent.{extent-laid}
-use Rattle.layout.specs.laws.Family.{Family, corrected-as-written}
+use Rattle.layout.specs.laws.Family.{Family, one-size, written-front, read-written, corrected-as-written}
 use Rattle.layout.specs.laws.Held.{Held, held, exactly}
 use Rattle.layout.specs.laws.Round.{read-write}
 use Rattle.layout.specs.laws.Zero.{Judged, only-numbered}
@@ -24,7 +23,6 @@ use Rattle.gljc.specs.Gljc.{letters, gljc, gljcs, valuesOf, recordOf, an
 use Rattle.gljc.specs.Promises.{Reads}
 use Rattle.gljc.specs.laws.Correction.{spotted, changed-values}
 use Rattle.gljc.specs.declared.Gljc.{Gljc}
-use Rattle.gljc.specs.declared.Answer.{Answer}
 use Rattle.gljc.specs.declared.Answer.the-variants.{Good}
 
 -- accepted values are those of their record: `$`, letters and length are as they must be
@@ -62,3 +60,29 @@ family = record {
   can-lend = λ vs h. tt;
   changes = λ r i v p w k e n. (changed-values r i v p w (sym (spotted r i) ∙ e), tt);
 }
+
+-- ---- said of the frame's promises
+
+-- an answer that is good is an accepted reading
+pub good : (s : List ℕ) (r : Gljc) → Reads s (Good r) → readRecord gljcs recordOf s ≡ accepted r
+good s r a = go (readRecord gljcs recordOf s) a
+  where
+    go : (o : Out Gljc) → Good r ≡ answerOf o → o ≡ accepted r
+    go (accepted q) e = let k : q ≡ r = cc in ap accepted k
+    go (refused c p) e = let z : _≡_ {A = ℕ} 0 1 = cc in absurd (omega arith)
+
+-- What is written is read back as the same record.
+pub written-reads : (s : List ℕ) (r : Gljc) (t : List ℕ) → Writes gljcs s 0 t (valuesOf r) → Reads (take 12 t) (Good r)
+unfolding gljcs
+written-reads s r t w = sym (ap answerOf (written-front family s r t 12 tt w (one-size gljcs 12 refl refl (valuesOf r))))
+
+-- What is read is written back as the same bytes.
+pub read-writes-back : (s : List ℕ) (r : Gljc) → Bytes s → Reads s (Good r) → (u : List ℕ) (code : ℕ) (t : List ℕ) → length s ≤ length u → Writes gljcs u code t (valuesOf r)
+    → (code ≡ 0) × (t ≡ s ++ drop (length s) u)
+read-writes-back s r fine a = read-written family s r fine (good s r a)
+
+-- Demand 3: correcting a frame, where the field can spell the value, is writing the frame with that field changed; else nothing differs.
+pub corrected : (s : List ℕ) (r : Gljc) → Bytes s → Reads s (Good r) → (i v p w : ℕ) → spotOf i ≡ found p w → v < 2 ^ w → (code : ℕ) (t : List ℕ) → Corrects gljcs s i v code t
+    → (u : List ℕ) → length s ≤ length u → (code′ : ℕ) (t′ : List ℕ) → Writes gljcs u code′ t′ (valuesOf (changed i v r))
+    → (code ≡ code′) × (code ≡ 0 → t ≡ take (length s) t′) × ((code ≡ 0 → ⊥) → t ≡ s)
+corrected s r fine a i v p w e n = corrected-as-written family s r fine (good s r a) i v p w (spotted r i ∙ e) n

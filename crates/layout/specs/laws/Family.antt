@@ -1,6 +1,6 @@
 -- Demands 2 and 3 for a family, from the promises of its calls: what is proved of lists of values, said of records. Assumes nothing.
 use mathlib.Core.Path.{_≡_, refl, sym, ap, _∙_, subst}
-use mathlib.Core.Bool.{Bool, true, false}
+use mathlib.Core.Bool.{Bool, true, false, cond, _&&_}
 use mathlib.Core.List.{List, [], _++_}
 use Prim.Native.Nat.{ℕ, _≤_, _<_, _^_}
 use native.Mathlib.Omega.{arith}
@@ -30,11 +30,23 @@ pub record Family (l : Layout) (R : Type 0) (Lent : R → Type 0) (valuesOf : R 
 
 -- ---- two answers that a promise allows are equal
 
+pub one-reading : {A : Type 0} (x a b : A) → a ≡ x → b ≡ x → a ≡ b
+one-reading x a b d e = d ∙ sym e
+
 pub one-writing : (l : Layout) (s vs : List ℕ) (c d : ℕ) (t u : List ℕ) → Writes l s c t vs → Writes l s d u vs → (c ≡ d) × (t ≡ u)
 one-writing l s vs c d t u x y = (x .0 ∙ sym (y .0), x .1 ∙ sym (y .1))
 
 pub one-correction : (l : Layout) (s : List ℕ) (i v c d : ℕ) (t u : List ℕ) → Corrects l s i v c t → Corrects l s i v d u → (c ≡ d) × (t ≡ u)
 one-correction l s i v c d t u x y = (x .0 ∙ sym (y .0), x .1 ∙ sym (y .1))
+
+-- a layout of one size makes messages of that size
+pub one-size : (l : Layout) (n : ℕ) → l .least ≡ n → l .most ≡ n → (vs m : List ℕ) → writeMessage l vs ≡ accepted m → length m ≡ n
+one-size l n least most vs m e = go (leb (l .least) (length m)) (leb (length m) (l .most)) refl refl (made l m vs e .fits)
+  where
+    go : (x y : Bool) → leb (l .least) (length m) ≡ x → leb (length m) (l .most) ≡ y → _≡_ {A = ℕ} (cond (x && y) 0 1) 0 → length m ≡ n
+    go true true ex ey z = let a = leb-true (l .least) (length m) ex in let b = leb-true (length m) (l .most) ey in omega (arith, a, b, least, most)
+    go true false ex ey z = absurd (omega (arith, z))
+    go false y ex ey z = absurd (omega (arith, z))
 
 -- ---- a refusal leaves every byte
 
@@ -95,6 +107,13 @@ module _ {l : Layout} {R : Type 0} {Lent : R → Type 0} {valuesOf : R → List 
       go : (o : Out (List ℕ)) → writeMessage l (valuesOf r) ≡ o → 0 ≡ codeOf (into s o) → t ≡ leaves (into s o) s → Wrote r s t
       go (accepted m) e z x = fits m e (leb (length m) (length s)) refl z x
       go (refused c p) e z x = absurd (never-written r p k (e ∙ ap (λ c. refused c p) (sym z)))
+
+  -- a message of n bytes stands in the first n
+  pub written-front : (s : List ℕ) (r : R) (t : List ℕ) (n : ℕ) → Lent r → Writes l s 0 t (valuesOf r) → ((m : List ℕ) → writeMessage l (valuesOf r) ≡ accepted m → length m ≡ n)
+      → readRecord l recordOf (take n t) ≡ accepted r
+  written-front s r t n k w long =
+      let y = written-read s r t k w in
+      ap (λ m. readRecord l recordOf m) (ap (take n) (y .front) ∙ take-at (y .message) (drop (length (y .message)) s) n (long (y .message) (y .made-so))) ∙ y .reads
 
   -- s is a message that reading accepts as r
   module _ (s : List ℕ) (r : R) (fine : Bytes s) (good : readRecord l recordOf s ≡ accepted r) where
