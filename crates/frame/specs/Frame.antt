@@ -1,11 +1,11 @@
 -- What the serial frames share (paper 01, "Serial frames"). Assumes nothing.
-use Prim.Native.Nat.{ℕ, _+_, _^_}
-use mathlib.Core.Bool.{true, cond, _&&_}
-use mathlib.Core.List.{List}
+use Prim.Native.Nat.{ℕ, _+_, _/_, _^_}
+use mathlib.Core.Bool.{Bool, true, cond, _&&_}
+use mathlib.Core.List.{List, _++_}
 use lib.Dec.{ltb, eqb}
 use lib.ListN.{length}
-use Rattle.bits.specs.Bits.{fieldAt}
-use Rattle.layout.specs.Fmt.{Fmt, field}
+use Rattle.bits.specs.Bits.{fieldAt, digits, bytesOf}
+use Rattle.layout.specs.Fmt.{Fmt, field, pad}
 use Rattle.layout.specs.Message.{Layout, led, between}
 use Rattle.layout.specs.Words.{_‥_, _▹_, only, kept, num, code}
 
@@ -35,3 +35,17 @@ frames letters least most fmt = record { lead = leads letters least most; kind =
 -- the length of a frame that has `fixed` bytes besides n of content; 0, which is no frame's, where 16 bits cannot tell it
 unfoldable pub declared : ℕ → ℕ → ℕ
 declared fixed n = cond (ltb (fixed + n) (2 ^ 16)) (fixed + n) 0
+
+-- ---- content
+
+-- the bytes of l bits
+abbrev pub bytesFor : ℕ → ℕ
+bytesFor l = (l + 7) / 8
+
+-- a bit length whose content makes the frame's length
+abbrev pub fits : ℕ → ℕ → ℕ → Bool
+fits fixed length l = eqb length (fixed + bytesFor l)
+
+-- the whole bytes of content with l bits, the number v, and the fill x
+unfoldable pub contentOf : ℕ → ℕ → ℕ → List ℕ
+contentOf l v x = bytesOf (bytesFor l) (digits l v ++ digits (pad l) x)

@@ -1,9 +1,10 @@
 // What the serial frames share (paper 01, "Serial frames"; 004): `$`, four letters, length, own address, and the seal.
 ghost use mathlib.Core.Path.{_≡_};
-ghost use mathlib.Core.Bool.{true};
+ghost use mathlib.Core.Bool.{true, cond};
 ghost use Prim.Native.Nat.{_+_, _<_, _^_};
-ghost use Rattle.frame.specs.Frame.{leads, declared as Frame·declared};
+ghost use Rattle.frame.specs.Frame.{leads, declared as Frame·declared, fits};
 ghost use Rattle.frame.specs.Steps.{headed, headJudged, headPut};
+ghost use Rattle.layout.specs.Fmt.{pad};
 ghost use Rattle.layout.specs.Message.{firstOf, sealFault};
 
 pub const DOLLAR: u64 = 0x24;
@@ -94,4 +95,18 @@ pub fn put(buf: &mut [u8], letters: u64, length: u64, address: u64)
     bits::put(buf, 8, 32, letters);
     bits::put(buf, 40, 16, length);
     bits::put(buf, 56, 24, address);
+}
+
+// What is wrong with a bit length whose content does not make the frame's length, `fixed` bytes counted besides.
+pub fn sized(fixed: u8, length: u64, size: u64) -> u8
+    ensures { λ r. ⌜ r ≡ cond (fits fixed length size) 0 1 ⌝ }
+{
+    if length == fixed as u64 + size / 8 + (size % 8 + 7) / 8 { 0 } else { layout::SIZE }
+}
+
+// The fill bits behind content of `size` bits.
+pub fn spare(size: u16) -> usize
+    ensures { λ r. ⌜ r ≡ pad size ⌝ }
+{
+    (8 - size as usize % 8) % 8
 }

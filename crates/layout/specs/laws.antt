@@ -5,6 +5,7 @@ pub mod Whole
 pub mod Zero
 pub mod Held
 pub mod First
+pub mod Places
 pub mod Spots
 pub mod Step
 pub mod Reading

@@ -29,11 +29,12 @@ module _ (letters lo hi : ℕ) (f : Fmt) where
     pub long : 80 ≤ length b
 
   pub head-values : (b : List Bool) (vs : List ℕ) → read (frame letters lo hi f) [] 0 b ≡ accepted vs → Headed b vs
+  unfolding read
   head-values b vs e =
-      let o1 = opened 8 _ kept _ [] 0 b vs e in
-      let o2 = opened 32 _ kept _ _ 8 (drop 8 b) (o1 .rest) (o1 .after) in
-      let o3 = opened 16 _ kept _ _ 40 (drop 32 (drop 8 b)) (o2 .rest) (o2 .after) in
-      let o4 = opened 24 _ free f _ 56 (drop 16 (drop 32 (drop 8 b))) (o3 .rest) (o3 .after) in
+      let o1 = opened 8 _ [] 0 b _ vs e in
+      let o2 = opened 32 _ _ 8 (drop 8 b) _ (o1 .rest) (o1 .after) in
+      let o3 = opened 16 _ _ 40 (drop 32 (drop 8 b)) _ (o2 .rest) (o2 .after) in
+      let o4 = opened 24 _ _ 56 (drop 16 (drop 32 (drop 8 b))) _ (o3 .rest) (o3 .after) in
       let all = o1 .front ∙ ap (valueOf (take 8 b) ∷_) (o2 .front ∙ ap (valueOf (take 32 (drop 8 b)) ∷_) (o3 .front ∙ ap (valueOf (take 16 (drop 32 (drop 8 b))) ∷_) (o4 .front))) in
       let g = subst (Held (frame letters lo hi f) []) all (held (frame letters lo hi f) [] 0 vs b (read-write (frame letters lo hi f) [] 0 vs b e)) in
       let dollar = exactly 8 1 0x24 [] (valueOf (take 8 b)) (g .0) (g .1) in

@@ -9,7 +9,7 @@ use lib.ListN.{length, take, drop}
 use borrow.Author.Tests.{leb-true}
 use Rattle.bits.specs.Bits.{valueOf, bitsOf, fieldAt}
 use Rattle.bits.specs.laws.Bytes.{length-bits}
-use Rattle.layout.specs.Fmt.{accepted, Judge, Fmt, field, orBad, readField, read}
+use Rattle.layout.specs.Fmt.{Out, accepted, Judge, Fmt, field, orBad, readField, read}
 use Rattle.layout.specs.Message.{Layout, led, between}
 use Rattle.layout.specs.Words.{_‥_, only}
 use Rattle.layout.specs.laws.Flat.{Plain, span-laid}
@@ -17,25 +17,25 @@ use Rattle.layout.specs.laws.Held.{Held, held, exactly}
 use Rattle.layout.specs.laws.Round.{checked, passed, also-inv, read-write}
 
 -- A field in front is there, and what is behind it is read.
-pub record Opened (w : ℕ) (f : Fmt) (h : List ℕ) (at : ℕ) (b : List Bool) (vs : List ℕ) : Type 0 where
+pub record Opened (w : ℕ) (b : List Bool) (next : ℕ → List Bool → Out (List ℕ)) (vs : List ℕ) : Type 0 where
   pub rest : List ℕ
   pub front : vs ≡ valueOf (take w b) ∷ rest
   pub there : w ≤ length b
-  pub after : read f (valueOf (take w b) ∷ h) (at + w) (drop w b) ≡ accepted rest
+  pub after : next (valueOf (take w b)) (drop w b) ≡ accepted rest
 
-pub opened : (w : ℕ) (j : Judge) (m : List ℕ → Bool) (f : Fmt) (h : List ℕ) (at : ℕ) (b : List Bool) (vs : List ℕ) → read (field w j m f) h at b ≡ accepted vs → Opened w f h at b vs
-unfolding read readField
-opened w j m f h at b vs e =
+pub opened : (w : ℕ) (j : Judge) (h : List ℕ) (at : ℕ) (b : List Bool) (next : ℕ → List Bool → Out (List ℕ)) (vs : List ℕ) → readField w j h at b next ≡ accepted vs → Opened w b next vs
+unfolding readField
+opened w j h at b next vs e =
     let (x, y) = checked (j h (take w b)) at _ e in
     let (t, z) = checked (orBad (leb w (length b)) 1) at _ y in
-    let (rest, after, front) = also-inv (valueOf (take w b) ∷_) (read f (valueOf (take w b) ∷ h) (at + w) (drop w b)) z in
+    let (rest, after, front) = also-inv (valueOf (take w b) ∷_) (next (valueOf (take w b)) (drop w b)) z in
     record { rest = rest; front = sym front; there = leb→le w (length b) (passed (leb w (length b)) 1 t); after = after }
 
 -- a code in front is there
 pub opens : (w c n : ℕ) (m : List ℕ → Bool) (f : Fmt) (s vs : List ℕ) → read (field w (only w (suc c) (n ‥ n)) m f) [] 0 (bitsOf s) ≡ accepted vs → fieldAt s 0 w ≡ n
-unfolding fieldAt
+unfolding read fieldAt
 opens w c n m f s vs e =
-    let o = opened w (only w (suc c) (n ‥ n)) m f [] 0 (bitsOf s) vs e in
+    let o = opened w (only w (suc c) (n ‥ n)) [] 0 (bitsOf s) _ vs e in
     let g = field w (only w (suc c) (n ‥ n)) m f in
     let h = subst (Held g []) (o .front) (held g [] 0 vs (bitsOf s) (read-write g [] 0 vs (bitsOf s) e)) in
     exactly w c n [] (valueOf (take w (bitsOf s))) (h .0) (h .1)
