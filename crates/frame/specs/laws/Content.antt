@@ -1,13 +1,13 @@
 -- Content of a bit length and its fill, as whole bytes: two values spell them, and they spell the two values. Assumes nothing.
 use mathlib.Core.Path.{_≡_, refl, sym, ap, ap₂, _∙_}
 use mathlib.Core.Bool.{Bool, true, false, cond}
-use mathlib.Core.List.{List, [], _++_}
-use Prim.Native.Nat.{ℕ, _+_, _-_, _*_, _/_, _%_, _≤_, _<_, _^_}
+use mathlib.Core.List.{List, _++_}
+use Prim.Native.Nat.{ℕ, _+_, _-_, _*_, _≤_, _<_, _^_}
 use native.Mathlib.Omega.{arith}
-use lib.Dec.{leb, lit≤}
+use lib.Dec.{leb, ltb}
 use lib.ListN.{length, take, drop, length-append, length-drop, drop-of-length-le}
-use lib.Seq.{length-take-le, take-all, take-at, drop-at, take-add, take-nil, drop-drop}
-use borrow.Author.Tests.{le-leb, leb-true, leb-false, lt-leb}
+use lib.Seq.{length-take-le, take-all, take-at, drop-at, take-add, take-nil, take-take, drop-drop}
+use borrow.Author.Tests.{le-leb, leb-true, leb-false, lt-leb, lt-ltb, ltb-true}
 use Rattle.bits.specs.Answers.{got}
 use Rattle.bits.specs.Bits.{Bytes, valueOf, digits, bitsOf, bytesOf, fieldAt}
 use Rattle.bits.specs.laws.Answers.{got-fits}
@@ -15,7 +15,7 @@ use Rattle.bits.specs.laws.Bytes.{length-bits, length-bytes, bits-bytes, bits-s
 use Rattle.bits.specs.laws.Digits.{length-digits, value-nil, value-digits, digits-value}
 use Rattle.bits.specs.laws.Fields.{bits-take, bits-drop}
 use Rattle.layout.specs.Fmt.{pad}
-use Rattle.frame.specs.Frame.{bytesFor, contentOf}
+use Rattle.frame.specs.Frame.{declared, bytesFor, contentOf}
 
 -- the fill makes whole bytes
 pub padded : (l : ℕ) → l + pad l ≡ bytesFor l * 8
@@ -91,3 +91,44 @@ content-shown s i l v x fine small is fill room =
     let long : length (digits l v ++ digits (pad l) x) ≡ bytesFor l * 8 = ap length whole ∙ length-take-le (bytesFor l * 8) b (omega (arith, n)) in
     bits-same (bytesOf (bytesFor l) (digits l v ++ digits (pad l) x)) (take (bytesFor l) (drop i s)) (bytes-below (bytesFor l) _) (bytes-take (bytesFor l) (drop i s) (bytes-drop i s fine)) (length-bytes (bytesFor l) _ ∙ sym m)
     (bits-bytes (bytesFor l) (digits l v ++ digits (pad l) x) long ∙ whole ∙ ap (take (bytesFor l * 8)) (sym (bits-drop i s small)) ∙ sym (bits-take (bytesFor l) (drop i s) (omega (arith, length-drop i s))))
+
+-- a frame's length, where the bit length fits it: of the content that is there, and the other way
+pub fits-content : (fixed n l : ℕ) → 0 < fixed → declared fixed n ≡ fixed + bytesFor l → n ≡ bytesFor l
+unfolding declared
+fits-content fixed n l some e = go (ltb (fixed + n) (2 ^ 16)) e
+  where
+    go : (t : Bool) → cond t (fixed + n) 0 ≡ fixed + bytesFor l → n ≡ bytesFor l
+    go true e = omega (arith, e)
+    go false e = absurd (omega (arith, e))
+
+pub declared-fits : (fixed n l v : ℕ) → n ≡ bytesFor l → v ≡ fixed + bytesFor l → v < 2 ^ 16 → declared fixed n ≡ v
+unfolding declared
+declared-fits fixed n l v m e small =
+    let k : fixed + n ≡ v = ap (fixed +_) m ∙ sym e in
+    rw (k, lt-ltb v (2 ^ 16) small) refl
+
+drop-take : (i k : ℕ) (s : List ℕ) → i ≤ length s → drop i (take (i + k) s) ≡ take k (drop i s)
+drop-take i k s h = ap (drop i) (take-add i k s) ∙ drop-at (take i s) (take k (drop i s)) i (length-take-le i s h)
+
+-- content from byte i of a frame s on, `tail` bytes before its end: the values are its body's, and it is a part of the frame
+pub content-part : (s : List ℕ) (i tail l v x : ℕ) → Bytes s → 0 < tail → length s ≡ i + bytesFor l + tail → let b = bitsOf (take (length s - 1) s) in v ≡ valueOf (take l (drop (i * 8) b))
+    → x ≡ valueOf (take (pad l) (drop (i * 8 + l) b)) → contentOf l v x ≡ take (length s - tail - i) (drop i s)
+content-part s i tail l v x fine some long is fill =
+    let m = length s - 1 in
+    let n : length (take m s) ≡ m = length-take-le m s (omega arith) in
+    let k : i + (m - i) ≡ m = omega (arith, long) in
+    let size : length s - tail - i ≡ bytesFor l = omega (arith, long) in
+    content-shown (take m s) i l v x (bytes-take m s fine) (omega (arith, n, long)) is fill (omega (arith, n, long))
+    ∙ ap (λ y. take (bytesFor l) (drop i (take y s))) (sym k)
+    ∙ ap (take (bytesFor l)) (drop-take i (m - i) s (omega (arith, long)))
+    ∙ take-take (bytesFor l) (m - i) (drop i s) (omega (arith, long))
+    ∙ ap (λ y. take y (drop i s)) (sym size)
+
+-- 16 bits tell it
+pub declared-small : (fixed n : ℕ) → declared fixed n ≤ 65_535
+unfolding declared
+declared-small fixed n = go (ltb (fixed + n) (2 ^ 16)) refl
+  where
+    go : (t : Bool) → ltb (fixed + n) (2 ^ 16) ≡ t → cond t (fixed + n) 0 ≤ 65_535
+    go true e = let l = ltb-true (fixed + n) (2 ^ 16) e in omega arith
+    go false e = omega arith

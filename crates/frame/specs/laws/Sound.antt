@@ -12,7 +12,6 @@ use Rattle.bits.specs.laws.Bytes.{length-bits}
 use Rattle.bits.specs.laws.Fields.{field-front}
 use Rattle.layout.specs.Fmt.{accepted, Fmt, read}
 use Rattle.layout.specs.Message.{Sound}
-use Rattle.layout.specs.Words.{kept, free}
 use Rattle.layout.specs.laws.First.{opened}
 use Rattle.layout.specs.laws.Held.{Held, held, exactly}
 use Rattle.layout.specs.laws.Round.{read-write}

@@ -29,11 +29,11 @@ admitted-clean c w v = go (eqb c 0) refl
     go false e z = z
 
 -- an answer by its code, where 0 is no refusal's number
-accepted-by : {A : Type 0} (o : Out A) {c : ℕ} → c ≡ codeOf o → ((p : ℕ) → o ≡ refused 0 p → ⊥) → c ≡ 0 → (a : A) × (o ≡ accepted a)
+pub accepted-by : {A : Type 0} (o : Out A) {c : ℕ} → c ≡ codeOf o → ((p : ℕ) → o ≡ refused 0 p → ⊥) → c ≡ 0 → (a : A) × (o ≡ accepted a)
 accepted-by (accepted a) e n z = (a, refl)
 accepted-by (refused d p) e n z = absurd (n p (ap (λ d. refused d p) (sym e ∙ z)))
 
-refused-by : {A : Type 0} (o : Out A) {c : ℕ} → c ≡ codeOf o → (c ≡ 0 → ⊥) → (p : ℕ) × (o ≡ refused c p)
+pub refused-by : {A : Type 0} (o : Out A) {c : ℕ} → c ≡ codeOf o → (c ≡ 0 → ⊥) → (p : ℕ) × (o ≡ refused c p)
 refused-by (accepted a) e n = absurd (n e)
 refused-by (refused d p) e n = (p, ap (λ d. refused d p) (sym e))
 

@@ -1,18 +1,19 @@
 -- What accepted values have, field by field. Assumes nothing.
-use mathlib.Core.Path.{_≡_, refl, sym, _∙_}
+use mathlib.Core.Path.{_≡_, refl, sym, ap, _∙_}
 use mathlib.Core.Bool.{Bool, true, false, cond, _&&_}
 use mathlib.Core.List.{List, [], _∷_}
-use Prim.Native.Nat.{ℕ, suc, _+_, _<_, _^_}
+use Prim.Native.Nat.{ℕ, zero, suc, _+_, _<_, _^_}
 use native.Mathlib.Omega.{arith}
 use lib.Dec.{leb}
 use borrow.Author.Tests.{lt-ltb}
 use Rattle.bits.specs.Bits.{digits}
-use Rattle.layout.specs.Fmt.{accepted, good, Fmt, end, field, choice, bytes, write}
+use Rattle.bits.specs.laws.Digits.{length-digits, value-digits}
+use Rattle.layout.specs.Fmt.{accepted, Fault, good, Fmt, end, field, choice, bytes, write}
 use Rattle.layout.specs.Words.{_‥_, only}
 use Rattle.layout.specs.laws.Judging.{wrong-narrow}
 use Rattle.layout.specs.laws.Reading.{only-one}
 use Rattle.layout.specs.laws.Round.{clash, written, sized-inv}
-use Rattle.layout.specs.laws.Step.{blamed}
+use Rattle.layout.specs.laws.Step.{blamed, Tells}
 
 -- as many values as fields, each narrow enough and judged good
 abbrev pub Held : Fmt → List ℕ → List ℕ → Type 0
@@ -44,3 +45,11 @@ exactly w c n h v l e =
     go : (x : Bool) → blamed (cond x 0 (suc c)) 0 ≡ good → cond x 0 (suc c) ≡ 0
     go true e = refl
     go false e = let z : _≡_ {A = ℕ} 0 1 = cc in absurd (omega arith)
+
+-- a value that a judge found good has no fault by its number
+pub told-good : (w v : ℕ) (j : List Bool → Fault) {faultOf : ℕ → ℕ} → Tells w j faultOf → v < 2 ^ w → j (digits w v) ≡ good → faultOf v ≡ 0
+told-good w v j {faultOf} x l e = go (faultOf v) (ap (λ u. blamed (faultOf u) 0) (sym (value-digits w l)) ∙ sym (x .whole (digits w v) (length-digits w v)) ∙ e)
+  where
+    go : (c : ℕ) → blamed c 0 ≡ good → c ≡ 0
+    go zero e = refl
+    go (suc c) e = let z : _≡_ {A = ℕ} 0 1 = cc in absurd (omega arith)

@@ -1,0 +1,129 @@
+-- The frame TXSQ is a family of layout/specs/laws/Family, whose theorems are demands 2 and 3; said here of the frame's own promises. Assumes nothing.
+use mathlib.Core.Path.{_≡_, refl, sym, ap, _∙_, subst}
+use mathlib.Core.Bool.{Bool, true, false, cond}
+use mathlib.Core.List.{List, [], _∷_}
+use Prim.Native.Nat.{ℕ, _+_, _*_, _≤_, _<_, _^_}
+use native.Mathlib.Omega.{arith}
+use lib.Dec.{eqb, lit<}
+use lib.ListN.{length, getD}
+use borrow.Author.Tests.{eqb-true}
+use Rattle.bits.specs.Bits.{Bytes, digits}
+use Rattle.frame.specs.Frame.{address, bytesFor, contentOf}
+use Rattle.frame.specs.laws.Content.{fits-content, declared-fits, content-again, content-first, content-fill, content-long, content-bytes}
+use Rattle.frame.specs.laws.Head.{head-numbered}
+use Rattle.frame.specs.laws.Sound.{frame-sound}
+use Rattle.layout.specs.Fmt.{accepted, good as Fmt·good, Fmt, end, choice, pad, read}
+use Rattle.layout.specs.Words.{_‥_, _▹_, num, code, twice, content, ago}
+use Rattle.layout.specs.laws.Entries.{entries, held-entries}
+use Rattle.layout.specs.laws.Extent.{extent, extent-laid}
+use Rattle.layout.specs.laws.Family.{Family}
+use Rattle.layout.specs.laws.Held.{Held, held, exactly, told-good}
+use Rattle.layout.specs.laws.Round.{read-write}
+use Rattle.layout.specs.laws.Step.{twice-tells}
+use Rattle.layout.specs.laws.Zero.{Judged, only-numbered, twice-numbered}
+use Rattle.txsq.specs.Changed.{changed}
+use Rattle.txsq.specs.Txsq.{letters, allowed, limits, filling, txsq, txsqs, valuesOf, recordOf}
+use Rattle.txsq.specs.laws.Correction.{spotted, changed-values}
+use Rattle.txsq.specs.declared.Txsq.{Txsq}
+
+-- what follows the head, and what follows the bit length l
+abbrev pub rest : ℕ → Fmt
+rest l = num 8 (λ h. (0 ‥ allowed (ago 2 h) 255) h) ▹ content l ▹ end
+
+abbrev pub body : Fmt
+body = code 4 0b0100 ▹ num 2 (0 ‥ 1) ▹ num 1 (0 ‥ 1) ▹ num 1 (λ h. (0 ‥ allowed (ago 1 h) 1) h) ▹ address ▹ choice 16 (twice 16 4 limits 1 filling) rest
+
+numbers : Judged txsq
+unfolding txsq
+numbers =
+    let after : (l : ℕ) → Judged (rest l) = λ l. (only-numbered 8 3 _, (only-numbered l 3 _, (only-numbered (pad l) 4 _, tt))) in
+    let all : Judged body = (only-numbered 4 1 _, (only-numbered 2 3 _, (only-numbered 1 3 _, (only-numbered 1 3 _, (only-numbered 24 3 _, (twice-numbered 16 3 0 _ _, after)))))) in
+    head-numbered letters 0 65_535 body all
+
+pub allowed-below : (with most n : ℕ) → 0 < n → most < n → allowed with most < n
+allowed-below with most n some l = go (eqb with 0)
+  where
+    go : (t : Bool) → cond t 0 most < n
+    go true = some
+    go false = l
+
+-- a good bit length makes the frame's length
+sized : (h : List ℕ) (l : ℕ) → l < 2 ^ 16 → twice 16 4 limits 1 filling h (digits 16 l) ≡ Fmt·good → ago 6 h ≡ 18 + bytesFor l
+sized h l n e = go (limits h l) (filling h l) refl (told-good 16 l (twice 16 4 limits 1 filling h) (twice-tells 16 3 0 limits filling h) n e)
+  where
+    go : (x y : Bool) → filling h l ≡ y → _≡_ {A = ℕ} (cond x (cond y 0 1) 4) 0 → ago 6 h ≡ 18 + bytesFor l
+    go true true e z = eqb-true (ago 6 h) (18 + bytesFor l) e
+    go true false e z = absurd (omega (arith, z))
+    go false y e z = absurd (omega (arith, z))
+
+-- accepted values, entry by entry
+pub listed : (vs : List ℕ) → Held txsq [] vs → entries 0 13 vs ≡ vs
+unfolding txsq
+listed vs h = held-entries txsq 13 vs (λ l. tt) h
+
+-- the length is that of the bit length
+pub fit : (vs : List ℕ) → Held txsq [] vs → getD vs 2 0 ≡ 18 + bytesFor (getD vs 9 0)
+unfolding txsq entries
+fit vs h =
+    let bits = subst (Held txsq []) (sym (listed vs h)) h .2 .2 .2 .2 .2 .2 .2 .2 .2 in
+    sized _ (getD vs 9 0) (bits .0) (bits .1)
+
+-- accepted values are those of their record and content
+same-values : (vs : List ℕ) → Held txsq [] vs → valuesOf (recordOf vs) ≡ vs
+unfolding txsq valuesOf recordOf entries
+same-values vs h =
+    let e = listed vs h in
+    let g = subst (Held txsq []) (sym e) h in
+    let dollar = exactly 8 1 0x24 _ (getD vs 0 0) (g .0) (g .1) in
+    let named = exactly 32 1 letters _ (getD vs 1 0) (g .2 .0) (g .2 .1) in
+    let class = g .2 .2 .2 .2 in
+    let key = exactly 4 1 0b0100 _ (getD vs 4 0) (class .0) (class .1) in
+    let bits = class .2 .2 .2 .2 .2 in
+    let l = getD vs 9 0 in
+    let carried = bits .2 .2 in
+    let long = declared-fits 18 (length (contentOf l (getD vs 11 0) (getD vs 12 0))) l (getD vs 2 0) (content-long l (getD vs 11 0) (getD vs 12 0)) (fit vs h) (g .2 .2 .0) in
+    let first = content-first l (getD vs 11 0) (getD vs 12 0) (carried .0) (carried .2 .0) in
+    let fill = content-fill l (getD vs 11 0) (getD vs 12 0) (carried .0) (carried .2 .0) in
+    (λ x. sym dollar x
+    ∷ sym named x
+    ∷ long x
+    ∷ getD vs 3 0
+    ∷ sym key x
+    ∷ getD vs 5 0
+    ∷ getD vs 6 0
+    ∷ getD vs 7 0
+    ∷ getD vs 8 0
+    ∷ l
+    ∷ getD vs 10 0
+    ∷ first x
+    ∷ fill x
+    ∷ [])
+    ∙ e
+
+-- what its fields accept has the bytes that its length says, but the seal
+pub long : (b : List Bool) (vs : List ℕ) → read txsq [] 0 b ≡ accepted vs → (getD vs 2 0 * 8 ≡ length b + 8) × (12 ≤ getD vs 2 0)
+unfolding txsq entries
+long b vs e =
+    let w = read-write txsq [] 0 vs b e in
+    let h = held txsq [] 0 vs b w in
+    let n = extent-laid txsq [] 0 vs b w ∙ ap (extent txsq 0) (sym (listed vs h)) in
+    (omega (arith, n, fit vs h), omega (arith, fit vs h))
+
+-- the content that a record is lent with has the size of its bit length
+pub content-size : (r : Txsq × List ℕ) → Held txsq [] (valuesOf r) → length (r .1) ≡ bytesFor (r .0 .size)
+unfolding txsq valuesOf
+content-size r h =
+    let bits = h .2 .2 .2 .2 .2 .2 .2 .2 .2 in
+    fits-content 18 (length (r .1)) (r .0 .size) (lit< tt) (sized _ (r .0 .size) (bits .0) (bits .1))
+
+pub family : Family txsqs (Txsq × List ℕ) (λ r. Bytes (r .1)) valuesOf recordOf changed
+unfolding txsqs txsq valuesOf recordOf changed
+family = record {
+  sound = frame-sound letters 0 65_535 _ 18 228 (lit< tt) long;
+  judged = numbers;
+  counted = λ r k. tt;
+  same-record = λ r k h. ap (λ c. (r .0, c)) (content-again (r .1) (r .0 .size) k (content-size r h));
+  same-values = same-values;
+  can-lend = λ vs h. content-bytes (getD vs 9 0) (getD vs 11 0) (getD vs 12 0);
+  changes = λ r i v p w k e n. (changed-values r i v p w (sym (spotted r i) ∙ e), k);
+}
