@@ -101,7 +101,11 @@ pub fn put(buf: &mut [u8], letters: u64, length: u64, address: u64)
 pub fn sized(fixed: u8, length: u64, size: u64) -> u8
     ensures { λ r. ⌜ r ≡ cond (fits fixed length size) 0 1 ⌝ }
 {
-    if length == fixed as u64 + size / 8 + (size % 8 + 7) / 8 { 0 } else { layout::SIZE }
+    if length == fixed as u64 + size / 8 + (size % 8 + 7) / 8 {
+        0
+    } else {
+        layout::SIZE
+    }
 }
 
 // The fill bits behind content of `size` bits.

@@ -1,8 +1,6 @@
 -- What each step of judging a record answers, from its values. Assumes nothing.
 use Prim.Native.Nat.{ℕ, _+_, _-_, _/_, _%_, _^_}
-use mathlib.Core.Path.{_≡_}
 use mathlib.Core.Bool.{Bool, true, false, cond, _&&_, _||_}
-use mathlib.Core.List.{List}
 use lib.Dec.{leb, ltb, eqb}
 use Rattle.layout.specs.Message.{between}
 use Rattle.layout.specs.Walk.{onward}

@@ -161,7 +161,13 @@ fn fields(s: &[u8], code: u8) -> Answer
     let password = w.v as u8;
     let w = w.num(s, 24, 0, frame::ADDRESS);
     let receiver = w.v as u32;
-    let fault = limit(category, mode, password, bits::get(s, 40, 16), bits::get(s, 112, 16));
+    let fault = limit(
+        category,
+        mode,
+        password,
+        bits::get(s, 40, 16),
+        bits::get(s, 112, 16),
+    );
     let w = w.given(s, 16, fault);
     let size = w.v as u16;
     let w = w.num(s, 8, 0, allowed(password, 255));

@@ -35,7 +35,12 @@ pub(crate) fn judged(r: Txsq, content: &[u8]) -> layout::walk::Walk
 pub(crate) fn put(buf: &mut [u8], r: Txsq, content: &[u8])
     ensures { λ _. ⌜ Puts txsq (valuesOf (r, now (content .entry))) (now (buf .entry)) (now (buf .exit)) ⌝ }
 {
-    frame::put(buf, LETTERS, frame::declared(18, content.len()), r.address as u64);
+    frame::put(
+        buf,
+        LETTERS,
+        frame::declared(18, content.len()),
+        r.address as u64,
+    );
     bits::put(buf, 80, 4, CLASS);
     bits::put(buf, 84, 2, r.category as u64);
     bits::put(buf, 86, 1, r.mode as u64);

@@ -1,28 +1,35 @@
 -- The frame TXSQ is a family of layout/specs/laws/Family, whose theorems are demands 2 and 3; said here of the frame's own promises. Assumes nothing.
 use mathlib.Core.Path.{_≡_, refl, sym, ap, _∙_, subst}
 use mathlib.Core.Bool.{Bool, true, false, cond}
-use mathlib.Core.List.{List, [], _∷_}
-use Prim.Native.Nat.{ℕ, _+_, _*_, _≤_, _<_, _^_}
+use mathlib.Core.List.{List, [], _∷_, _++_}
+use Prim.Native.Nat.{ℕ, _+_, _*_, _≤_, _<_, _^_, _-_}
 use native.Mathlib.Omega.{arith}
 use lib.Dec.{eqb, lit<}
-use lib.ListN.{length, getD}
+use lib.ListN.{length, getD, take, drop}
 use borrow.Author.Tests.{eqb-true}
-use Rattle.bits.specs.Bits.{Bytes, digits}
+use Rattle.bits.specs.Bits.{Bytes, digits, bitsOf}
 use Rattle.frame.specs.Frame.{address, bytesFor, contentOf}
 use Rattle.frame.specs.laws.Content.{fits-content, declared-fits, content-again, content-first, content-fill, content-long, content-bytes}
 use Rattle.frame.specs.laws.Head.{head-numbered}
 use Rattle.frame.specs.laws.Sound.{frame-sound}
-use Rattle.layout.specs.Fmt.{accepted, good as Fmt·good, Fmt, end, choice, pad, read}
+use Rattle.layout.specs.Fmt.{accepted, good as Fmt·good, Fmt, end, choice, pad, read, Out, refused, found}
 use Rattle.layout.specs.Words.{_‥_, _▹_, num, code, twice, content, ago}
 use Rattle.layout.specs.laws.Entries.{entries, held-entries}
 use Rattle.layout.specs.laws.Extent.{extent, extent-laid}
-use Rattle.layout.specs.laws.Family.{Family}
+use Rattle.layout.specs.laws.Family.{Family, written-front, read-written, corrected-as-written}
 use Rattle.layout.specs.laws.Held.{Held, held, exactly, told-good}
 use Rattle.layout.specs.laws.Round.{read-write}
 use Rattle.layout.specs.laws.Step.{twice-tells}
 use Rattle.layout.specs.laws.Zero.{Judged, only-numbered, twice-numbered}
-use Rattle.txsq.specs.Changed.{changed}
-use Rattle.txsq.specs.Txsq.{letters, allowed, limits, filling, txsq, txsqs, valuesOf, recordOf}
+use Rattle.layout.specs.Promises.{answered, readRecord, Writes, Corrects}
+use Rattle.layout.specs.Message.{writeMessage}
+use Rattle.layout.specs.laws.Whole.{was, write-read-message}
+use Rattle.bits.specs.laws.Bytes.{length-bits}
+use lib.Seq.{length-take-le}
+use Rattle.txsq.specs.declared.Answer.the-variants.{Good}
+use Rattle.txsq.specs.Promises.{Reads, Shows}
+use Rattle.txsq.specs.Changed.{changed, spotOf}
+use Rattle.txsq.specs.Txsq.{letters, allowed, limits, filling, txsq, txsqs, valuesOf, recordOf, answerOf}
 use Rattle.txsq.specs.laws.Correction.{spotted, changed-values}
 use Rattle.txsq.specs.declared.Txsq.{Txsq}
 
@@ -127,3 +134,41 @@ family = record {
   can-lend = λ vs h. content-bytes (getD vs 9 0) (getD vs 11 0) (getD vs 12 0);
   changes = λ r i v p w k e n. (changed-values r i v p w (sym (spotted r i) ∙ e), k);
 }
+
+-- ---- said of the frame's promises
+
+-- an answer that is good, with the content that is shown, is an accepted reading
+pub good : (s : List ℕ) (r : Txsq) (c : List ℕ) → Reads s (Good r) → Shows s c → readRecord txsqs recordOf s ≡ accepted (r, c)
+good s r c a b = go (readRecord txsqs recordOf s) a b
+  where
+    go : (o : Out (Txsq × List ℕ)) → Good r ≡ answerOf o → c ≡ answered (λ r. r .1) (λ n. []) o → o ≡ accepted (r, c)
+    go (accepted q) e d = let k : q .0 ≡ r = cc in λ i. accepted (k i, sym d i)
+    go (refused n p) e d = let z : _≡_ {A = ℕ} 0 1 = cc in absurd (omega arith)
+
+-- a frame that is written has 18 bytes besides its content
+written-long : (r : Txsq × List ℕ) (m : List ℕ) → writeMessage txsqs (valuesOf r) ≡ accepted m → length m ≡ 18 + length (r .1)
+unfolding txsqs valuesOf
+written-long r m e =
+    let vs = valuesOf r in
+    let b = bitsOf (take (length m - 1) m) in
+    let walked : read txsq [] 0 b ≡ accepted vs = was txsqs m vs (write-read-message txsqs (family .sound) m vs e) .walked in
+    let h = held txsq [] 0 vs b (read-write txsq [] 0 vs b walked) in
+    let n : length b ≡ (length m - 1) * 8 = length-bits (take (length m - 1) m) ∙ ap (_* 8) (length-take-le (length m - 1) m (omega arith)) in
+    omega (arith, long b vs walked .0, fit vs h, content-size r h, n)
+
+-- What is written is read back as the same record, and the same content is shown.
+pub written-reads : (s : List ℕ) (r : Txsq) (c t : List ℕ) → Bytes c → Writes txsqs s 0 t (valuesOf (r, c)) → let m = take (18 + length c) t in Reads m (Good r) × Shows m c
+written-reads s r c t fine w =
+    let e = written-front family s (r, c) t (18 + length c) fine w (written-long (r, c)) in
+    (sym (ap answerOf e), sym (ap (answered (λ r. r .1) (λ n. [])) e))
+
+-- What is read and shown is written back as the same bytes.
+pub read-writes-back : (s : List ℕ) (r : Txsq) (c : List ℕ) → Bytes s → Reads s (Good r) → Shows s c → (u : List ℕ) (code : ℕ) (t : List ℕ) → length s ≤ length u → Writes txsqs u code t (valuesOf (r, c))
+    → (code ≡ 0) × (t ≡ s ++ drop (length s) u)
+read-writes-back s r c fine a b = read-written family s (r, c) fine (good s r c a b)
+
+-- Demand 3: correcting a frame, where the field can spell the value, is writing the frame with that field changed and the content that it shows; else nothing differs.
+pub corrected : (s : List ℕ) (r : Txsq) (c : List ℕ) → Bytes s → Reads s (Good r) → Shows s c → (i v p w : ℕ) → spotOf i ≡ found p w → v < 2 ^ w → (code : ℕ) (t : List ℕ) → Corrects txsqs s i v code t
+    → (u : List ℕ) → length s ≤ length u → (code′ : ℕ) (t′ : List ℕ) → Writes txsqs u code′ t′ (valuesOf (changed i v (r, c)))
+    → (code ≡ code′) × (code ≡ 0 → t ≡ take (length s) t′) × ((code ≡ 0 → ⊥) → t ≡ s)
+corrected s r c fine a b i v p w e n = corrected-as-written family s (r, c) fine (good s r c a b) i v p w (spotted (r, c) i ∙ e) n

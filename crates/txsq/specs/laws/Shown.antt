@@ -50,6 +50,8 @@ module _ (s : List ℕ) {a : Answer} {n : ℕ} (reads : Reads s a) (number : n �
       let filled = value-at 12 txsq (entries 0 13 vs) b entered (pad l) (only (pad l) 5 (0 ‥ 0)) kept end refl in
       let n : length b ≡ (length s - 1) * 8 = length-bits (take (length s - 1) s) ∙ ap (_* 8) (length-take-le (length s - 1) s (omega arith)) in
       let (whole, _) = long b vs walked in
-      let size : length s ≡ 17 + bytesFor l + 1 = omega (arith, whole, n, fit vs h) in
-      (omega (arith, size), sym (ap (λ o. answered (λ r. r .1) (λ n. []) (also recordOf o)) e
-      ∙ content-part s 17 1 l (getD vs 11 0) (getD vs 12 0) fine (lit< tt) size is filled))
+      let size : length s ≡ 17 + bytesFor l + 1 = omega (arith, whole, n, fit vs h) in (
+        omega (arith, size),
+        sym (ap (λ o. answered (λ r. r .1) (λ n. []) (also recordOf o)) e
+            ∙ content-part s 17 1 l (getD vs 11 0) (getD vs 12 0) fine (lit< tt) size is filled),
+      )
