@@ -1,19 +1,7 @@
+-- `correct` is the correction in place of every family, with the frame's fields read before and behind the change and the table of places of its count.
 use borrow.Author.Needs.{needs}
 use Rattle.txhz.proofs.correct.Statement.{statement}
 use Rattle.txhz.proofs.correct.Tie as tie
-use Rattle.txhz.proofs.correct.Reads as reads
-use Rattle.txhz.proofs.correct.Lts as lts
-use Rattle.layout.proofs.correcting.admits.Reads as admits-reads
-use Rattle.layout.proofs.correcting.look_up.Reads as look-up-reads
-use Rattle.layout.proofs.correcting.settle.Reads as settle-reads
-use Rattle.layout.proofs.correcting.swap.Reads as swap-reads
-use Rattle.layout.proofs.sealing.inner.Reads as inner-reads
-use Rattle.layout.proofs.sealing.seal.Reads as seal-reads
-use Rattle.txhz.proofs.Answer.count.Reads as count-reads
-use Rattle.txhz.proofs.Answer.refusal.Reads as refusal-reads
-use Rattle.txhz.proofs.fields.Reads as fields-reads
-use Rattle.txhz.proofs.read.Reads as read-reads
-use Rattle.txhz.proofs.table.Reads as table-reads
 
 read-requires : tie.Need-read-requires
 read-requires c κs = search needs

@@ -1,11 +1,14 @@
+-- `read` is the fields behind the first tests.
+use mathlib.Core.Path.{sym, ap, _∙_}
+use mathlib.Core.List.{[]}
+use Rattle.bits.specs.Bits.{bitsOf}
+use Rattle.layout.specs.Fmt.{also, check, read}
+use Rattle.layout.specs.Message.{fault}
+use Rattle.layout.specs.laws.Walked.{read-first}
+use Rattle.txhz.specs.Txhz.{txhz, txhzs, recordOf, answerOf}
 use borrow.Author.Needs.{needs}
 use Rattle.txhz.proofs.read.Statement.{statement}
 use Rattle.txhz.proofs.read.Tie as tie
-use Rattle.txhz.proofs.read.Reads as reads
-use Rattle.txhz.proofs.read.Lts as lts
-use Rattle.frame.proofs.first.Reads as first-reads
-use Rattle.layout.proofs.sealing.inner.Reads as inner-reads
-use Rattle.txhz.proofs.fields.Reads as fields-reads
 
 first-requires : tie.Need-first-requires
 first-requires c κs = search needs
@@ -17,7 +20,12 @@ fields-requires : tie.Need-fields-requires
 fields-requires c κs = search needs
 
 returns : tie.Need-returns
-returns c = ?
+unfolding txhzs
+returns c =
+    let s = c .before .before .before .before .args .s .now in
+    c .fields .ensures
+    ∙ ap (λ b. answerOf (also recordOf (check (fault (c .before .before .first .result)) 0 (read txhz [] 0 (bitsOf b))))) (c .before .inner .ensures)
+    ∙ ap (λ o. answerOf (also recordOf o)) (sym (read-first txhzs s (c .before .before .first .ensures)))
 
 pub read-spec : {M : Type 1} → statement M
 read-spec = tie.close (tie.spec first-requires inner-requires fields-requires returns)

@@ -1,13 +1,10 @@
+-- `write` answers as the walk over the values, the size made and the room decide.
+use mathlib.Core.Path.{refl}
+use Rattle.layout.specs.laws.Making.{write-refused, write-stamped}
+use Rattle.txhz.specs.Txhz.{txhzs, valuesOf}
 use borrow.Author.Needs.{needs}
 use Rattle.txhz.proofs.write.Statement.{statement}
 use Rattle.txhz.proofs.write.Tie as tie
-use Rattle.txhz.proofs.write.Reads as reads
-use Rattle.txhz.proofs.write.Lts as lts
-use Rattle.layout.proofs.sealing.stamp.Reads as stamp-reads
-use Rattle.layout.proofs.walk.Walk.bytes.Reads as bytes-reads
-use Rattle.layout.proofs.walk.Walk.closes.Reads as closes-reads
-use Rattle.txhz.proofs.judged.Reads as judged-reads
-use Rattle.txhz.proofs.put.Reads as put-reads
 
 judged-requires : tie.Need-judged-requires
 judged-requires c κs = search needs
@@ -19,7 +16,12 @@ closes-requires : tie.Need-closes-requires
 closes-requires c κs = search needs
 
 returns : tie.Need-returns
-returns c = ?
+unfolding txhzs
+returns c =
+    let closes = c .before in
+    let j = closes .before .before in
+    let a = j .before .before .args in
+    write-refused txhzs (valuesOf (a .r)) (a .buf .now) (j .judged .ensures) (closes .closes .ensures) (c .if1 .taken)
 
 put-requires : tie.Need-put-requires
 put-requires c κs = search needs
@@ -31,7 +33,16 @@ same-length : tie.Need-same-length
 same-length c = search needs
 
 returns-2 : tie.Need-returns-2
-returns-2 c = ?
+unfolding txhzs
+returns-2 c =
+    let stamp = c .before .before in
+    let p = stamp .before .before .before .before in
+    let test = p .before .before in
+    let closes = test .before in
+    let n = closes .before in
+    let j = n .before in
+    let a = j .before .before .args in
+    write-stamped txhzs (valuesOf (a .r)) (a .buf .now) (j .judged .ensures) refl (closes .closes .ensures) (test .if1 .left) (p .put .ensures) (p .put .kept .0) (n .bytes .ensures) (stamp .stamp .ensures)
 
 pub write-spec : {M : Type 1} → statement M
 write-spec =

@@ -19,7 +19,7 @@ use Rattle.layout.specs.laws.Held.{Held, held, exactly}
 use Rattle.layout.specs.laws.Round.{read-write}
 use Rattle.layout.specs.laws.Zero.{Judged, only-numbered}
 use Rattle.txhz.specs.Changed.{spotOf, changed}
-use Rattle.txhz.specs.Txhz.{letters, body, txhz, txhzs, times, receiptOf, valuesOf, recordOf, answerOf}
+use Rattle.txhz.specs.Txhz.{letters, receipt, body, txhz, txhzs, times, receiptOf, valuesOf, recordOf, answerOf}
 use Rattle.txhz.specs.Promises.{Reads}
 use Rattle.txhz.specs.laws.Correction.{spotted, changed-values}
 use Rattle.txhz.specs.laws.Receipts.{receipt-numbered}
@@ -50,8 +50,12 @@ long b vs e =
 numbers : Judged txhz
 unfolding txhz
 numbers =
-    let receipts = receipt-numbered 0 _ (receipt-numbered 1 _ (receipt-numbered 2 _ (receipt-numbered 3 _ (receipt-numbered 4 end tt)))) in
-    let all : Judged body = (only-numbered 24 3 _, (only-numbered 8 3 _, receipts)) in
+    let r4 = receipt-numbered 4 end tt in
+    let r3 = receipt-numbered 3 (receipt 4 end) r4 in
+    let r2 = receipt-numbered 2 (receipt 3 (receipt 4 end)) r3 in
+    let r1 = receipt-numbered 1 (receipt 2 (receipt 3 (receipt 4 end))) r2 in
+    let r0 = receipt-numbered 0 (receipt 1 (receipt 2 (receipt 3 (receipt 4 end)))) r1 in
+    let all : Judged body = (only-numbered 24 3 _, (only-numbered 8 3 _, r0)) in
     head-numbered letters 35 35 body all
 
 pub family : Family txhzs Txhz (λ r. Unit) valuesOf recordOf changed
