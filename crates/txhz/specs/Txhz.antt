@@ -30,6 +30,7 @@ slot k back most = field 8 (λ h b. cond (counted k back h) (only 8 4 (0 ‥ mos
 abbrev pub receipt : ℕ → Fmt → Fmt
 receipt k f = slot k (4 * k) 23 ▹ slot k (4 * k + 1) 59 ▹ slot k (4 * k + 2) 23 ▹ slot k (4 * k + 3) 59 ▹ f
 
+-- what follows the head
 abbrev pub body : Fmt
 body =
     address  -- receiver

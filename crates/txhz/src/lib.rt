@@ -99,8 +99,32 @@ const MOST: u64 = 5;
 
 // Where the fields stand in every frame.
 const PLACES: [usize; 26] = [
-    0, 8, 40, 56, 80, 104, 112, 120, 128, 136, 144, 152, 160, 168, 176, 184, 192, 200, 208, 216,
-    224, 232, 240, 248, 256, 264,
+    0,
+    8,
+    40,
+    56,
+    80,
+    104,
+    112,
+    120,
+    128,
+    136,
+    144,
+    152,
+    160,
+    168,
+    176,
+    184,
+    192,
+    200,
+    208,
+    216,
+    224,
+    232,
+    240,
+    248,
+    256,
+    264,
 ];
 
 pub fn read(s: &[u8]) -> Answer
@@ -155,7 +179,32 @@ fn table(count: u8) -> [usize; 26]
     let d = width(3, count);
     let e = width(4, count);
     [
-        0, 0, 0, 24, 24, 8, a, a, a, a, b, b, b, b, c, c, c, c, d, d, d, d, e, e, e, e,
+        0,
+        0,
+        0,
+        24,
+        24,
+        8,
+        a,
+        a,
+        a,
+        a,
+        b,
+        b,
+        b,
+        b,
+        c,
+        c,
+        c,
+        c,
+        d,
+        d,
+        d,
+        d,
+        e,
+        e,
+        e,
+        e,
     ]
 }
 
@@ -191,7 +240,16 @@ fn fields(s: &[u8], code: u8) -> Answer
     let w = passed.walk.end(s);
     Answer::told(
         w.code,
-        Txhz { address, receiver, count, first, second, third, fourth, fifth },
+        Txhz {
+            address,
+            receiver,
+            count,
+            first,
+            second,
+            third,
+            fourth,
+            fifth,
+        },
     )
 }
 
@@ -213,7 +271,12 @@ fn read_receipt(w: layout::walk::Walk, s: &[u8], held: bool) -> Passed
     let receipt_hour = w.v as u8;
     let w = read_slot(w, s, held, frame::MINUTE);
     let receipt_minute = w.v as u8;
-    let receipt = Receipt { sent_hour, sent_minute, receipt_hour, receipt_minute };
+    let receipt = Receipt {
+        sent_hour,
+        sent_minute,
+        receipt_hour,
+        receipt_minute,
+    };
     Passed { walk: w, receipt }
 }
 

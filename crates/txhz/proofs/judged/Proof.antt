@@ -1,12 +1,12 @@
 -- `judged` walks the values in bit order: each step is a law of judging, each receipt one law.
 use mathlib.Core.Path.{refl}
 use mathlib.Core.List.{[], _∷_}
-use Prim.Native.Nat.{_<_, _^_}
+use Prim.Native.Nat.{_<_}
 use lib.Dec.{lit<, lit≤}
 use Rattle.frame.specs.laws.Head.{head-judged}
 use Rattle.layout.specs.laws.Judging.{judge-num, judge-end}
 use Rattle.txhz.specs.Txhz.{letters, txhz, times, valuesOf}
-use Rattle.txhz.specs.laws.Receipts.{Bytes8, receipt-judged}
+use Rattle.txhz.specs.laws.Receipts.{receipt-judged}
 use borrow.Author.Needs.{needs}
 use Rattle.txhz.proofs.judged.Statement.{statement}
 use Rattle.txhz.proofs.judged.Tie as tie

@@ -2,15 +2,18 @@
 use mathlib.Core.Path.{_≡_, refl, sym, ap, _∙_}
 use mathlib.Core.Bool.{Bool, true, false, cond}
 use mathlib.Core.List.{List, [], _∷_}
-use Prim.Native.Nat.{ℕ, _+_}
+use Prim.Native.Nat.{ℕ, _+_, _≤_}
 use lib.Dec.{eqb, ltb}
 use lib.ListN.{getD, set}
 use Rattle.layout.specs.Correcting.{standing}
-use Rattle.layout.specs.Fmt.{Spot, none, found, later, where?, spot}
-use Rattle.layout.specs.laws.Spots.{spotsAlong, spot-along, rows, where-row, eachAt, set-each, kept-entry}
+use Rattle.layout.specs.Fmt.{accepted, Spot, none, found, spot}
+use Rattle.layout.specs.Promises.{readRecord}
+use Rattle.layout.specs.laws.Spots.{spotsAlong, spot-along, rows, slim, where-row, table-stands, table-slim, eachAt, set-each, kept-entry}
 use Rattle.txhz.specs.Changed.{spotOf, changedReceipt, changed}
-use Rattle.txhz.specs.Steps.{tableOf}
-use Rattle.txhz.specs.Txhz.{letters, times, txhz, txhzs, valuesOf}
+use Rattle.txhz.specs.Promises.{Reads}
+use Rattle.txhz.specs.Steps.{wide, tableOf}
+use Rattle.txhz.specs.Txhz.{letters, times, txhz, txhzs, valuesOf, recordOf, answerOf, countOf}
+use Rattle.txhz.specs.declared.Answer.{Answer}
 use Rattle.txhz.specs.declared.Receipt.{Receipt}
 use Rattle.txhz.specs.declared.Txhz.{Txhz}
 
@@ -29,6 +32,33 @@ each f n =
 pub along : (r : Txhz) → spotsAlong (txhzs .fmt) [] (valuesOf r) 0 ≡ rows places (tableOf (r .count))
 unfolding txhzs txhz valuesOf spotsAlong rows tableOf
 along r i = each (λ held at. where-row held at 7 i) (r .count)
+
+-- no field that may be corrected is wider than 32 bits
+slim-table : (n : ℕ) → slim (tableOf n) ≡ true
+unfolding slim tableOf
+slim-table n =
+    let l4 = wide 4 n [] in
+    let l3 = wide 3 n l4 in
+    let l2 = wide 2 n l3 in
+    receipt 0 (wide 1 n l2) (receipt 1 l2 (receipt 2 l3 (receipt 3 l4 (receipt 4 [] refl))))
+  where
+    receipt : (k : ℕ) (l : List ℕ) → slim l ≡ true → slim (wide k n l) ≡ true
+    receipt k l e = go (ltb k n)
+      where
+        go : (held : Bool) → slim (let w : ℕ = cond held 8 0 in w ∷ w ∷ w ∷ w ∷ l) ≡ true
+        go true = e
+        go false = e
+
+-- The field i looked up in the table t of as many receipts as the answer of reading s counts.
+module _ (s : List ℕ) (i : ℕ) {was : Answer} {n p w : ℕ} {t : List ℕ} (read-so : Reads s was) (counts : n ≡ countOf was) (table : t ≡ tableOf n) (looked-up : (p ≡ getD places i 0) × (w ≡ getD t i 0)) where
+  pub looked-stands : (r : Txhz) → readRecord txhzs recordOf s ≡ accepted r → spot (txhzs .fmt) [] (valuesOf r) i ≡ standing p w
+  unfolding tableOf
+  looked-stands r e =
+      let same : t ≡ tableOf (r .count) = table ∙ ap tableOf (counts ∙ ap countOf read-so ∙ ap (λ o. countOf (answerOf o)) e) in
+      table-stands places (tableOf (r .count)) i (looked-up .0, looked-up .1 ∙ ap (λ t. getD t i 0) same) (txhzs .fmt) (valuesOf r) refl (along r)
+
+  pub looked-slim : w ≤ 32
+  looked-slim = table-slim places (tableOf n) i {p = p} (looked-up .0, looked-up .1 ∙ ap (λ t. getD t i 0) table) (slim-table n)
 
 pub spotted : (r : Txhz) (i : ℕ) → spot (txhzs .fmt) [] (valuesOf r) i ≡ spotOf r i
 unfolding rows tableOf

@@ -11,7 +11,6 @@ use Rattle.frame.specs.laws.Head.{head-numbered}
 use Rattle.frame.specs.laws.Sound.{frame-sound}
 use Rattle.layout.specs.Fmt.{Out, accepted, refused, end, read, found}
 use Rattle.layout.specs.Promises.{readRecord, Writes, Corrects}
-use Rattle.layout.specs.Words.{_‥_, num}
 use Rattle.layout.specs.laws.Entries.{entries, held-entries}
 use Rattle.layout.specs.laws.Extent.{extent-laid}
 use Rattle.layout.specs.laws.Family.{Family, one-size, written-front, read-written, corrected-as-written}

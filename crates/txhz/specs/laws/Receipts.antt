@@ -1,9 +1,8 @@
 -- One receipt of the frame TXHZ, read, judged and put: where the code stands behind it, whichever receipt it is. Assumes nothing.
-use mathlib.Core.Path.{_≡_, refl, sym, ap, _∙_, subst, subst⁻¹}
+use mathlib.Core.Path.{_≡_, refl, ap, _∙_, subst⁻¹}
 use mathlib.Core.Bool.{Bool, true, false, cond, _&&_}
-use mathlib.Core.List.{List, [], _∷_}
+use mathlib.Core.List.{List, _∷_}
 use Prim.Native.Nat.{ℕ, suc, _+_, _*_, _<_, _^_}
-use native.Mathlib.Nat.{add-assoc}
 use native.Mathlib.Omega.{arith}
 use lib.Dec.{leb, lit<, lit≤}
 use lib.ListN.{length}
@@ -70,8 +69,8 @@ receipt-read {o} {all} {i} {s} {f} {h} {at} {vs} {r} k held reach is e d =
 -- ---- judged
 
 -- each value of a receipt has at most 8 bits
-abbrev pub Bytes8 : Receipt → Type 0
-Bytes8 t = (t .«sent_hour» < 2 ^ 8) × (t .«sent_minute» < 2 ^ 8) × (t .«receipt_hour» < 2 ^ 8) × (t .«receipt_minute» < 2 ^ 8)
+abbrev pub Narrow : Receipt → Type 0
+Narrow t = (t .«sent_hour» < 2 ^ 8) × (t .«sent_minute» < 2 ^ 8) × (t .«receipt_hour» < 2 ^ 8) × (t .«receipt_minute» < 2 ^ 8)
 
 slot-judged : {o : Out (List Bool)} {f : Fmt} {h : List ℕ} {at v : ℕ} {vs : List ℕ} {r g : Walk} (k back most : ℕ) (held : Bool) → at + 8 < 2 ^ 64 → v < 2 ^ 8 → held ≡ counted k back h
     → Judging o (slot k back most f) h at (v ∷ vs) r → g ≡ slotJudged held v most r → Judging o f (v ∷ h) (at + 8) vs g
@@ -83,7 +82,7 @@ slot-judged {h = h} {v = v} {r = r} k back most held reach small is e d =
     same true = refl
     same false = refl
 
-pub receipt-judged : {o : Out (List Bool)} {f : Fmt} {h : List ℕ} {at : ℕ} {vs : List ℕ} {r g : Walk} (k : ℕ) (held : Bool) (t : Receipt) → Bytes8 t → at + 32 < 2 ^ 64 → held ≡ counted k (4 * k) h
+pub receipt-judged : {o : Out (List Bool)} {f : Fmt} {h : List ℕ} {at : ℕ} {vs : List ℕ} {r g : Walk} (k : ℕ) (held : Bool) (t : Receipt) → Narrow t → at + 32 < 2 ^ 64 → held ≡ counted k (4 * k) h
     → Judging o (receipt k f) h at (times t vs) r → g ≡ receiptJudged held t r
     → Judging o f (t .«receipt_minute» ∷ t .«receipt_hour» ∷ t .«sent_minute» ∷ t .«sent_hour» ∷ h) (at + 8 + 8 + 8 + 8) vs g
 receipt-judged {h = h} k held t (a, b, c, z) reach is e d =
