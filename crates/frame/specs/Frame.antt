@@ -14,11 +14,17 @@ abbrev pub address : Fmt → Fmt
 address = num 24 (0 ‥ 2_097_151)
 
 -- a time of day
+abbrev pub lastHour : ℕ
+lastHour = 23
+
+abbrev pub lastMinute : ℕ
+lastMinute = 59
+
 abbrev pub hour : Fmt → Fmt
-hour = num 8 (0 ‥ 23)
+hour = num 8 (0 ‥ lastHour)
 
 abbrev pub minute : Fmt → Fmt
-minute = num 8 (0 ‥ 59)
+minute = num 8 (0 ‥ lastMinute)
 
 -- `$`, four letters, the length of the whole frame (lo to hi; that it is the frame's is a first test), the own address, the body; the seal is the layout's
 abbrev pub frame : ℕ → ℕ → ℕ → Fmt → Fmt

@@ -15,11 +15,14 @@ use Rattle.gljc.specs.declared.Answer.the-variants.{Good, Refused}
 abbrev pub letters : ℕ
 letters = 0x474C_4A43
 
-unfoldable pub gljc : Fmt
-gljc =
-    frame letters 12 12
-    ▹ num 8 (0 ‥ 255)  -- minutes
+-- what follows the head
+abbrev pub body : Fmt
+body =
+    num 8 (0 ‥ 255)  -- minutes
     ▹ end
+
+unfoldable pub gljc : Fmt
+gljc = frame letters 12 12 ▹ body
 
 unfoldable pub gljcs : Layout
 gljcs = frames letters 12 12 gljc

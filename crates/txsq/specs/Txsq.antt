@@ -37,17 +37,25 @@ limits h = bits (ago 3 h) (ago 2 h) (ago 1 h)
 abbrev pub filling : Test
 filling h = fits 18 (ago 6 h)
 
-unfoldable pub txsq : Fmt
-txsq =
-    frame letters 0 65_535
-    ▹ code 4 0b0100  -- class: 010, key 0
+-- what follows a bit length of l
+abbrev pub rest : ℕ → Fmt
+rest l =
+    num 8 (λ h. (0 ‥ allowed (ago 2 h) 255) h)  -- answer, 0 where password is 0
+    ▹ content l
+    ▹ end
+
+-- what follows the head
+abbrev pub body : Fmt
+body =
+    code 4 0b0100  -- class: 010, key 0
     ▹ num 2 (0 ‥ 1)  -- category
     ▹ num 1 (0 ‥ 1)  -- mode
     ▹ num 1 (λ h. (0 ‥ allowed (ago 1 h) 1) h)  -- password, which needs category 01
     ▹ address  -- receiver
-    ▹ (choice 16 (twice 16 4 limits 1 filling) λ l.  -- bit length
-    num 8 (λ h. (0 ‥ allowed (ago 2 h) 255) h)  -- answer, 0 where password is 0
-    ▹ content l ▹ end)
+    ▹ choice 16 (twice 16 4 limits 1 filling) rest  -- bit length
+
+unfoldable pub txsq : Fmt
+txsq = frame letters 0 65_535 ▹ body
 
 unfoldable pub txsqs : Layout
 txsqs = frames letters 18 228 txsq

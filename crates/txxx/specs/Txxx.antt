@@ -30,17 +30,24 @@ filling h = fits 20 (ago 5 h)
 abbrev pub bounded : ℕ → ℕ → ℕ
 bounded length l = cond (leb l 1_680) (cond (fits 20 length l) 0 1) 4
 
-unfoldable pub txxx : Fmt
-txxx =
-    frame letters 0 65_535
-    ▹ num 8 (0 ‥ 255)  -- class
+-- what follows a bit length of l
+abbrev pub rest : ℕ → Fmt
+rest l =
+    content l
+    ▹ num 8 (0 ‥ 255)  -- CRC mark
+    ▹ end
+
+-- what follows the head
+abbrev pub body : Fmt
+body =
+    num 8 (0 ‥ 255)  -- class
     ▹ address  -- sender
     ▹ hour
     ▹ minute
-    ▹ (choice 16 (twice 16 4 limits 1 filling) λ l.  -- bit length
-    content l
-    ▹ num 8 (0 ‥ 255)  -- CRC mark
-    ▹ end)
+    ▹ choice 16 (twice 16 4 limits 1 filling) rest  -- bit length
+
+unfoldable pub txxx : Fmt
+txxx = frame letters 0 65_535 ▹ body
 
 unfoldable pub txxxs : Layout
 txxxs = frames letters 20 230 txxx

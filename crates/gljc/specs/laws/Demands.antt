@@ -9,9 +9,8 @@ use lib.ListN.{length, getD, take, drop}
 use Rattle.bits.specs.Bits.{Bytes}
 use Rattle.frame.specs.laws.Head.{head-numbered}
 use Rattle.frame.specs.laws.Sound.{frame-sound}
-use Rattle.layout.specs.Fmt.{Out, accepted, refused, end, read, found}
+use Rattle.layout.specs.Fmt.{Out, accepted, refused, read, found}
 use Rattle.layout.specs.Promises.{readRecord, Writes, Corrects}
-use Rattle.layout.specs.Words.{_‥_, num}
 use Rattle.layout.specs.laws.Entries.{entries, held-entries}
 use Rattle.layout.specs.laws.Extent.{extent-laid}
 use Rattle.layout.specs.laws.Family.{Family, one-size, written-front, read-written, corrected-as-written}
@@ -19,7 +18,7 @@ use Rattle.layout.specs.laws.Held.{Held, held, exactly}
 use Rattle.layout.specs.laws.Round.{read-write}
 use Rattle.layout.specs.laws.Zero.{Judged, only-numbered}
 use Rattle.gljc.specs.Changed.{spotOf, changed}
-use Rattle.gljc.specs.Gljc.{letters, gljc, gljcs, valuesOf, recordOf, answerOf}
+use Rattle.gljc.specs.Gljc.{letters, body, gljc, gljcs, valuesOf, recordOf, answerOf}
 use Rattle.gljc.specs.Promises.{Reads}
 use Rattle.gljc.specs.laws.Correction.{spotted, changed-values}
 use Rattle.gljc.specs.declared.Gljc.{Gljc}
@@ -47,7 +46,7 @@ long b vs e =
 
 numbers : Judged gljc
 unfolding gljc
-numbers = let body : Judged (num 8 (0 ‥ 255) end) = (only-numbered 8 3 _, tt) in head-numbered letters 12 12 (num 8 (0 ‥ 255) end) body
+numbers = let all : Judged body = (only-numbered 8 3 _, tt) in head-numbered letters 12 12 body all
 
 pub family : Family gljcs Gljc (λ r. Unit) valuesOf recordOf changed
 unfolding gljcs gljc valuesOf recordOf

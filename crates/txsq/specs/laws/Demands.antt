@@ -8,12 +8,12 @@ use lib.Dec.{eqb, lit<}
 use lib.ListN.{length, getD, take, drop}
 use borrow.Author.Tests.{eqb-true}
 use Rattle.bits.specs.Bits.{Bytes, digits, bitsOf}
-use Rattle.frame.specs.Frame.{address, bytesFor, contentOf}
+use Rattle.frame.specs.Frame.{bytesFor, contentOf}
 use Rattle.frame.specs.laws.Content.{fits-content, declared-fits, content-again, content-first, content-fill, content-long, content-bytes}
 use Rattle.frame.specs.laws.Head.{head-numbered}
 use Rattle.frame.specs.laws.Sound.{frame-sound}
-use Rattle.layout.specs.Fmt.{accepted, good as Fmt·good, Fmt, end, choice, pad, read, Out, refused, found}
-use Rattle.layout.specs.Words.{_‥_, _▹_, num, code, twice, content, ago}
+use Rattle.layout.specs.Fmt.{accepted, good as Fmt·good, pad, read, Out, refused, found}
+use Rattle.layout.specs.Words.{code, twice, ago}
 use Rattle.layout.specs.laws.Entries.{entries, held-entries}
 use Rattle.layout.specs.laws.Extent.{extent, extent-laid}
 use Rattle.layout.specs.laws.Family.{Family, written-front, read-written, corrected-as-written}
@@ -29,16 +29,9 @@ use lib.Seq.{length-take-le}
 use Rattle.txsq.specs.declared.Answer.the-variants.{Good}
 use Rattle.txsq.specs.Promises.{Reads, Shows}
 use Rattle.txsq.specs.Changed.{changed, spotOf}
-use Rattle.txsq.specs.Txsq.{letters, allowed, limits, filling, txsq, txsqs, valuesOf, recordOf, answerOf}
+use Rattle.txsq.specs.Txsq.{letters, rest, body, allowed, limits, filling, txsq, txsqs, valuesOf, recordOf, answerOf}
 use Rattle.txsq.specs.laws.Correction.{spotted, changed-values}
 use Rattle.txsq.specs.declared.Txsq.{Txsq}
-
--- what follows the head, and what follows the bit length l
-abbrev pub rest : ℕ → Fmt
-rest l = num 8 (λ h. (0 ‥ allowed (ago 2 h) 255) h) ▹ content l ▹ end
-
-abbrev pub body : Fmt
-body = code 4 0b0100 ▹ num 2 (0 ‥ 1) ▹ num 1 (0 ‥ 1) ▹ num 1 (λ h. (0 ‥ allowed (ago 1 h) 1) h) ▹ address ▹ choice 16 (twice 16 4 limits 1 filling) rest
 
 numbers : Judged txsq
 unfolding txsq

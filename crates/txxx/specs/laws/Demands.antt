@@ -8,12 +8,12 @@ use lib.Dec.{leb, lit<}
 use lib.ListN.{length, getD, take, drop}
 use borrow.Author.Tests.{leb-true, eqb-true}
 use Rattle.bits.specs.Bits.{Bytes, digits, bitsOf}
-use Rattle.frame.specs.Frame.{address, hour, minute, bytesFor, contentOf}
+use Rattle.frame.specs.Frame.{bytesFor, contentOf}
 use Rattle.frame.specs.laws.Content.{fits-content, declared-fits, content-again, content-first, content-fill, content-long, content-bytes}
 use Rattle.frame.specs.laws.Head.{head-numbered}
 use Rattle.frame.specs.laws.Sound.{frame-sound}
-use Rattle.layout.specs.Fmt.{accepted, good as Fmt·good, Fmt, end, choice, pad, read, Out, refused, found}
-use Rattle.layout.specs.Words.{_‥_, _▹_, num, code, twice, content, ago}
+use Rattle.layout.specs.Fmt.{accepted, good as Fmt·good, pad, read, Out, refused, found}
+use Rattle.layout.specs.Words.{code, twice, ago}
 use Rattle.layout.specs.laws.Entries.{entries, held-entries}
 use Rattle.layout.specs.laws.Extent.{extent, extent-laid}
 use Rattle.layout.specs.laws.Family.{Family, written-front, read-written, corrected-as-written}
@@ -29,16 +29,9 @@ use lib.Seq.{length-take-le}
 use Rattle.txxx.specs.declared.Answer.the-variants.{Good}
 use Rattle.txxx.specs.Promises.{Reads, Shows}
 use Rattle.txxx.specs.Changed.{changed, spotOf}
-use Rattle.txxx.specs.Txxx.{letters, limits, filling, txxx, txxxs, valuesOf, recordOf, answerOf}
+use Rattle.txxx.specs.Txxx.{letters, rest, body, limits, filling, txxx, txxxs, valuesOf, recordOf, answerOf}
 use Rattle.txxx.specs.laws.Correction.{spotted, changed-values}
 use Rattle.txxx.specs.declared.Txxx.{Txxx}
-
--- what follows the bit length l, and what follows the head
-abbrev pub rest : ℕ → Fmt
-rest l = content l ▹ num 8 (0 ‥ 255) ▹ end
-
-abbrev pub body : Fmt
-body = num 8 (0 ‥ 255) ▹ address ▹ hour ▹ minute ▹ choice 16 (twice 16 4 limits 1 filling) rest
 
 numbers : Judged txxx
 unfolding txxx

@@ -18,8 +18,8 @@ use Rattle.layout.specs.Words.{any, _‥_, ago}
 use Rattle.layout.specs.laws.Extent.{opens-field, opens-choice}
 use Rattle.layout.specs.laws.Judging.{judge-fixed, judge-num, judge-limits, judge-tells, judge-end}
 use Rattle.layout.specs.laws.Step.{only-tells, twice-tells}
-use Rattle.txsq.specs.Txsq.{letters, allowed, bounded, limits, filling, txsq, valuesOf}
-use Rattle.txsq.specs.laws.Demands.{body, allowed-below}
+use Rattle.txsq.specs.Txsq.{letters, body, allowed, bounded, limits, filling, txsq, valuesOf}
+use Rattle.txsq.specs.laws.Demands.{allowed-below}
 use borrow.Author.Needs.{needs}
 use Rattle.txsq.proofs.making.judged.Statement.{statement}
 use Rattle.txsq.proofs.making.judged.Tie as tie

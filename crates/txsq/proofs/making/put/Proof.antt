@@ -10,8 +10,8 @@ use Rattle.frame.specs.laws.Head.{head-put}
 use Rattle.layout.specs.laws.Extent.{opens-field}
 use Rattle.layout.specs.laws.Held.{held}
 use Rattle.layout.specs.laws.Putting.{put-start, put-step, put-choice, begins, begins-then, put-run, put-end}
-use Rattle.txsq.specs.Txsq.{letters, txsq, valuesOf}
-use Rattle.txsq.specs.laws.Demands.{body, content-size}
+use Rattle.txsq.specs.Txsq.{letters, body, txsq, valuesOf}
+use Rattle.txsq.specs.laws.Demands.{content-size}
 use borrow.Author.Needs.{needs}
 use Rattle.txsq.proofs.making.put.Statement.{statement}
 use Rattle.txsq.proofs.making.put.Tie as tie
