@@ -1,4 +1,5 @@
-//! The families that are compared. A new one is a module here, with one each in `relay`, `paper`, `inputs` and `bench`.
+//! The families that are compared. A new one is a module here, with one each in `record`, `relay`, `paper`, `inputs`,
+//! `numbers` and `bench`.
 
 pub mod distress;
 

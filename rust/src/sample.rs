@@ -1,7 +1,7 @@
 //! The sample day log, samples/day.log. `cargo run --release --offline --bin sample` writes it and its listing.
 
 use crate::inputs::daylog::record;
-use crate::numbers::{example_with_longitude, EXAMPLE};
+use crate::numbers::distress::{example_with_longitude, EXAMPLE};
 use crate::paper::distress;
 use crate::record::Report;
 
