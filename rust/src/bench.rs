@@ -1,6 +1,7 @@
 //! What the benchmark measures: for each call one row, which both programs work through on the same messages.
 
 pub mod distress;
+pub mod serial;
 
 use crate::inputs::Random;
 use crate::record::Refusal;
@@ -12,7 +13,7 @@ pub const MESSAGES: usize = 20_000;
 /// Memory that the calls write to, the same for every message.
 pub struct Scratch {
     pub bytes: [u8; 256],
-    pub row: [i64; 16],
+    pub row: [i64; 32],
     pub size: usize,
 }
 
@@ -69,7 +70,7 @@ pub fn row<T: Clone + 'static>(
 
 /// A round is compiled for its call, so that nothing but the call stands between two messages.
 fn round<T: 'static>(mut messages: Vec<T>, call: impl Fn(&mut T, &mut Scratch) -> u8 + 'static) -> Box<dyn FnMut()> {
-    let mut scratch = Scratch { bytes: [0; 256], row: [0; 16], size: 0 };
+    let mut scratch = Scratch { bytes: [0; 256], row: [0; 32], size: 0 };
     Box::new(move || {
         for message in &mut messages {
             assert_eq!(call(black_box(message), &mut scratch), 0, "the messages are good");
@@ -80,5 +81,5 @@ fn round<T: 'static>(mut messages: Vec<T>, call: impl Fn(&mut T, &mut Scratch) -
 
 /// The rows of every family.
 pub fn rows() -> Vec<Row> {
-    distress::rows()
+    distress::rows().into_iter().chain(serial::rows()).collect()
 }

@@ -2,6 +2,7 @@
 //! `numbers` and `bench`.
 
 pub mod distress;
+pub mod serial;
 
 use crate::harness::{self, Options, Tally};
 
@@ -15,4 +16,5 @@ pub struct Paper;
 pub fn run(options: &Options, tally: &mut Tally) {
     harness::print_head();
     harness::run::<distress::Distress>(options, tally);
+    serial::run(options, tally);
 }

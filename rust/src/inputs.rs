@@ -3,6 +3,7 @@
 pub mod daylog;
 pub mod distress;
 mod field;
+pub mod serial;
 
 /// SplitMix64: one word of state, every seed good.
 pub struct Random(u64);

@@ -1,9 +1,11 @@
 //! The numbers of 01, "Numbers to stand by", asked of both programs and of the wrapper.
 
 pub mod distress;
+pub mod serial;
 
 use crate::harness::Tally;
 
 pub fn run(tally: &mut Tally) {
+    serial::run(tally);
     distress::run(tally);
 }

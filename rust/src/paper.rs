@@ -3,6 +3,7 @@
 
 pub mod daylog;
 pub mod distress;
+pub mod serial;
 
 use crate::record::Refusal;
 
@@ -16,7 +17,7 @@ fn narrow(value: u64, width: u32) -> Result<u64, Refusal> {
     Ok(value)
 }
 
-/// The checksum of sentences.
+/// The checksum of serial frames and sentences.
 fn xor(bytes: &[u8]) -> u8 {
     bytes.iter().fold(0, |sum, byte| sum ^ byte)
 }

@@ -1,8 +1,10 @@
 //! What every call speaks of: refusal numbers and records.
 
 mod distress;
+mod serial;
 
 pub use distress::Report;
+pub use serial::{Frame, Gljc, Txhz, Txsq, Txxx};
 
 /// A refusal by its number in 01, "Refusal numbers".
 #[derive(Clone, Copy, PartialEq, Eq, Debug)]
