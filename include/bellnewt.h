@@ -126,6 +126,239 @@ uint8_t bellnewt_sentence_write(uint8_t *buf, size_t len, size_t *size, uint32_t
                                 int32_t longitude, int32_t latitude, uint8_t day, uint8_t hour, uint8_t minute,
                                 uint8_t speed, uint16_t course, uint8_t kind);
 
+/*
+ * Serial frames: `$`, four letters, the frame's length in 16 bits, the own address in 24, a body, and in the last byte
+ * the checksum, the XOR of all bytes before it. There are four kinds, each with its calls.
+ *
+ * What stands in the row of a reading, in this order:
+ *
+ * GLJC  address, minutes
+ * TXSQ  address, category, mode, password, receiver, bit length, answer; where the content starts, its bytes
+ * TXXX  address, class, sender, hour, minute, bit length, mark; where the content starts, its bytes
+ * TXHZ  address, receiver, count; five times sent hour, sent minute, receipt hour, receipt minute
+ *
+ * So the content is a part of the caller's own frame: row[BELLNEWT_CONTENT_BYTES] bytes from
+ * frame + row[BELLNEWT_CONTENT_START] on. They are the bit length rounded up to bytes; unused low bits of the last of
+ * them are zero.
+ *
+ * Every reading tests first:
+ *
+ * 1  fewer than 12 bytes
+ * 2  the start is not `$` and the kind's letters
+ * 1  a size that the kind doesn't have, or another than the frame's length says
+ * 3  the checksum is another
+ *
+ * The fields follow in bit order: the first that is bad gives the number.
+ */
+enum bellnewt_serial_size {
+    BELLNEWT_GLJC_BYTES = 12,
+    BELLNEWT_GLJC_ROW = 2,
+    BELLNEWT_TXSQ_BARE = 18, /* without the content */
+    BELLNEWT_TXSQ_GREATEST = 228,
+    BELLNEWT_TXSQ_ROW = 9,
+    BELLNEWT_TXXX_BARE = 20, /* without the content */
+    BELLNEWT_TXXX_GREATEST = 230,
+    BELLNEWT_TXXX_ROW = 9,
+    BELLNEWT_TXHZ_BYTES = 35,
+    BELLNEWT_TXHZ_RECEIPTS = 20, /* the bytes of five receipts */
+    BELLNEWT_TXHZ_ROW = 23
+};
+
+/* The entries that say where the content stands, in a row of TXSQ or TXXX. */
+enum bellnewt_content_entry { BELLNEWT_CONTENT_START = 7, BELLNEWT_CONTENT_BYTES = 8 };
+
+/* The numbers of the fields that can be corrected. */
+enum bellnewt_gljc_field {
+    BELLNEWT_GLJC_ADDRESS = 3, /* 24 bits, 0 to 2,097,151 */
+    BELLNEWT_GLJC_MINUTES = 4  /* 8 bits */
+};
+
+enum bellnewt_txsq_field {
+    BELLNEWT_TXSQ_ADDRESS = 3,  /* 24 bits, 0 to 2,097,151 */
+    BELLNEWT_TXSQ_CATEGORY = 5, /* 2 bits, 0 or 1 */
+    BELLNEWT_TXSQ_MODE = 6,     /* 1 bit, 0 text, 1 code */
+    BELLNEWT_TXSQ_PASSWORD = 7, /* 1 bit; 1 needs category 1 */
+    BELLNEWT_TXSQ_RECEIVER = 8, /* 24 bits, 0 to 2,097,151 */
+    BELLNEWT_TXSQ_ANSWER = 10   /* 8 bits; 0 where password is 0 */
+};
+
+enum bellnewt_txxx_field {
+    BELLNEWT_TXXX_ADDRESS = 3, /* 24 bits, 0 to 2,097,151 */
+    BELLNEWT_TXXX_CLASS = 4,   /* 8 bits */
+    BELLNEWT_TXXX_SENDER = 5,  /* 24 bits, 0 to 2,097,151 */
+    BELLNEWT_TXXX_HOUR = 6,    /* 8 bits, 0 to 23 */
+    BELLNEWT_TXXX_MINUTE = 7,  /* 8 bits, 0 to 59 */
+    BELLNEWT_TXXX_MARK = 11    /* 8 bits */
+};
+
+enum bellnewt_txhz_field {
+    BELLNEWT_TXHZ_ADDRESS = 3,       /* 24 bits, 0 to 2,097,151 */
+    BELLNEWT_TXHZ_RECEIVER = 4,      /* 24 bits, 0 to 2,097,151 */
+    BELLNEWT_TXHZ_COUNT = 5,         /* 8 bits, 0 to 5 */
+    BELLNEWT_TXHZ_FIRST_RECEIPT = 6, /* 8 bits, an hour, 0 to 23; then a minute, 0 to 59; and so on in turn */
+    BELLNEWT_TXHZ_LAST_RECEIPT = 25  /* the last byte of the fifth */
+};
+
+/*
+ * Reads a GLJC frame into the first 2 entries of a row; entries past them stay.
+ *
+ * 1, 2, 1, 3  every reading's first tests
+ * 4  the address is above 2,097,151
+ * 6  the row has fewer than 2 entries
+ *
+ * A refusal leaves the row as it was.
+ */
+uint8_t bellnewt_gljc_read(const uint8_t *frame, size_t len, int64_t *row, size_t row_len);
+
+/*
+ * Writes a GLJC frame into the first 12 bytes of a buffer; bytes past them stay.
+ *
+ * 4  the address is above 2,097,151
+ * 6  the buffer has fewer than 12 bytes
+ *
+ * A refusal leaves the buffer as it was.
+ */
+uint8_t bellnewt_gljc_write(uint8_t *buf, size_t len, uint32_t address, uint8_t minutes);
+
+/*
+ * Corrects one field of a GLJC frame where it stands, and makes the checksum anew. The buffer is the frame alone, so
+ * there is no 6.
+ *
+ * 1, 2, 3, 4  the frame itself is refused, in the order of bellnewt_gljc_read
+ * 10  the number is none of bellnewt_gljc_field
+ * 4   the value is wider than the field, or outside its range
+ *
+ * A refusal leaves the frame as it was; otherwise only that field's bits and the last byte change.
+ */
+uint8_t bellnewt_gljc_correct(uint8_t *frame, size_t len, size_t field, uint64_t value);
+
+/*
+ * Reads a TXSQ frame into the first 9 entries of a row; entries past them stay.
+ *
+ * 1, 2, 1, 3  every reading's first tests
+ * 4  the address is above 2,097,151
+ * 2  the class, the byte after it, does not start with the bits 0100
+ * 4  the category is above 1; password without category 1; the receiver is above 2,097,151
+ * 4  more bits than 83 with password, 188 in category 0, else 1,680; or in text mode no multiple of 8
+ * 1  the content has not the bit length rounded up to bytes
+ * 4  an answer other than 0 without password
+ * 5  an unused low bit of the content's last byte isn't zero
+ * 6  the row has fewer than 9 entries
+ *
+ * A refusal leaves the row as it was.
+ */
+uint8_t bellnewt_txsq_read(const uint8_t *frame, size_t len, int64_t *row, size_t row_len);
+
+/*
+ * Writes a TXSQ frame into the first 18 + content_len bytes of a buffer; bytes past them stay.
+ *
+ * 4  the address is above 2,097,151; category or mode is above 1; password is above 1, or 1 without category 1; the
+ *    receiver is above 2,097,151
+ * 4  bits too many or no multiple of 8, as in bellnewt_txsq_read
+ * 1  the content has not the bit length rounded up to bytes
+ * 4  an answer other than 0 without password
+ * 5  an unused low bit of the content's last byte isn't zero
+ * 6  the buffer has fewer than 18 + content_len bytes
+ *
+ * A refusal leaves the buffer as it was.
+ */
+uint8_t bellnewt_txsq_write(uint8_t *buf, size_t len, const uint8_t *content, size_t content_len, uint32_t address,
+                            uint8_t category, uint8_t mode, uint8_t password, uint32_t receiver, uint16_t bits,
+                            uint8_t answer);
+
+/*
+ * Corrects one field of a TXSQ frame where it stands, and makes the checksum anew. The buffer is the frame alone, so
+ * there is no 6.
+ *
+ * 1, 2, 3, 4, 5  the frame itself is refused, in the order of bellnewt_txsq_read
+ * 10  the number is none of bellnewt_txsq_field
+ * 4   the value is wider than the field or outside its range, or another field is bad with it: password 1 in category
+ *     0, bits too many or no multiple of 8, an answer without password
+ *
+ * A refusal leaves the frame as it was; otherwise only that field's bits and the last byte change.
+ */
+uint8_t bellnewt_txsq_correct(uint8_t *frame, size_t len, size_t field, uint64_t value);
+
+/*
+ * Reads a TXXX frame into the first 9 entries of a row; entries past them stay.
+ *
+ * 1, 2, 1, 3  every reading's first tests
+ * 4  address or sender is above 2,097,151, the hour above 23, the minute above 59, the bit length above 1,680
+ * 1  the content has not the bit length rounded up to bytes
+ * 5  an unused low bit of the content's last byte isn't zero
+ * 6  the row has fewer than 9 entries
+ *
+ * A refusal leaves the row as it was.
+ */
+uint8_t bellnewt_txxx_read(const uint8_t *frame, size_t len, int64_t *row, size_t row_len);
+
+/*
+ * Writes a TXXX frame into the first 20 + content_len bytes of a buffer; bytes past them stay.
+ *
+ * 4  address or sender is above 2,097,151, the hour above 23, the minute above 59, the bit length above 1,680
+ * 1  the content has not the bit length rounded up to bytes
+ * 5  an unused low bit of the content's last byte isn't zero
+ * 6  the buffer has fewer than 20 + content_len bytes
+ *
+ * A refusal leaves the buffer as it was.
+ */
+uint8_t bellnewt_txxx_write(uint8_t *buf, size_t len, const uint8_t *content, size_t content_len, uint32_t address,
+                            uint8_t class_, uint32_t sender, uint8_t hour, uint8_t minute, uint16_t bits,
+                            uint8_t mark);
+
+/*
+ * Corrects one field of a TXXX frame where it stands, and makes the checksum anew. The buffer is the frame alone, so
+ * there is no 6.
+ *
+ * 1, 2, 3, 4, 5  the frame itself is refused, in the order of bellnewt_txxx_read
+ * 10  the number is none of bellnewt_txxx_field
+ * 4   the value is wider than the field, or outside its range
+ *
+ * A refusal leaves the frame as it was; otherwise only that field's bits and the last byte change.
+ */
+uint8_t bellnewt_txxx_correct(uint8_t *frame, size_t len, size_t field, uint64_t value);
+
+/*
+ * Reads a TXHZ frame into the first 23 entries of a row; entries past them stay.
+ *
+ * 1, 2, 1, 3  every reading's first tests
+ * 4  address or receiver is above 2,097,151, the count above 5
+ * 4  a counted receipt has an hour above 23 or a minute above 59
+ * 5  a byte of a receipt past the count isn't zero
+ * 6  the row has fewer than 23 entries
+ *
+ * A refusal leaves the row as it was.
+ */
+uint8_t bellnewt_txhz_read(const uint8_t *frame, size_t len, int64_t *row, size_t row_len);
+
+/*
+ * Writes a TXHZ frame into the first 35 bytes of a buffer; bytes past them stay. The receipts are lent as they stand in
+ * the frame: four bytes each, sent hour, sent minute, receipt hour, receipt minute.
+ *
+ * 1  the receipts' bytes are not 20
+ * 4  address or receiver is above 2,097,151, the count above 5
+ * 4  a counted receipt has an hour above 23 or a minute above 59
+ * 5  a byte of a receipt past the count isn't zero
+ * 6  the buffer has fewer than 35 bytes
+ *
+ * A refusal leaves the buffer as it was.
+ */
+uint8_t bellnewt_txhz_write(uint8_t *buf, size_t len, const uint8_t *receipts, size_t receipts_len, uint32_t address,
+                            uint32_t receiver, uint8_t count);
+
+/*
+ * Corrects one field of a TXHZ frame where it stands, and makes the checksum anew. The buffer is the frame alone, so
+ * there is no 6.
+ *
+ * 1, 2, 3, 4, 5  the frame itself is refused, in the order of bellnewt_txhz_read
+ * 10  the number is none of bellnewt_txhz_field, or that of a receipt past the count
+ * 4   the value is wider than the field, or outside its range
+ * 5   the count no longer covers a receipt that isn't zero
+ *
+ * A refusal leaves the frame as it was; otherwise only that field's bits and the last byte change.
+ */
+uint8_t bellnewt_txhz_correct(uint8_t *frame, size_t len, size_t field, uint64_t value);
+
 #ifdef __cplusplus
 }
 #endif

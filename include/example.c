@@ -1,5 +1,5 @@
 /*
- * Reads the example report of 001, A.2, corrects its day, shows two refusals, and sends it on in a sentence. Build:
+ * Reads, writes and corrects a message of each kind. Build:
  *   cc -Wall -Wextra -Werror -I include include/example.c target/staticlib/librelay.a -o example
  */
 #include <inttypes.h>
@@ -7,29 +7,51 @@
 
 #include "bellnewt.h"
 
-static const char *const names[BELLNEWT_DISTRESS_ROW] = {"MMSI",   "longitude", "latitude", "day", "hour",
-                                                         "minute", "speed",     "course",   "kind"};
-
-static void show(const uint8_t *report)
+/* Shows what a reading answered, and its row if that is good; answers whether it is. */
+static int show(uint8_t code, const char *const *names, const int64_t *row, int entries)
 {
-    int64_t row[BELLNEWT_DISTRESS_ROW];
-    uint8_t code = bellnewt_distress_read(report, BELLNEWT_DISTRESS_BYTES, row, BELLNEWT_DISTRESS_ROW);
     printf("read: %d\n", code);
-    for (int i = 0; code == BELLNEWT_GOOD && i < BELLNEWT_DISTRESS_ROW; i++)
+    for (int i = 0; code == BELLNEWT_GOOD && i < entries; i++)
         printf("  %-9s %" PRId64 "\n", names[i], row[i]);
+    return code == BELLNEWT_GOOD;
 }
 
-int main(void)
+static void show_bytes(const char *name, const uint8_t *bytes, size_t count)
+{
+    printf("  %-9s", name);
+    for (size_t i = 0; i < count; i++)
+        printf(" %02x", bytes[i]);
+    printf("\n");
+}
+
+/* The part of a TXSQ or TXXX frame that its row calls the content. */
+static void show_content(const uint8_t *frame, const int64_t *row)
+{
+    show_bytes("content", frame + row[BELLNEWT_CONTENT_START], (size_t)row[BELLNEWT_CONTENT_BYTES]);
+}
+
+static void show_report(const uint8_t *report)
+{
+    static const char *const names[] = {"MMSI",   "longitude", "latitude", "day", "hour",
+                                        "minute", "speed",     "course",   "kind"};
+    int64_t row[BELLNEWT_DISTRESS_ROW];
+    uint8_t code = bellnewt_distress_read(report, BELLNEWT_DISTRESS_BYTES, row, BELLNEWT_DISTRESS_ROW);
+    show(code, names, row, BELLNEWT_DISTRESS_ROW);
+}
+
+/* The example of 001, A.2: its day corrected, two refusals, and sent on in a sentence. */
+static void distress(void)
 {
     uint8_t report[BELLNEWT_DISTRESS_BYTES] = {0xbd, 0xc1, 0x07, 0x5b, 0xcd, 0x15, 0x38, 0x5c, 0x87,
                                                0x80, 0xd1, 0xba, 0x25, 0x8c, 0x8a, 0x16, 0xc0};
     uint8_t sentence[BELLNEWT_SENTENCE_GREATEST];
     size_t size = 0;
 
-    show(report);
+    printf("distress\n");
+    show_report(report);
     printf("correct the day to 10: %d\n",
            bellnewt_distress_correct(report, sizeof report, BELLNEWT_DISTRESS_DAY, 10));
-    show(report);
+    show_report(report);
     printf("correct the hour to 25: %d\n",
            bellnewt_distress_correct(report, sizeof report, BELLNEWT_DISTRESS_HOUR, 25));
     printf("correct the fill: %d\n", bellnewt_distress_correct(report, sizeof report, 10, 0));
@@ -38,5 +60,101 @@ int main(void)
                                            12, 25, 10, 45, 8);
     printf("write the sentence: %d, %zu bytes\n", code, size);
     fwrite(sentence, 1, size, stdout);
+}
+
+static void gljc(void)
+{
+    static const char *const names[] = {"address", "minutes"};
+    uint8_t frame[BELLNEWT_GLJC_BYTES];
+    int64_t row[BELLNEWT_GLJC_ROW];
+
+    printf("GLJC\n");
+    printf("write: %d\n", bellnewt_gljc_write(frame, sizeof frame, 0, 0));
+    show_bytes("frame", frame, sizeof frame);
+    printf("correct the minutes to 5: %d\n",
+           bellnewt_gljc_correct(frame, sizeof frame, BELLNEWT_GLJC_MINUTES, 5));
+    show(bellnewt_gljc_read(frame, sizeof frame, row, BELLNEWT_GLJC_ROW), names, row, BELLNEWT_GLJC_ROW);
+    frame[11] ^= 1;
+    printf("with another checksum\n");
+    show(bellnewt_gljc_read(frame, sizeof frame, row, BELLNEWT_GLJC_ROW), names, row, BELLNEWT_GLJC_ROW);
+}
+
+/* The example of 004, 4.1. */
+static void txsq(void)
+{
+    static const char *const names[] = {"address", "category", "mode", "password", "receiver", "bits", "answer"};
+    static const uint8_t content[] = {0xa4, 0x31};
+    uint8_t frame[BELLNEWT_TXSQ_BARE + sizeof content];
+    int64_t row[BELLNEWT_TXSQ_ROW];
+
+    printf("TXSQ\n");
+    printf("write: %d\n",
+           bellnewt_txsq_write(frame, sizeof frame, content, sizeof content, 131258, 1, 1, 0, 131258, 16, 0));
+    show_bytes("frame", frame, sizeof frame);
+    printf("correct the receiver to 200001: %d\n",
+           bellnewt_txsq_correct(frame, sizeof frame, BELLNEWT_TXSQ_RECEIVER, 200001));
+    printf("correct the answer to 1, without password: %d\n",
+           bellnewt_txsq_correct(frame, sizeof frame, BELLNEWT_TXSQ_ANSWER, 1));
+    if (show(bellnewt_txsq_read(frame, sizeof frame, row, BELLNEWT_TXSQ_ROW), names, row, BELLNEWT_CONTENT_START))
+        show_content(frame, row);
+}
+
+/* Twelve bits of content: four low bits of its second byte are fill. */
+static void txxx(void)
+{
+    static const char *const names[] = {"address", "class", "sender", "hour", "minute", "bits", "mark"};
+    static const uint8_t content[] = {0x12, 0x30};
+    uint8_t frame[BELLNEWT_TXXX_BARE + sizeof content];
+    int64_t row[BELLNEWT_TXXX_ROW];
+
+    printf("TXXX\n");
+    printf("write 11 bits: %d\n",
+           bellnewt_txxx_write(frame, sizeof frame, content, sizeof content, 131258, 0x60, 200001, 23, 59, 11, 0));
+    printf("write 12 bits: %d\n",
+           bellnewt_txxx_write(frame, sizeof frame, content, sizeof content, 131258, 0x60, 200001, 23, 59, 12, 0));
+    show_bytes("frame", frame, sizeof frame);
+    printf("correct the hour to 0: %d\n",
+           bellnewt_txxx_correct(frame, sizeof frame, BELLNEWT_TXXX_HOUR, 0));
+    if (show(bellnewt_txxx_read(frame, sizeof frame, row, BELLNEWT_TXXX_ROW), names, row, BELLNEWT_CONTENT_START))
+        show_content(frame, row);
+}
+
+/* The counted receipts: when a message was sent, and the time of its receipt. */
+static void show_receipts(const int64_t *row)
+{
+    const int64_t *receipt = row + 3;
+    for (int64_t left = row[2]; left > 0; left--, receipt += 4)
+        printf("  receipt   %02d:%02d, %02d:%02d\n", (int)receipt[0], (int)receipt[1], (int)receipt[2],
+               (int)receipt[3]);
+}
+
+static void txhz(void)
+{
+    static const char *const names[] = {"address", "receiver", "count"};
+    static const uint8_t receipts[BELLNEWT_TXHZ_RECEIPTS] = {14, 5, 14, 7, 23, 59, 0, 1};
+    uint8_t frame[BELLNEWT_TXHZ_BYTES];
+    int64_t row[BELLNEWT_TXHZ_ROW];
+
+    printf("TXHZ\n");
+    printf("write: %d\n",
+           bellnewt_txhz_write(frame, sizeof frame, receipts, sizeof receipts, 131258, 200001, 2));
+    show_bytes("frame", frame, sizeof frame);
+    printf("correct the count to 1: %d\n",
+           bellnewt_txhz_correct(frame, sizeof frame, BELLNEWT_TXHZ_COUNT, 1));
+    printf("correct the first receipt's minute to 6: %d\n",
+           bellnewt_txhz_correct(frame, sizeof frame, BELLNEWT_TXHZ_FIRST_RECEIPT + 3, 6));
+    printf("correct the third receipt: %d\n",
+           bellnewt_txhz_correct(frame, sizeof frame, BELLNEWT_TXHZ_FIRST_RECEIPT + 8, 6));
+    if (show(bellnewt_txhz_read(frame, sizeof frame, row, BELLNEWT_TXHZ_ROW), names, row, 3))
+        show_receipts(row);
+}
+
+int main(void)
+{
+    distress();
+    gljc();
+    txsq();
+    txxx();
+    txhz();
     return 0;
 }

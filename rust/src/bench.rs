@@ -1,7 +1,10 @@
 //! What the benchmark measures: for each call one row, which both programs work through on the same messages.
 
 pub mod distress;
+pub mod serial;
 
+use crate::inputs::Random;
+use crate::record::Refusal;
 use std::hint::black_box;
 
 /// How many distinct messages a row has.
@@ -10,30 +13,64 @@ pub const MESSAGES: usize = 20_000;
 /// Memory that the calls write to, the same for every message.
 pub struct Scratch {
     pub bytes: [u8; 256],
-    pub row: [i64; 16],
+    pub row: [i64; 32],
     pub size: usize,
 }
 
-/// A call, with one round over all its messages by each program.
-pub struct Row {
-    pub name: &'static str,
+/// A message, and a correction that it takes. The second round puts in what stands there already, which costs the same.
+#[derive(Clone)]
+pub struct Correction<T> {
+    pub message: T,
+    pub field: usize,
+    pub value: u64,
+}
+
+impl<T: Clone> Correction<T> {
+    /// The first correction drawn that the independent program accepts.
+    pub fn accepted(
+        message: T,
+        mut draw: impl FnMut() -> (usize, u64),
+        correct: impl Fn(&mut T, usize, u64) -> Result<(), Refusal>,
+    ) -> Correction<T> {
+        loop {
+            let (field, value) = draw();
+            if correct(&mut message.clone(), field, value).is_ok() {
+                return Correction { message, field, value };
+            }
+        }
+    }
+}
+
+/// One round over all messages of a call, by each program.
+pub struct Rounds {
     pub proved: Box<dyn FnMut()>,
     pub paper: Box<dyn FnMut()>,
+}
+
+/// A call, and what makes its messages and rounds.
+pub struct Row {
+    pub name: &'static str,
+    pub rounds: Box<dyn FnOnce() -> Rounds>,
 }
 
 /// A row of the call that `proved` and `paper` make on one message. They answer the call's number.
 pub fn row<T: Clone + 'static>(
     name: &'static str,
-    messages: Vec<T>,
+    message: fn(&mut Random) -> T,
     proved: impl Fn(&mut T, &mut Scratch) -> u8 + 'static,
     paper: impl Fn(&mut T, &mut Scratch) -> u8 + 'static,
 ) -> Row {
-    Row { name, proved: round(messages.clone(), proved), paper: round(messages, paper) }
+    let rounds = move || {
+        let random = &mut Random::new(1, name, 0);
+        let messages: Vec<T> = (0..MESSAGES).map(|_| message(random)).collect();
+        Rounds { proved: round(messages.clone(), proved), paper: round(messages, paper) }
+    };
+    Row { name, rounds: Box::new(rounds) }
 }
 
 /// A round is compiled for its call, so that nothing but the call stands between two messages.
 fn round<T: 'static>(mut messages: Vec<T>, call: impl Fn(&mut T, &mut Scratch) -> u8 + 'static) -> Box<dyn FnMut()> {
-    let mut scratch = Scratch { bytes: [0; 256], row: [0; 16], size: 0 };
+    let mut scratch = Scratch { bytes: [0; 256], row: [0; 32], size: 0 };
     Box::new(move || {
         for message in &mut messages {
             assert_eq!(call(black_box(message), &mut scratch), 0, "the messages are good");
@@ -44,5 +81,5 @@ fn round<T: 'static>(mut messages: Vec<T>, call: impl Fn(&mut T, &mut Scratch) -
 
 /// The rows of every family.
 pub fn rows() -> Vec<Row> {
-    distress::rows()
+    distress::rows().into_iter().chain(serial::rows()).collect()
 }

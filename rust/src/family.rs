@@ -1,6 +1,8 @@
-//! The families that are compared. A new one is a module here, with one each in `relay`, `paper`, `inputs` and `bench`.
+//! The families that are compared. A new one is a module here, with one each in `record`, `relay`, `paper`, `inputs`,
+//! `numbers` and `bench`.
 
 pub mod distress;
+pub mod serial;
 
 use crate::harness::{self, Options, Tally};
 
@@ -14,4 +16,5 @@ pub struct Paper;
 pub fn run(options: &Options, tally: &mut Tally) {
     harness::print_head();
     harness::run::<distress::Distress>(options, tally);
+    serial::run(options, tally);
 }

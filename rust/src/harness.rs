@@ -28,6 +28,21 @@ impl<T> Guarded<T> {
     }
 }
 
+impl Guarded<u8> {
+    pub fn bytes(random: &mut Random, bytes: Vec<u8>) -> Guarded<u8> {
+        Guarded::new(random, bytes, Random::byte)
+    }
+}
+
+impl Guarded<i64> {
+    /// A row of so many entries, which hold any numbers.
+    pub fn row(random: &mut Random, entries: usize) -> Guarded<i64> {
+        let entry = |random: &mut Random| random.word() as i64;
+        let row = (0..entries).map(|_| entry(random)).collect();
+        Guarded::new(random, row, entry)
+    }
+}
+
 /// Options of a run: every input follows from the seed.
 #[derive(Clone, Copy)]
 pub struct Options {

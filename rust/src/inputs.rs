@@ -2,6 +2,8 @@
 
 pub mod daylog;
 pub mod distress;
+mod field;
+pub mod serial;
 
 /// SplitMix64: one word of state, every seed good.
 pub struct Random(u64);
@@ -52,6 +54,8 @@ impl Random {
     }
 }
 
+const LARGEST_ADDRESS: u32 = 2_097_151;
+
 /// The most bytes that a damaged message grows by.
 const LONGEST_TAIL: usize = 40;
 
@@ -88,4 +92,10 @@ pub fn room(random: &mut Random, exact: usize) -> usize {
         2 | 3 => exact + random.below(LONGEST_TAIL),
         _ => exact,
     }
+}
+
+/// A buffer of any bytes with room for about `exact`.
+pub fn spare(random: &mut Random, exact: usize) -> Vec<u8> {
+    let size = room(random, exact);
+    random.bytes(size)
 }

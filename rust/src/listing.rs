@@ -2,7 +2,7 @@
 
 use crate::harness::{Options, Tally};
 use crate::inputs::{daylog, Random};
-use crate::paper::daylog::listing;
+use crate::paper::daylog::{listing, KINDS};
 use crate::sample;
 use std::io::{self, Write};
 use std::process::{ChildStdin, Command, Stdio};
@@ -23,8 +23,9 @@ pub fn run(options: &Options, tally: &mut Tally) {
     compare("a log cut at each place", cuts, tally);
 
     let bounds = [0u16, 1, 2, 3, 4, 5, 16, 255, 256, 257, 258, 259, 260, 299, 300, 301, 0x0400, 0x1500, 0xFFFF];
-    let lengths = bounds.map(|length| [&length.to_le_bytes()[..], &[3, 0], &[0; 296]].concat());
-    compare("lengths at their bounds", lengths.to_vec(), tally);
+    let record = |kind: u16, length: u16| [&length.to_le_bytes()[..], &kind.to_le_bytes(), &[0; 296]].concat();
+    let lengths = KINDS.iter().flat_map(|kind| bounds.map(|length| record(kind.number, length))).collect();
+    compare("lengths at their bounds", lengths, tally);
 
     let mut long = [0, 1, 2].map(|index| daylog::good_log(&mut random("long", index), LONG));
     long[1].pop();

@@ -1,14 +1,14 @@
 //! The sample day log, samples/day.log. `cargo run --release --offline --bin sample` writes it and its listing.
 
-use crate::inputs::daylog::record;
-use crate::numbers::{example_with_longitude, EXAMPLE};
-use crate::paper::distress;
-use crate::record::Report;
+use crate::inputs::daylog::{record, DISTRESS, SERIAL};
+use crate::numbers::distress::{example_with_longitude, EXAMPLE};
+use crate::numbers::serial::{CHECK, CHECK_AS_PRINTED, REQUEST};
+use crate::paper::serial::Kind;
+use crate::paper::{distress, serial};
+use crate::record::{Report, Txhz, Txxx};
 
 pub const LOG: &str = concat!(env!("CARGO_MANIFEST_DIR"), "/../samples/day.log");
 pub const LISTING: &str = concat!(env!("CARGO_MANIFEST_DIR"), "/../samples/day.txt");
-
-const DISTRESS: u16 = 3;
 
 /// Every field that has a "none" is none.
 const NONE: Report = Report {
@@ -36,31 +36,80 @@ const FAR: Report = Report {
     kind: 9,
 };
 
-/// Distress reports of every answer, records of other kinds, and a cut record at the end.
-pub fn day_log() -> Vec<u8> {
-    let [none, far] = [NONE, FAR].map(|report| distress::message(&report).expect("a good report"));
-    let other_code = [&[0xBD, 0xC2], &EXAMPLE[2..]].concat();
-    let past_180_degrees = example_with_longitude([0x52, 0x65, 0xC0, 0x80]);
-    let fill_set = [&EXAMPLE[..16], &[EXAMPLE[16] | 1]].concat();
-    let too_long = [&EXAMPLE[..], &[0]].concat();
-    let serial = [0x24, 0x47, 0x4C, 0x4A, 0x43, 0, 0x0C, 0, 0, 0, 0, 0x2A];
-    let cut = &record(DISTRESS, &EXAMPLE)[..10];
+const MESSAGE: Txxx = Txxx { address: 131_258, class: 0x60, sender: 200_001, hour: 23, minute: 59, bits: 12, mark: 0 };
+const MESSAGE_CONTENT: [u8; 2] = [0x12, 0x30];
 
+const RECEIPT: Txhz = Txhz { address: 131_258, receiver: 200_001, count: 2 };
+const RECEIPTS: [u8; Txhz::RECEIPTS] = [14, 5, 14, 7, 23, 59, 0, 1, 0, 0, 0, 0, 0, 0, 0, 0, 0, 0, 0, 0];
+
+/// The bytes of a good record.
+fn frame<F: Kind>(record: &F, run: &[u8]) -> Vec<u8> {
+    let mut frame = vec![0; F::BARE + run.len()];
+    serial::write(&mut frame, record, run).expect("a good record");
+    frame
+}
+
+/// A frame with another byte at a place, sealed anew.
+fn with_byte(frame: &[u8], at: usize, byte: u8) -> Vec<u8> {
+    let mut frame = frame.to_vec();
+    frame[at] = byte;
+    serial::seal(&mut frame);
+    frame
+}
+
+/// Serial frames of every kind and every answer. The first two are those of 01, "Day log listing".
+fn frames() -> [Vec<u8>; 13] {
+    let (message, receipt) = (frame(&MESSAGE, &MESSAGE_CONTENT), frame(&RECEIPT, &RECEIPTS));
+    let query = with_byte(&REQUEST, 10, 0x66);
+    let password_express = with_byte(&REQUEST, 10, 0x43);
+    let other_letters = with_byte(&CHECK, 1, b'D');
+    let a_byte_for_17_bits = with_byte(&REQUEST, 15, 17);
+    let minute_60 = with_byte(&message, 15, 60);
+    let message_fill = with_byte(&message, 19, 0x31);
+    let receipt_past_the_count = with_byte(&receipt, 33, 1);
     [
-        record(DISTRESS, &EXAMPLE),
-        record(DISTRESS, &none),
-        record(DISTRESS, &far),
-        record(DISTRESS, &other_code),
-        record(DISTRESS, &past_180_degrees),
-        record(DISTRESS, &fill_set),
-        record(DISTRESS, &EXAMPLE[..16]),
-        record(DISTRESS, &too_long),
-        record(DISTRESS, &[]),
-        record(1, &serial),
+        CHECK.to_vec(),
+        CHECK_AS_PRINTED.to_vec(),
+        REQUEST.to_vec(),
+        message,
+        receipt,
+        REQUEST[..19].to_vec(),
+        a_byte_for_17_bits,
+        other_letters,
+        query,
+        password_express,
+        minute_60,
+        message_fill,
+        receipt_past_the_count,
+    ]
+}
+
+/// Distress reports of every answer.
+fn reports() -> [Vec<u8>; 9] {
+    let [none, far] = [NONE, FAR].map(|report| distress::message(&report).expect("a good report"));
+    let past_180_degrees = example_with_longitude([0x52, 0x65, 0xC0, 0x80]);
+    [
+        EXAMPLE.to_vec(),
+        none.to_vec(),
+        far.to_vec(),
+        [&[0xBD, 0xC2], &EXAMPLE[2..]].concat(),
+        past_180_degrees.to_vec(),
+        [&EXAMPLE[..16], &[EXAMPLE[16] | 1]].concat(),
+        EXAMPLE[..16].to_vec(),
+        [&EXAMPLE[..], &[0]].concat(),
+        Vec::new(),
+    ]
+}
+
+/// Serial frames, distress reports, records of other kinds, and a cut record at the end.
+pub fn day_log() -> Vec<u8> {
+    let others = [
         record(2, &[0xE1, 0x20, 0x70, 0x40, 0x20]),
         record(4, &[0x20; 23]),
         record(0x0103, &EXAMPLE),
-        cut.to_vec(),
-    ]
-    .concat()
+        record(DISTRESS, &EXAMPLE)[..10].to_vec(),
+    ];
+    let frames = frames().map(|body| record(SERIAL, &body));
+    let reports = reports().map(|body| record(DISTRESS, &body));
+    [frames.concat(), reports.concat(), others.concat()].concat()
 }

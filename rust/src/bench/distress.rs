@@ -1,6 +1,6 @@
 //! The distress report and its sentence.
 
-use super::{row, Row, Scratch, MESSAGES};
+use super::{row, Correction, Row, Scratch};
 use crate::family::distress::Calls;
 use crate::family::{Paper, Proved};
 use crate::inputs::{distress as inputs, Random};
@@ -8,13 +8,6 @@ use crate::paper::distress;
 use crate::record::Report;
 
 type Message = [u8; Report::BYTES];
-
-#[derive(Clone)]
-struct Correction {
-    message: Message,
-    field: usize,
-    value: u64,
-}
 
 #[derive(Clone)]
 struct Sentence {
@@ -25,29 +18,32 @@ struct Sentence {
 const GOOD: &str = "a good report";
 
 pub fn rows() -> Vec<Row> {
-    let random = &mut Random::new(1, "bench", 0);
-    let reports: Vec<Report> = (0..MESSAGES).map(|_| inputs::good_report(random)).collect();
-    let addressed: Vec<(u32, Report)> = reports.iter().map(|report| (inputs::good_address(random), *report)).collect();
-    let messages: Vec<Message> = reports.iter().map(|report| distress::message(report).expect(GOOD)).collect();
-    let corrections = messages.iter().map(|message| correction(random, *message)).collect();
-    let sentences = addressed.iter().map(sentence).collect();
     vec![
-        row("distress read", messages, read::<Proved>, read::<Paper>),
-        row("distress write", reports, write::<Proved>, write::<Paper>),
-        row("distress correct", corrections, correct::<Proved>, correct::<Paper>),
-        row("sentence read", sentences, read_sentence::<Proved>, read_sentence::<Paper>),
+        row("distress read", message, read::<Proved>, read::<Paper>),
+        row("distress write", inputs::good_report, write::<Proved>, write::<Paper>),
+        row("distress correct", correction, correct::<Proved>, correct::<Paper>),
+        row("sentence read", sentence, read_sentence::<Proved>, read_sentence::<Paper>),
         row("sentence write", addressed, write_sentence::<Proved>, write_sentence::<Paper>),
     ]
 }
 
-fn correction(random: &mut Random, message: Message) -> Correction {
-    let field = 1 + random.below(Report::ROW);
-    Correction { message, field, value: inputs::good_value(random, field) }
+fn message(random: &mut Random) -> Message {
+    distress::message(&inputs::good_report(random)).expect(GOOD)
 }
 
-fn sentence((address, report): &(u32, Report)) -> Sentence {
+fn correction(random: &mut Random) -> Correction<Message> {
+    let correct = |message: &mut Message, field, value| distress::correct(message, field, value);
+    Correction::accepted(message(random), || inputs::correction(random), correct)
+}
+
+fn addressed(random: &mut Random) -> (u32, Report) {
+    (inputs::good_address(random), inputs::good_report(random))
+}
+
+fn sentence(random: &mut Random) -> Sentence {
+    let (address, report) = addressed(random);
     let mut bytes = [0; 60];
-    let size = distress::write_sentence(&mut bytes, *address, report).expect(GOOD);
+    let size = distress::write_sentence(&mut bytes, address, &report).expect(GOOD);
     Sentence { bytes, size }
 }
 
@@ -59,8 +55,7 @@ fn write<C: Calls>(report: &mut Report, scratch: &mut Scratch) -> u8 {
     C::write(&mut scratch.bytes, report)
 }
 
-/// The second round puts in what stands there already, which costs the same.
-fn correct<C: Calls>(correction: &mut Correction, _: &mut Scratch) -> u8 {
+fn correct<C: Calls>(correction: &mut Correction<Message>, _: &mut Scratch) -> u8 {
     C::correct(&mut correction.message, correction.field, correction.value)
 }
 

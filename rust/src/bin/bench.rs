@@ -3,7 +3,7 @@
 //! `bench count ROW proved|paper ROUNDS` works through one row and prints nothing: the benchmark runs itself so, under
 //! valgrind, once for some rounds and once for more. The difference is what the rounds cost, whatever came before.
 
-use bellnewt::bench::{rows, Row, MESSAGES};
+use bellnewt::bench::{rows, Rounds, MESSAGES};
 use std::process::Command;
 use std::time::Instant;
 
@@ -21,7 +21,8 @@ fn main() {
 
 fn count(name: &str, side: &str, rounds: usize) {
     let row = rows().into_iter().find(|row| row.name == name).expect("a row of the table");
-    let mut round = if side == "proved" { row.proved } else { row.paper };
+    let made = (row.rounds)();
+    let mut round = if side == "proved" { made.proved } else { made.paper };
     (0..rounds).for_each(|_| round());
 }
 
@@ -31,9 +32,9 @@ fn table() {
     print!("{:<20}", "call");
     heads.iter().chain(&heads).for_each(|head| print!("{head:>10}"));
     println!();
-    for mut row in rows() {
+    for row in rows() {
         print!("{:<20}", row.name);
-        print_pair(Some(times(&mut row)));
+        print_pair(Some(times((row.rounds)())));
         print_pair(instructions(row.name));
         println!();
     }
@@ -53,10 +54,10 @@ fn print_pair(pair: Option<[f64; 2]>) {
 }
 
 /// Nanoseconds a message, proved and paper.
-fn times(row: &mut Row) -> [f64; 2] {
+fn times(mut rounds: Rounds) -> [f64; 2] {
     let mut best = [f64::INFINITY; 2];
     for _ in 0..TIMED_ROUNDS {
-        for (best, round) in best.iter_mut().zip([&mut row.proved, &mut row.paper]) {
+        for (best, round) in best.iter_mut().zip([&mut rounds.proved, &mut rounds.paper]) {
             let start = Instant::now();
             round();
             *best = best.min(start.elapsed().as_nanos() as f64 / MESSAGES as f64);
@@ -76,14 +77,14 @@ fn instructions_of(row: &str, side: &str) -> Option<f64> {
     Some(extra / ((many - few) * MESSAGES) as f64)
 }
 
-/// All instructions of a run, as callgrind says in a line `Collected : N`.
+/// All instructions of a run, as cachegrind says in a line `I refs: 1,234`.
 fn collected(row: &str, side: &str, rounds: usize) -> Option<f64> {
     let output = Command::new("valgrind")
-        .args(["--tool=callgrind", "--callgrind-out-file=/dev/null"])
+        .args(["--tool=cachegrind", "--cache-sim=no", "--cachegrind-out-file=/dev/null"])
         .arg(std::env::current_exe().ok()?)
         .args(["count", row, side, &rounds.to_string()])
         .output()
         .ok()?;
     let said = String::from_utf8_lossy(&output.stderr);
-    said.lines().find_map(|line| line.split_once("Collected : ")?.1.trim().parse().ok())
+    said.lines().find_map(|line| line.split_once(" refs:")?.1.replace(',', "").trim().parse().ok())
 }

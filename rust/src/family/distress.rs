@@ -2,7 +2,7 @@
 
 use super::{Paper, Proved};
 use crate::harness::{Call, Family, Guarded};
-use crate::inputs::{distress as inputs, room, Random};
+use crate::inputs::{distress as inputs, room, spare, Random};
 use crate::record::{code, Report};
 use crate::{paper, relay};
 
@@ -83,11 +83,10 @@ pub struct Lent {
 
 impl Lent {
     fn new(random: &mut Random, bytes: Vec<u8>, row: usize) -> Lent {
-        let row = (0..row).map(|_| random.word() as i64).collect();
         let size = vec![random.word() as usize];
         Lent {
-            bytes: Guarded::new(random, bytes, Random::byte),
-            row: Guarded::new(random, row, |random| random.word() as i64),
+            bytes: Guarded::bytes(random, bytes),
+            row: Guarded::row(random, row),
             size: Guarded::new(random, size, |random| random.word() as usize),
         }
     }
@@ -127,8 +126,7 @@ impl Family for Distress {
             0 => (Input::Read, inputs::message(random), room(random, Report::ROW)),
             1 => (Input::Write(inputs::report(random)), spare(random, Report::BYTES), 0),
             2 => {
-                let field = inputs::field_number(random);
-                let value = inputs::field_value(random, field);
+                let (field, value) = inputs::correction(random);
                 (Input::Correct { field, value }, inputs::message_to_correct(random), 0)
             }
             3 => (Input::ReadSentence, inputs::sentence(random), room(random, 1 + Report::ROW)),
@@ -148,10 +146,4 @@ impl Family for Distress {
     fn paper(input: &Input, lent: &mut Lent) -> u8 {
         input.answer::<Paper>(lent)
     }
-}
-
-/// A buffer of any bytes with room for about `exact`.
-fn spare(random: &mut Random, exact: usize) -> Vec<u8> {
-    let size = room(random, exact);
-    random.bytes(size)
 }

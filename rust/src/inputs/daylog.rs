@@ -1,6 +1,9 @@
 //! Day logs, good and damaged.
 
-use super::{distress, Random};
+use super::{distress, serial, Random};
+
+pub const SERIAL: u16 = 1;
+pub const DISTRESS: u16 = 3;
 
 const GREATEST: usize = 256;
 const HEAD: usize = 4;
@@ -13,12 +16,16 @@ pub fn record(kind: u16, body: &[u8]) -> Vec<u8> {
 
 /// A record whose length is good: a body of its kind, or any bytes.
 fn good_record(random: &mut Random) -> Vec<u8> {
+    let (own, body) = match random.below(2) {
+        0 => (SERIAL, serial::any_frame(random)),
+        _ => (DISTRESS, distress::message(random)),
+    };
     let kind = match random.below(8) {
         0 => random.word() as u16,
         1 => random.below(8) as u16,
         // The kinds' low byte with a high byte that isn't zero: no kind at all.
         2 => random.below(8) as u16 | 1 << (8 + random.below(8)),
-        _ => 3,
+        _ => own,
     };
     let mut body = match random.below(8) {
         0 => {
@@ -26,7 +33,7 @@ fn good_record(random: &mut Random) -> Vec<u8> {
             random.bytes(size)
         }
         1 => Vec::new(),
-        _ => distress::message(random),
+        _ => body,
     };
     body.truncate(GREATEST - HEAD);
     record(kind, &body)
@@ -54,7 +61,7 @@ pub fn log(random: &mut Random) -> Vec<u8> {
             let left = 1 + random.below(3);
             log.extend(random.bytes(left));
         }
-        3 => log.extend(record(3, &[0; GREATEST - HEAD])),
+        3 => log.extend(record(random.pick(&[SERIAL, DISTRESS]), &[0; GREATEST - HEAD])),
         _ => (),
     }
     log

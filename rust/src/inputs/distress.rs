@@ -1,56 +1,24 @@
 //! Distress reports and sentences, good and damaged.
 
-use super::{damage, Random};
+use super::field::{field, field_number, pack, put_anywhere, put_at_edges, Field};
+use super::{damage, Random, LARGEST_ADDRESS};
 use crate::record::Report;
-
-/// A field of the report: its width, its range, and the one good number outside of it.
-struct Field {
-    width: u32,
-    least: i64,
-    most: i64,
-    none: i64,
-}
-
-const fn field(width: u32, least: i64, most: i64, none: i64) -> Field {
-    Field { width, least, most, none }
-}
+use std::iter::once;
 
 const CODE: u64 = 0xBDC1;
 
 /// The fields in bit order. Where "none" lies in the range, it is the range's end.
 const FIELDS: [Field; Report::ROW] = [
-    field(32, 0, 999_999_999, 999_999_999),
-    field(25, -10_800_000, 10_800_000, 10_860_000),
-    field(24, -5_400_000, 5_400_000, 5_460_000),
-    field(5, 0, 31, 0),
-    field(5, 0, 24, 24),
-    field(6, 0, 60, 60),
-    field(7, 0, 126, 126),
-    field(9, 0, 360, 360),
-    field(4, 0, 9, 0),
+    field(32, 0, 999_999_999, &[999_999_999]),
+    field(25, -10_800_000, 10_800_000, &[10_860_000]),
+    field(24, -5_400_000, 5_400_000, &[5_460_000]),
+    field(5, 0, 31, &[0]),
+    field(5, 0, 24, &[24]),
+    field(6, 0, 60, &[60]),
+    field(7, 0, 126, &[126]),
+    field(9, 0, 360, &[360]),
+    field(4, 0, 9, &[0]),
 ];
-
-impl Field {
-    fn good(&self, random: &mut Random) -> i64 {
-        match random.below(8) {
-            0 => self.least,
-            1 => self.most,
-            2 => self.none,
-            _ => random.between(self.least, self.most),
-        }
-    }
-
-    /// A number at or just past a bound of the range or of the width.
-    fn edge(&self, random: &mut Random) -> i64 {
-        let past = 1 << self.width;
-        let bound = random.pick(&[self.least, self.most, self.none, 0, past / 2, past]);
-        bound + random.between(-1, 1)
-    }
-
-    fn spelled(&self, value: i64) -> u64 {
-        value as u64 & ((1 << self.width) - 1)
-    }
-}
 
 /// A good report, made of numbers that its fields take.
 pub fn good_report(random: &mut Random) -> Report {
@@ -60,33 +28,21 @@ pub fn good_report(random: &mut Random) -> Report {
 /// Fields that are good but for none, one or a few at an edge.
 fn row(random: &mut Random) -> [i64; Report::ROW] {
     let mut row = FIELDS.each_ref().map(|field| field.good(random));
-    for _ in 0..random.pick(&[0, 0, 0, 1, 1, 3]) {
-        let at = random.below(row.len());
-        row[at] = FIELDS[at].edge(random);
-    }
+    put_at_edges(random, &FIELDS, &mut row);
     row
 }
 
-/// A record to write. Its numbers may be any of their types, or a good one but for one bit.
+/// A record to write.
 pub fn report(random: &mut Random) -> Report {
     let mut row = row(random);
-    let at = random.below(row.len());
-    match random.below(12) {
-        0 => row[at] = random.word() as i64,
-        1 => row[at] ^= 1 << random.below(32),
-        _ => (),
-    }
+    put_anywhere(random, &mut row);
     Report::of_row(&row)
 }
 
 /// The 17 bytes of a code, the fields and the fill.
 fn spell(code: u64, row: &[i64; Report::ROW], fill: u64) -> Vec<u8> {
-    let mut bits = 0u128;
-    for (field, value) in FIELDS.iter().zip(row) {
-        bits = bits << field.width | u128::from(field.spelled(*value));
-    }
-    bits = u128::from(code) << 120 | bits << 3 | u128::from(fill);
-    [&[(code >> 8) as u8], &bits.to_be_bytes()[..]].concat()
+    let fields = FIELDS.iter().zip(row).map(|(field, value)| field.piece(*value));
+    pack(once((16, code)).chain(fields).chain(once((3, fill))))
 }
 
 /// The bytes of a report whose size is right.
@@ -117,39 +73,11 @@ pub fn message_to_correct(random: &mut Random) -> Vec<u8> {
     spell(CODE, &good_report(random).row(), 0)
 }
 
-/// A field's number, near or far from those that there are.
-pub fn field_number(random: &mut Random) -> usize {
-    match random.below(16) {
-        0 => random.word() as usize,
-        1 => usize::MAX - random.below(20),
-        2 => (1usize << random.below(64)).wrapping_add(random.below(21)),
-        3 | 4 => random.below(21),
-        _ => 1 + random.below(FIELDS.len()),
-    }
+/// A field's number and its new value.
+pub fn correction(random: &mut Random) -> (usize, u64) {
+    let at = random.below(FIELDS.len());
+    (field_number(random, 1 + at), FIELDS[at].new_value(random))
 }
-
-/// A value that field `number`, 1 to 9, takes, as its bits spell it.
-pub fn good_value(random: &mut Random, number: usize) -> u64 {
-    let field = &FIELDS[number - 1];
-    field.spelled(field.good(random))
-}
-
-/// A field's new value: good, at an edge, too wide, or too wide by bits above good ones.
-pub fn field_value(random: &mut Random, number: usize) -> u64 {
-    let field = FIELDS.get(number.wrapping_sub(1)).unwrap_or(&FIELDS[0]);
-    let good = field.good(random);
-    match random.below(16) {
-        0 => random.word(),
-        1 => u64::MAX - random.word() % 3,
-        2 => field.spelled(good) | 1 << random.below(64),
-        // A negative value whose sign runs on past the field is too wide.
-        3 => good as u64,
-        4..=9 => field.edge(random) as u64,
-        _ => field.spelled(good),
-    }
-}
-
-const LARGEST_ADDRESS: u32 = 2_097_151;
 
 /// A good address, of each length equally often.
 pub fn good_address(random: &mut Random) -> u32 {

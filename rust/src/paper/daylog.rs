@@ -1,6 +1,6 @@
 //! The day log's listing (01, "Day log listing").
 
-use super::distress;
+use super::{distress, serial};
 use crate::record::{code, Refusal};
 use std::fmt::Write;
 
@@ -12,7 +12,10 @@ pub struct Kind {
 }
 
 /// The kinds that are handled. Every other prints `unknown` and 2.
-pub const KINDS: &[Kind] = &[Kind { number: 3, word: "distress", judge: |body| distress::read(body).map(drop) }];
+pub const KINDS: &[Kind] = &[
+    Kind { number: 1, word: "serial", judge: serial::read_any },
+    Kind { number: 3, word: "distress", judge: |body| distress::read(body).map(drop) },
+];
 
 const HEAD: usize = 4;
 const GREATEST: usize = 256;

@@ -1,5 +1,6 @@
 //! The distress report and its sentence (01, "Distress report"; 001, annex A).
 
+use super::{narrow, xor, LARGEST_ADDRESS};
 use crate::record::{Refusal, Report};
 
 const CODE: [u8; 2] = [0xBD, 0xC1];
@@ -121,16 +122,8 @@ pub fn correct(message: &mut [u8], field: usize, value: u64) -> Result<(), Refus
     write(message, &report)
 }
 
-fn narrow(value: u64, width: u32) -> Result<u64, Refusal> {
-    if value >> width != 0 {
-        return Err(Refusal::RANGE);
-    }
-    Ok(value)
-}
-
 const START: &[u8; 7] = b"$CCTXA,";
 const MIDDLE: &[u8; 7] = b",2,2,A4";
-const LARGEST_ADDRESS: u32 = 2_097_151;
 /// A sentence without its address: start, middle, 34 digits, ending.
 const FRAME: usize = START.len() + MIDDLE.len() + 2 * Report::BYTES + 5;
 
@@ -186,7 +179,7 @@ pub fn write_sentence(buf: &mut [u8], address: u32, report: &Report) -> Result<u
 /// `*`, the XOR of the bytes in two upper-case hex digits, CR LF.
 fn ending(bytes: &[u8]) -> [u8; 5] {
     const DIGITS: &[u8; 16] = b"0123456789ABCDEF";
-    let sum = bytes.iter().fold(0, |sum, byte| sum ^ byte);
+    let sum = xor(bytes);
     let [high, low] = [sum >> 4, sum & 15].map(|digit| DIGITS[usize::from(digit)]);
     [b'*', high, low, b'\r', b'\n']
 }

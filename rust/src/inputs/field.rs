@@ -1,0 +1,101 @@
+//! A field of a message, and the numbers that it is tried with.
+
+use super::Random;
+
+/// A field's width and range, and at least one other number of note: one that is good outside of the range, or a bound
+/// that other fields set inside of it.
+pub struct Field {
+    width: u32,
+    least: i64,
+    most: i64,
+    notes: &'static [i64],
+}
+
+pub const fn field(width: u32, least: i64, most: i64, notes: &'static [i64]) -> Field {
+    Field { width, least, most, notes }
+}
+
+impl Field {
+    pub fn good(&self, random: &mut Random) -> i64 {
+        match random.below(8) {
+            0 => self.least,
+            1 => self.most,
+            2 => random.pick(self.notes),
+            _ => random.between(self.least, self.most),
+        }
+    }
+
+    /// A number at or just past a bound of the range or of the width.
+    pub fn edge(&self, random: &mut Random) -> i64 {
+        let past = 1 << self.width;
+        let note = random.pick(self.notes);
+        let bound = random.pick(&[self.least, self.most, note, 0, past / 2, past]);
+        bound + random.between(-1, 1)
+    }
+
+    fn spelled(&self, value: i64) -> u64 {
+        value as u64 & ((1 << self.width) - 1)
+    }
+
+    /// The field's width, and the bits that spell a value in it.
+    pub fn piece(&self, value: i64) -> (u32, u64) {
+        (self.width, self.spelled(value))
+    }
+
+    /// The field's new value in a correction: good, at an edge, too wide, or too wide by bits above good ones.
+    pub fn new_value(&self, random: &mut Random) -> u64 {
+        let good = self.good(random);
+        match random.below(16) {
+            0 => random.word(),
+            1 => u64::MAX - random.word() % 3,
+            2 => self.spelled(good) | 1 << random.below(64),
+            // A negative value whose sign runs on past the field is too wide.
+            3 => good as u64,
+            4..=9 => self.edge(random) as u64,
+            _ => self.spelled(good),
+        }
+    }
+}
+
+/// Puts none, one or a few of the fields' numbers at an edge.
+pub fn put_at_edges(random: &mut Random, fields: &[Field], numbers: &mut [i64]) {
+    for _ in 0..random.pick(&[0, 0, 0, 1, 1, 3]) {
+        let at = random.below(numbers.len());
+        numbers[at] = fields[at].edge(random);
+    }
+}
+
+/// Makes one of the numbers, at times, any at all, or another in one bit.
+pub fn put_anywhere(random: &mut Random, numbers: &mut [i64]) {
+    let at = random.below(numbers.len());
+    match random.below(12) {
+        0 => numbers[at] = random.word() as i64,
+        1 => numbers[at] ^= 1 << random.below(32),
+        _ => (),
+    }
+}
+
+/// The bytes that pieces of some width and bits fill together, highest bit first.
+pub fn pack(pieces: impl Iterator<Item = (u32, u64)>) -> Vec<u8> {
+    let (mut bytes, mut bits, mut held) = (Vec::new(), 0, 0);
+    for (width, piece) in pieces {
+        bits = bits << width | piece;
+        held += width;
+        while held >= 8 {
+            held -= 8;
+            bytes.push((bits >> held) as u8);
+        }
+    }
+    bytes
+}
+
+/// The number that a correction names its field by: mostly `number`, else one near or far from those that there are.
+pub fn field_number(random: &mut Random, number: usize) -> usize {
+    match random.below(16) {
+        0 => random.word() as usize,
+        1 => usize::MAX - random.below(32),
+        2 => (1usize << random.below(64)).wrapping_add(random.below(32)),
+        3 | 4 => random.below(32),
+        _ => number,
+    }
+}
