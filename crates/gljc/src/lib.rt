@@ -59,7 +59,7 @@ impl Gljc {
 }
 
 // `GLJC`.
-const LETTERS: u64 = 0x474C_4A43;
+pub const LETTERS: u64 = 0x474C_4A43;
 
 const LENGTH: u64 = Gljc::LEAST as u64;
 

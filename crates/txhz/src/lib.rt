@@ -90,7 +90,7 @@ impl Txhz {
 }
 
 // `TXHZ`.
-const LETTERS: u64 = 0x5458_485A;
+pub const LETTERS: u64 = 0x5458_485A;
 
 const LENGTH: u64 = Txhz::LEAST as u64;
 

@@ -83,7 +83,7 @@ impl Txsq {
 }
 
 // `TXSQ`.
-pub(crate) const LETTERS: u64 = 0x5458_5351;
+pub const LETTERS: u64 = 0x5458_5351;
 
 // The class begins with 010 and key 0.
 pub(crate) const CLASS: u64 = 0b0100;

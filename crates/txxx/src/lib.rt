@@ -82,7 +82,7 @@ impl Txxx {
 }
 
 // `TXXX`.
-pub(crate) const LETTERS: u64 = 0x5458_5858;
+pub const LETTERS: u64 = 0x5458_5858;
 
 // The widths of the fields that may be corrected: neither bit length, content nor fill.
 const WIDTHS: [usize; 12] = [0, 0, 0, 24, 8, 24, 8, 8, 0, 0, 0, 8];

@@ -1,0 +1,93 @@
+-- `code_as` takes the reading that the letters name.
+use mathlib.Core.Path.{refl, ap, _∙_}
+use borrow.Author.Tests.{eq-eqb, ne-eqb}
+use Rattle.layout.specs.Message.{readMessage}
+use Rattle.layout.specs.laws.Answers.{numbered}
+use Rattle.gljc.specs.Gljc.{gljcs, recordOf as gljcOf, numberOf as gljcNumber, letters as GLJC}
+use Rattle.gljc.specs.declared.Answer.the-variants.{Good as gljcGood, Refused as gljcBad}
+use Rattle.txsq.specs.Txsq.{txsqs, recordOf as txsqOf, numberOf as txsqNumber, letters as TXSQ}
+use Rattle.txsq.specs.declared.Answer.the-variants.{Good as txsqGood, Refused as txsqBad}
+use Rattle.txxx.specs.Txxx.{txxxs, recordOf as txxxOf, numberOf as txxxNumber, letters as TXXX}
+use Rattle.txxx.specs.declared.Answer.the-variants.{Good as txxxGood, Refused as txxxBad}
+use Rattle.txhz.specs.Txhz.{txhzs, recordOf as txhzOf, numberOf as txhzNumber, letters as TXHZ}
+use Rattle.txhz.specs.declared.Answer.the-variants.{Good as txhzGood, Refused as txhzBad}
+use Rattle.serial.specs.Serial.{codeAs}
+use borrow.Author.Needs.{needs}
+use Rattle.serial.proofs.code_as.Statement.{statement}
+use Rattle.serial.proofs.code_as.Tie as tie
+use Rattle.txhz.proofs.Answer.refusal.Reads as Answer-refusal-reads′
+use Rattle.txhz.proofs.read.Reads as read-reads′
+use Rattle.txsq.proofs.Answer.refusal.Reads as Answer-refusal-reads′′
+use Rattle.txsq.proofs.read.Reads as read-reads′′
+use Rattle.txxx.proofs.Answer.refusal.Reads as Answer-refusal-reads′′′
+use Rattle.txxx.proofs.read.Reads as read-reads′′′
+
+read-requires : tie.Need-read-requires
+read-requires c κs = search needs
+
+refusal-requires : tie.Need-refusal-requires
+refusal-requires c κs = search needs
+
+returns : tie.Need-returns
+unfolding codeAs
+returns c =
+    let s = c .before .before .before .before .args .s .now in
+    rw (eq-eqb _ GLJC (c .before .before .if1 .taken)) (c .refusal .ensures ∙ ap gljcNumber (c .before .read .ensures) ∙ numbered gljcGood gljcBad gljcOf gljcNumber (λ r. refl) (λ c. refl) (readMessage gljcs s))
+
+read-requires-2 : tie.Need-read-requires-2
+read-requires-2 c κs = search needs
+
+refusal-requires-2 : tie.Need-refusal-requires-2
+refusal-requires-2 c κs = search needs
+
+returns-2 : tie.Need-returns-2
+unfolding codeAs
+returns-2 c =
+    let s = c .before .before .before .before .before .args .s .now in
+    rw (ne-eqb _ GLJC (c .before .before .before .if1 .left), eq-eqb _ TXSQ (c .before .before .if2 .taken)) (c .refusal2 .ensures ∙ ap txsqNumber (c .before .read2 .ensures) ∙ numbered (λ r. txsqGood (r .0)) txsqBad txsqOf txsqNumber (λ r. refl) (λ c. refl) (readMessage txsqs s))
+
+read-requires-3 : tie.Need-read-requires-3
+read-requires-3 c κs = search needs
+
+refusal-requires-3 : tie.Need-refusal-requires-3
+refusal-requires-3 c κs = search needs
+
+returns-3 : tie.Need-returns-3
+unfolding codeAs
+returns-3 c =
+    let s = c .before .before .before .before .before .before .args .s .now in
+    rw (ne-eqb _ GLJC (c .before .before .before .before .if1 .left), ne-eqb _ TXSQ (c .before .before .before .if2 .left), eq-eqb _ TXXX (c .before .before .if3 .taken)) (c .refusal3 .ensures ∙ ap txxxNumber (c .before .read3 .ensures) ∙ numbered (λ r. txxxGood (r .0)) txxxBad txxxOf txxxNumber (λ r. refl) (λ c. refl) (readMessage txxxs s))
+
+read-requires-4 : tie.Need-read-requires-4
+read-requires-4 c κs = search needs
+
+refusal-requires-4 : tie.Need-refusal-requires-4
+refusal-requires-4 c κs = search needs
+
+returns-4 : tie.Need-returns-4
+unfolding codeAs
+returns-4 c =
+    let s = c .before .before .before .before .before .before .before .args .s .now in
+    rw (ne-eqb _ GLJC (c .before .before .before .before .before .if1 .left), ne-eqb _ TXSQ (c .before .before .before .before .if2 .left), ne-eqb _ TXXX (c .before .before .before .if3 .left), eq-eqb _ TXHZ (c .before .before .if4 .taken)) (c .refusal4 .ensures ∙ ap txhzNumber (c .before .read4 .ensures) ∙ numbered txhzGood txhzBad txhzOf txhzNumber (λ r. refl) (λ c. refl) (readMessage txhzs s))
+
+returns-5 : tie.Need-returns-5
+unfolding codeAs
+returns-5 c = rw (ne-eqb _ GLJC (c .before .before .before .if1 .left), ne-eqb _ TXSQ (c .before .before .if2 .left), ne-eqb _ TXXX (c .before .if3 .left), ne-eqb _ TXHZ (c .if4 .left)) refl
+
+pub code-as-spec : {M : Type 1} → statement M
+code-as-spec =
+    tie.close
+    (tie.spec
+    read-requires
+    refusal-requires
+    returns
+    read-requires-2
+    refusal-requires-2
+    returns-2
+    read-requires-3
+    refusal-requires-3
+    returns-3
+    read-requires-4
+    refusal-requires-4
+    returns-4
+    returns-5)

@@ -1,0 +1,3 @@
+-- A serial frame of any kind: what reading it answers.
+pub mod Serial
+mod Examples

@@ -1,0 +1,30 @@
+-- A serial frame of any kind (paper 01, "Serial frames"; "Refusal numbers" for the order). Assumes nothing.
+use Prim.Native.Nat.{ℕ}
+use mathlib.Core.Path.{_≡_, sym, _∙_}
+use mathlib.Core.Bool.{cond}
+use mathlib.Core.List.{List}
+use lib.Dec.{leb, eqb}
+use lib.ListN.{length}
+use Rattle.bits.specs.Bits.{fieldAt}
+use Rattle.layout.specs.Message.{readMessage}
+use Rattle.layout.specs.Message.{codeOf as refusal}
+use Rattle.gljc.specs.Gljc.{gljcs, letters as GLJC}
+use Rattle.txsq.specs.Txsq.{txsqs, letters as TXSQ}
+use Rattle.txxx.specs.Txxx.{txxxs, letters as TXXX}
+use Rattle.txhz.specs.Txhz.{txhzs, letters as TXHZ}
+
+-- what reading the frame of these letters answers; other letters are 2
+unfoldable pub codeAs : ℕ → List ℕ → ℕ
+codeAs letters s =
+    cond (eqb letters GLJC) (refusal (readMessage gljcs s))
+    (cond (eqb letters TXSQ) (refusal (readMessage txsqs s))
+    (cond (eqb letters TXXX) (refusal (readMessage txxxs s))
+    (cond (eqb letters TXHZ) (refusal (readMessage txhzs s)) 2)))
+
+-- the smallest size (1), `$` and letters (2), then as the frame of these letters is read
+unfoldable pub codeOf : List ℕ → ℕ
+codeOf s = cond (leb 12 (length s)) (cond (eqb (fieldAt s 0 8) 0x24) (codeAs (fieldAt s 8 32) s) 2) 1
+
+-- two answers that the promise of `code` allows are equal
+pub one-code : (s : List ℕ) (a b : ℕ) → a ≡ codeOf s → b ≡ codeOf s → a ≡ b
+one-code s a b d e = d ∙ sym e
