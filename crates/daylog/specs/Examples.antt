@@ -2,7 +2,15 @@
 use mathlib.Core.List.{List, [], _∷_, _++_}
 use mathlib.Core.Path.{_≡_, refl}
 use Prim.Native.Nat.{ℕ}
-use Rattle.daylog.specs.Text.{digitsBy, decimal, line, head, unknown, broken}
+use Rattle.bits.specs.Bits.{bit, valueOf, digits, bitsOf, fieldAt}
+use Rattle.bits.specs.Xor.{xorOf}
+use Rattle.frame.specs.Frame.{leads}
+use Rattle.gljc.specs.Gljc.{gljc, gljcs}
+use Rattle.layout.specs.Fmt.{readField, read}
+use Rattle.layout.specs.Message.{readMessage}
+use Rattle.layout.specs.Words.{walk}
+use Rattle.serial.specs.Serial.{codeAs, codeOf as serialCode}
+use Rattle.daylog.specs.Text.{digitsBy, decimal, line, head, serial, unknown, broken}
 use Rattle.daylog.specs.Log.{word, codeOf, front, recordsBy, records, sizeOf, after-all, entryLine, lines, listingFrom, listing}
 
 tens : decimal 210 ≡ 0x32 ∷ 0x31 ∷ 0x30 ∷ []
@@ -19,3 +27,13 @@ cut : listing (5 ∷ 0 ∷ 0 ∷ 0 ∷ 9 ∷ 5 ∷ 0 ∷ 3 ∷ [])
     ≡ head ++ ((0x31 ∷ 0x20 ∷ unknown ++ (0x20 ∷ 0x32 ∷ 0x20 ∷ 0x31 ∷ 0x0a ∷ [])) ++ (0x32 ∷ 0x20 ∷ broken ++ (0x20 ∷ 0x31 ∷ 0x20 ∷ 0x33 ∷ 0x0a ∷ [])))
 unfolding listing listingFrom records recordsBy front lines after-all sizeOf entryLine line decimal digitsBy word codeOf
 cut = refl
+
+-- 01's example: a frame GLJC, then the same with another last byte
+abbrev frame : ℕ → List ℕ → List ℕ
+frame last rest = 0x10 ∷ 0x00 ∷ 0x01 ∷ 0x00 ∷ 0x24 ∷ 0x47 ∷ 0x4C ∷ 0x4A ∷ 0x43 ∷ 0x00 ∷ 0x0C ∷ 0x00 ∷ 0x00 ∷ 0x00 ∷ 0x00 ∷ last ∷ rest
+
+-- `1 serial 0 12`, `2 serial 3 12`
+two-frames : listing (frame 0x2A (frame 0x0B []))
+    ≡ head ++ ((0x31 ∷ 0x20 ∷ serial ++ (0x20 ∷ 0x30 ∷ 0x20 ∷ 0x31 ∷ 0x32 ∷ 0x0a ∷ [])) ++ (0x32 ∷ 0x20 ∷ serial ++ (0x20 ∷ 0x33 ∷ 0x20 ∷ 0x31 ∷ 0x32 ∷ 0x0a ∷ [])))
+unfolding listing listingFrom records recordsBy front lines after-all sizeOf entryLine line decimal digitsBy word codeOf serialCode codeAs leads readMessage gljcs gljc read readField walk fieldAt valueOf bit digits bitsOf xorOf
+two-frames = refl

@@ -7,7 +7,8 @@ use lib.ListN.{length, getD, take, drop}
 use Rattle.layout.specs.Message.{between, readMessage}
 use Rattle.layout.specs.Message.{codeOf as refusal}
 use Rattle.distress.specs.Report.{reports}
-use Rattle.daylog.specs.Text.{line, head, distress, unknown, broken}
+use Rattle.serial.specs.Serial.{codeOf as serialCode}
+use Rattle.daylog.specs.Text.{line, head, serial, distress, unknown, broken}
 use Rattle.daylog.specs.declared.Next.{Next}
 use Rattle.daylog.specs.declared.Next.the-variants.{Record, Bad, Short}
 
@@ -16,14 +17,16 @@ use Rattle.daylog.specs.declared.Next.the-variants.{Record, Bad, Short}
 -- a kind's word
 unfoldable pub word : ℕ → List ℕ
 word k =
-    cond (eqb k 3) distress
-    unknown
+    cond (eqb k 1) serial
+    (cond (eqb k 3) distress
+    unknown)
 
 -- what reading a body of a kind answers: 0, or the refusal's number
 unfoldable pub codeOf : ℕ → List ℕ → ℕ
 codeOf k body =
-    cond (eqb k 3) (refusal (readMessage reports body))
-    2
+    cond (eqb k 1) (serialCode body)
+    (cond (eqb k 3) (refusal (readMessage reports body))
+    2)
 
 -- ---- records
 

@@ -129,6 +129,7 @@ pub fn code(kind: u16, body: &[u8]) -> u8
     ensures { λ r. ⌜ r ≡ codeOf kind (now (body .entry)) ⌝ }
 {
     match kind {
+        1 => serial::code(body),
         3 => report(body),
         _ => layout::KIND,
     }
@@ -150,6 +151,7 @@ fn entry(out: &mut [u8], at: usize, number: u64, kind: u16, body: &[u8]) -> usiz
     let code = code(kind, body);
     let bytes = body.len() as u64;
     match kind {
+        1 => line(out, at, number, b"serial", code, bytes),
         3 => line(out, at, number, b"distress", code, bytes),
         _ => line(out, at, number, b"unknown", code, bytes),
     }

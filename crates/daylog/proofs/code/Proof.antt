@@ -1,20 +1,28 @@
 -- `code` takes the arm that `codeOf` takes.
-use borrow.Author.Tests.{eq-eqb, ne-eqb}
+use mathlib.Core.Path.{refl}
+use borrow.Author.Tests.{ne-eqb}
 use Rattle.daylog.specs.Log.{codeOf}
 use borrow.Author.Needs.{needs}
 use Rattle.daylog.proofs.code.Statement.{statement}
 use Rattle.daylog.proofs.code.Tie as tie
+
+code-requires : tie.Need-code-requires
+code-requires c κs = search needs
 
 report-requires : tie.Need-report-requires
 report-requires c κs = search needs
 
 returns : tie.Need-returns
 unfolding codeOf
-returns c = rw (eq-eqb _ 3 (c .before .match .keys1)) (c .report .ensures)
+returns c = rw (c .before .match .keys1) (c .code .ensures)
 
 returns-2 : tie.Need-returns-2
 unfolding codeOf
-returns-2 c = rw (ne-eqb _ 3 (c .match .rest .1))
+returns-2 c = rw (c .before .match .keys2) (c .report .ensures)
+
+returns-3 : tie.Need-returns-3
+unfolding codeOf
+returns-3 c = rw (ne-eqb _ 1 (c .match .rest .0 .1), ne-eqb _ 3 (c .match .rest .1)) refl
 
 pub code-spec : {M : Type 1} → statement M
-code-spec = tie.close (tie.spec report-requires returns returns-2)
+code-spec = tie.close (tie.spec code-requires report-requires returns returns-2 returns-3)

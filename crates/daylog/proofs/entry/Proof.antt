@@ -1,29 +1,43 @@
 -- `entry` stores the line with the word that its kind has.
-use mathlib.Core.Path.{_≡_, sym}
+use mathlib.Core.Path.{_≡_, refl}
 use mathlib.Core.List.{List}
-use Prim.Native.Nat.{ℕ, _≤_}
+use Prim.Native.Nat.{ℕ, _+_, _≤_, _<_, _^_}
 use native.Mathlib.Omega.{arith}
 use lib.Dec.{lit≤}
 use lib.ListN.{length}
-use borrow.Author.Tests.{eq-eqb, ne-eqb}
-use Rattle.daylog.specs.Text.{line, distress, unknown}
-use Rattle.daylog.specs.laws.Text.{line-few}
+use borrow.Author.Tests.{ne-eqb}
 use Rattle.daylog.specs.Log.{word, codeOf, entryLine}
+use Rattle.daylog.specs.Promises.{Stores}
+use Rattle.daylog.specs.Text.{line, serial, distress, unknown}
+use Rattle.daylog.specs.laws.Text.{line-few}
 use borrow.Author.Needs.{needs}
 use Rattle.daylog.proofs.entry.Statement.{statement}
 use Rattle.daylog.proofs.entry.Tie as tie
 
-with-word : (n k : ℕ) (body w : List ℕ) (code : ℕ) → word k ≡ w → code ≡ codeOf k body → line n w code (length body) ≡ entryLine n (record { kind = k; body = body })
-unfolding entryLine
-with-word n k body w code e f = rw (e, f)
+-- ---- the words
+
+serial-word : (k : ℕ) → k ≡ 1 → word k ≡ serial
+unfolding word
+serial-word k e = rw e refl
 
 distress-word : (k : ℕ) → k ≡ 3 → word k ≡ distress
 unfolding word
-distress-word k e = rw (eq-eqb k 3 e)
+distress-word k e = rw e refl
 
-other-word : (k : ℕ) → (k ≡ 3 → ⊥) → word k ≡ unknown
+other-word : (k : ℕ) → (k ≡ 1 → ⊥) → (k ≡ 3 → ⊥) → word k ≡ unknown
 unfolding word
-other-word k e = rw (ne-eqb k 3 e)
+other-word k a b = rw (ne-eqb k 1 a, ne-eqb k 3 b) refl
+
+-- ---- a line with the word w
+
+module _ (n k : ℕ) (body w : List ℕ) (code : ℕ) (small : n < 2 ^ 64) (short : length w ≤ 8) (byte : code < 256) (few : length body < 2 ^ 64) where
+  pub fits-line : (at : ℕ) (out : List ℕ) → at + 55 ≤ length out → at + length (line n w code (length body)) ≤ length out
+  fits-line at out room = omega (arith, line-few n w code (length body) small short byte few)
+
+  pub stored : word k ≡ w → code ≡ codeOf k body → {at r : ℕ} {out left : List ℕ} → Stores out at (line n w code (length body)) r left
+      → Stores out at (entryLine n (record { kind = k; body = body })) r left × (r ≤ at + 55)
+  unfolding entryLine
+  stored e f s = (rw (e, ← f) s, omega (arith, s .ends, line-few n w code (length body) small short byte few))
 
 code-requires : tie.Need-code-requires
 code-requires c κs = search needs
@@ -35,7 +49,7 @@ line-requires : tie.Need-line-requires
 line-requires c κs =
     let p = c .before .before .before in
     let s = p .before .before .before in
-    omega (arith, line-few (s .args .number) distress (p .code .result) (length (s .args .body .now)) (s .fits .number .fits) (lit≤ tt) (omega arith) (omega arith))
+    fits-line (s .args .number) (s .args .kind) (s .args .body .now) serial (p .code .result) (s .fits .number .fits) (lit≤ tt) (omega arith) (omega arith) (s .args .at) (s .args .out .now) (s .pre)
 
 slice-aggregate-line-2 : tie.Need-slice-aggregate-line-2
 slice-aggregate-line-2 c = search needs
@@ -44,7 +58,16 @@ line-requires-2 : tie.Need-line-requires-2
 line-requires-2 c κs =
     let p = c .before .before .before in
     let s = p .before .before .before in
-    omega (arith, line-few (s .args .number) unknown (p .code .result) (length (s .args .body .now)) (s .fits .number .fits) (lit≤ tt) (omega arith) (omega arith))
+    fits-line (s .args .number) (s .args .kind) (s .args .body .now) distress (p .code .result) (s .fits .number .fits) (lit≤ tt) (omega arith) (omega arith) (s .args .at) (s .args .out .now) (s .pre)
+
+slice-aggregate-line-3 : tie.Need-slice-aggregate-line-3
+slice-aggregate-line-3 c = search needs
+
+line-requires-3 : tie.Need-line-requires-3
+line-requires-3 c κs =
+    let p = c .before .before .before in
+    let s = p .before .before .before in
+    fits-line (s .args .number) (s .args .kind) (s .args .body .now) unknown (p .code .result) (s .fits .number .fits) (lit≤ tt) (omega arith) (omega arith) (s .args .at) (s .args .out .now) (s .pre)
 
 same-length : tie.Need-same-length
 same-length c = search needs
@@ -52,13 +75,11 @@ same-length c = search needs
 returns : tie.Need-returns
 returns c =
     let l = c .before .before in
-    let p = l .before .before .before .before in
+    let m = l .before .before .before in
+    let p = m .before in
     let s = p .before .before .before in
     let a = s .args in
-    let few = line-few (a .number) distress (p .code .result) (length (a .body .now)) (s .fits .number .fits) (lit≤ tt) (omega arith) (omega arith) in (
-      rw (sym (with-word (a .number) (a .kind) (a .body .now) distress (p .code .result) (distress-word (a .kind) (l .before .before .before .match .keys1)) (p .code .ensures))) (l .line .ensures),
-      omega (arith, l .line .ensures .ends),
-    )
+    stored (a .number) (a .kind) (a .body .now) serial (p .code .result) (s .fits .number .fits) (lit≤ tt) (omega arith) (omega arith) (serial-word (a .kind) (m .match .keys1)) (p .code .ensures) (l .line .ensures)
 
 same-length-2 : tie.Need-same-length-2
 same-length-2 c = search needs
@@ -66,13 +87,23 @@ same-length-2 c = search needs
 returns-2 : tie.Need-returns-2
 returns-2 c =
     let l = c .before .before in
-    let p = l .before .before .before .before in
+    let m = l .before .before .before in
+    let p = m .before in
     let s = p .before .before .before in
     let a = s .args in
-    let few = line-few (a .number) unknown (p .code .result) (length (a .body .now)) (s .fits .number .fits) (lit≤ tt) (omega arith) (omega arith) in (
-      rw (sym (with-word (a .number) (a .kind) (a .body .now) unknown (p .code .result) (other-word (a .kind) (l .before .before .before .match .rest .1)) (p .code .ensures))) (l .line2 .ensures),
-      omega (arith, l .line2 .ensures .ends),
-    )
+    stored (a .number) (a .kind) (a .body .now) distress (p .code .result) (s .fits .number .fits) (lit≤ tt) (omega arith) (omega arith) (distress-word (a .kind) (m .match .keys2)) (p .code .ensures) (l .line2 .ensures)
+
+same-length-3 : tie.Need-same-length-3
+same-length-3 c = search needs
+
+returns-3 : tie.Need-returns-3
+returns-3 c =
+    let l = c .before .before in
+    let m = l .before .before .before in
+    let p = m .before in
+    let s = p .before .before .before in
+    let a = s .args in
+    stored (a .number) (a .kind) (a .body .now) unknown (p .code .result) (s .fits .number .fits) (lit≤ tt) (omega arith) (omega arith) (other-word (a .kind) (m .match .rest .0 .1) (m .match .rest .1)) (p .code .ensures) (l .line3 .ensures)
 
 pub entry-spec : {M : Type 1} → statement M
 entry-spec =
@@ -83,7 +114,11 @@ entry-spec =
     line-requires
     slice-aggregate-line-2
     line-requires-2
+    slice-aggregate-line-3
+    line-requires-3
     same-length
     returns
     same-length-2
-    returns-2)
+    returns-2
+    same-length-3
+    returns-3)

@@ -1,8 +1,9 @@
 -- `report` gives the number of the answer that `read` makes.
-use mathlib.Core.Path.{ap, _∙_}
+use mathlib.Core.Path.{refl, ap, _∙_}
 use Rattle.layout.specs.Message.{readMessage}
-use Rattle.distress.specs.Report.{reports, numberOf}
-use Rattle.distress.specs.laws.Answers.{numbered}
+use Rattle.distress.specs.Report.{reports, reportOf, numberOf}
+use Rattle.distress.specs.declared.report.Answer.the-variants.{Good, Refused}
+use Rattle.layout.specs.laws.Answers.{numbered}
 use borrow.Author.Needs.{needs}
 use Rattle.daylog.proofs.report.Statement.{statement}
 use Rattle.daylog.proofs.report.Tie as tie
@@ -16,7 +17,7 @@ refusal-requires c κs = search needs
 returns : tie.Need-returns
 returns c =
     let r = c .before in
-    c .refusal .ensures ∙ ap numberOf (r .read .ensures) ∙ numbered (readMessage reports (r .before .before .args .body .now))
+    c .refusal .ensures ∙ ap numberOf (r .read .ensures) ∙ numbered Good Refused reportOf numberOf (λ r. refl) (λ c. refl) (readMessage reports (r .before .before .args .body .now))
 
 pub report-spec : {M : Type 1} → statement M
 report-spec = tie.close (tie.spec read-requires refusal-requires returns)
