@@ -13,9 +13,9 @@ use Rattle.distress.specs.declared.report.Report.{Report}
 use Rattle.distress.specs.declared.report.Answer.the-variants.{Good, Refused}
 use Rattle.sentence.specs.Sentence.{laidOver, Hears}
 use Rattle.sentence.specs.declared.Heard.the-variants.{Good as Heard, Refused as Unheard}
-use Rattle.relay.specs.Row.{Fills}
+use Rattle.rows.specs.Row.{Fills}
 use Rattle.relay.specs.Report.{rowOf, numbersOf}
-use Rattle.relay.specs.laws.Row.{row-full, one-filling}
+use Rattle.rows.specs.laws.Row.{row-full, one-filling}
 use Rattle.relay.specs.laws.Report.{good-numbers, refused-numbers, no-zero-read}
 use Rattle.relay.specs.laws.Sentence.{heard-numbers, refused-sentence}
 use Rattle.relay.specs.Sentence.{sentenceNumbers, sentenceInto, SentenceWrites}

@@ -1,6 +1,6 @@
 -- The definitions that contracts cite, and in `laws` what is proved of them.
-pub mod Row
 pub mod Report
+pub mod frames
 pub mod Sentence
 pub mod laws
 pub mod Demands

@@ -1,4 +1,4 @@
 // What C and Rust link: the calls over numbers and lent slices. Each one hands on what the family's own call promises.
+pub mod frames;
 pub mod report;
-mod rows;
 pub mod sentences;

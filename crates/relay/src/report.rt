@@ -2,7 +2,7 @@
 ghost use mathlib.Core.Path.{_≡_};
 ghost use mathlib.Core.List.{_∷_};
 ghost use lib.IntN.{pos};
-ghost use Rattle.relay.specs.Row.{Fills};
+ghost use Rattle.rows.specs.Row.{Fills};
 ghost use Rattle.relay.specs.Report.{rowOf, numbersOf, recordOf};
 ghost use Rattle.distress.specs.Report.{reports, valuesOf};
 ghost use Rattle.layout.specs.Promises.{Writes, Corrects};
@@ -18,7 +18,7 @@ pub extern "C" fn bellnewt_distress_read(s: &[u8], row: &mut [i64]) -> u8
     match answer {
         Answer::Good(report) => {
             let numbers = numbers(0, report);
-            crate::rows::fill(row, &numbers[1..])
+            rows::fill(row, &numbers[1..])
         },
         Answer::Refused(code) => code,
     }

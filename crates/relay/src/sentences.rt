@@ -1,5 +1,5 @@
 // The distress sentence's calls.
-ghost use Rattle.relay.specs.Row.{Fills};
+ghost use Rattle.rows.specs.Row.{Fills};
 ghost use Rattle.relay.specs.Report.{recordOf};
 ghost use Rattle.relay.specs.Sentence.{sentenceNumbers, SentenceWrites};
 use distress::report::Report;
@@ -15,7 +15,7 @@ pub extern "C" fn bellnewt_sentence_read(s: &[u8], row: &mut [i64]) -> u8
     match heard {
         Heard::Good(address, report) => {
             let numbers = crate::report::numbers(address, report);
-            crate::rows::fill(row, &numbers)
+            rows::fill(row, &numbers)
         },
         Heard::Refused(code) => code,
     }

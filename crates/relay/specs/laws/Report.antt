@@ -15,9 +15,9 @@ use Rattle.distress.specs.Report.{reports, reportOf, answerOf}
 use Rattle.distress.specs.declared.report.Report.{Report}
 use Rattle.distress.specs.declared.report.Answer.the-variants.{Good, Refused}
 use Rattle.layout.specs.Promises.{readRecord}
-use Rattle.relay.specs.Row.{Fills}
+use Rattle.rows.specs.Row.{Fills}
 use Rattle.relay.specs.Report.{rowOf, numbersOf, recordOf}
-use Rattle.relay.specs.laws.Row.{row-refused}
+use Rattle.rows.specs.laws.Row.{row-refused}
 
 pub good-numbers : (s : List ℕ) (r : Report) → Reads s (Good r) → numbersOf s ≡ accepted (rowOf r)
 good-numbers s r e = go (readRecord reports reportOf s) e

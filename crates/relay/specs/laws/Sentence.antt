@@ -12,10 +12,10 @@ use Rattle.distress.specs.declared.report.Report.{Report}
 use Rattle.sentence.specs.declared.Heard.the-variants.{Good, Refused}
 use Rattle.sentence.specs.declared.Sent.{Sent}
 use Rattle.sentence.specs.declared.Sent.the-variants.{Bytes, Refused as Unsent}
-use Rattle.relay.specs.Row.{Fills}
+use Rattle.rows.specs.Row.{Fills}
 use Rattle.relay.specs.Report.{rowOf}
 use Rattle.relay.specs.Sentence.{sentenceNumbers, sentenceInto, SentenceWrites}
-use Rattle.relay.specs.laws.Row.{row-refused}
+use Rattle.rows.specs.laws.Row.{row-refused}
 
 pub heard-numbers : (s : List ℕ) (a : ℕ) (r : Report) → Hears s (Good a r) → sentenceNumbers s ≡ accepted (pos a ∷ rowOf r)
 heard-numbers s a r e = go (readSentence s) e

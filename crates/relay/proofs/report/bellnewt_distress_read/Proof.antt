@@ -4,7 +4,7 @@ use mathlib.Core.List.{List}
 use lib.IntN.{ℤ}
 use lib.ListN.{take, drop}
 use Rattle.layout.specs.Fmt.{Out, accepted}
-use Rattle.relay.specs.Row.{Fills}
+use Rattle.rows.specs.Row.{Fills}
 use Rattle.relay.specs.Report.{rowOf}
 use Rattle.relay.specs.laws.Report.{good-numbers, refused-numbers}
 use borrow.Author.Needs.{needs}

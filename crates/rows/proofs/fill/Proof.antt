@@ -7,9 +7,9 @@ use lib.IntN.{pos}
 use lib.ListN.{length, getD, take, drop, length-set}
 use mir.Syntax.{w64}
 use mir.ValLaws.{toZ-ofZ}
-use Rattle.relay.specs.laws.Row.{row-short, row-stored, row-more}
-use Rattle.relay.proofs.rows.fill.Statement.{statement}
-use Rattle.relay.proofs.rows.fill.Tie as tie
+use Rattle.rows.specs.laws.Row.{row-short, row-stored, row-more}
+use Rattle.rows.proofs.fill.Statement.{statement}
+use Rattle.rows.proofs.fill.Tie as tie
 
 abbrev Inv-loop : tie.InvT-loop
 Inv-loop row₀ numbers i₀ row i = (i ≤ length numbers) × (length row ≡ length row₀) × (row ≡ take i numbers ++ drop i row₀)
