@@ -3,6 +3,7 @@ ghost use mathlib.Core.Path.{_≡_};
 ghost use mathlib.Core.Bool.{cond};
 ghost use mathlib.Core.List.{[]};
 ghost use lib.Dec.{eqb};
+ghost use lib.ListN.{length};
 ghost use Rattle.bits.specs.Bits.{bitsOf};
 ghost use Rattle.layout.specs.Fmt.{also, check, read as Fmt·read, write as Fmt·write};
 ghost use Rattle.layout.specs.Message.{fault};
@@ -63,6 +64,9 @@ pub const LETTERS: u64 = 0x474C_4A43;
 
 const LENGTH: u64 = Gljc::LEAST as u64;
 
+// The bytes that the seal is made of.
+const SEALED: usize = Gljc::LEAST - 1;
+
 // Where the fields stand in every frame, and the widths of those that may be corrected.
 const PLACES: [usize; 5] = [0, 8, 40, 56, 80];
 
@@ -109,10 +113,14 @@ pub fn correct(buf: &mut [u8], field: usize, value: u64) -> u8
     code
 }
 
-// The fields in bit order, behind the first tests' answer.
+// The fields in bit order, behind the first tests' answer. Once the size is known here, no field has to be tested for it.
 fn fields(s: &[u8], code: u8) -> Answer
+    requires { ⌜ (code ≡ 0 → length (now s) ≡ 11) ⌝ }
     ensures { λ r. ⌜ r ≡ answerOf (also recordOf (check (fault code) 0 (Fmt·read gljc [] 0 (bitsOf (now (s .entry)))))) ⌝ }
 {
+    if s.len() != SEALED {
+        return Answer::Refused(code);
+    }
     let w = frame::head(s, code, LETTERS, LENGTH, LENGTH);
     let address = w.v as u32;
     let w = w.num(s, 8, 0, 255);

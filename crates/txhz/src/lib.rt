@@ -4,6 +4,7 @@ ghost use mathlib.Core.Bool.{cond};
 ghost use mathlib.Core.List.{[]};
 ghost use Prim.Native.Nat.{_<_, _^_};
 ghost use lib.Dec.{eqb, ltb};
+ghost use lib.ListN.{length};
 ghost use Rattle.bits.specs.Bits.{bitsOf};
 ghost use Rattle.layout.specs.Fmt.{also, check, read as Fmt·read, write as Fmt·write};
 ghost use Rattle.layout.specs.Message.{fault};
@@ -93,6 +94,9 @@ impl Txhz {
 pub const LETTERS: u64 = 0x5458_485A;
 
 const LENGTH: u64 = Txhz::LEAST as u64;
+
+// The bytes that the seal is made of.
+const SEALED: usize = Txhz::LEAST - 1;
 
 // How many receipts the frame has room for.
 const MOST: u64 = 5;
@@ -217,10 +221,14 @@ fn width(k: u8, count: u8) -> usize
 
 // ---- reading
 
-// The fields in bit order, behind the first tests' answer.
+// The fields in bit order, behind the first tests' answer. Once the size is known here, no field has to be tested for it.
 fn fields(s: &[u8], code: u8) -> Answer
+    requires { ⌜ (code ≡ 0 → length (now s) ≡ 34) ⌝ }
     ensures { λ r. ⌜ r ≡ answerOf (also recordOf (check (fault code) 0 (Fmt·read txhz [] 0 (bitsOf (now (s .entry)))))) ⌝ }
 {
+    if s.len() != SEALED {
+        return Answer::Refused(code);
+    }
     let w = frame::head(s, code, LETTERS, LENGTH, LENGTH);
     let address = w.v as u32;
     let w = w.num(s, 24, 0, frame::ADDRESS);

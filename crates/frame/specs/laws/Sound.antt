@@ -1,20 +1,22 @@
 -- A serial frame is sound: what its fields accept has its `$`, its letters and its length where the first tests look. Assumes nothing.
 use mathlib.Core.Path.{_≡_, refl, sym, ap, _∙_, subst}
-use mathlib.Core.Bool.{Bool, and-true}
+use mathlib.Core.Bool.{Bool, true, false, cond, _&&_, and-true}
 use mathlib.Core.List.{List, [], _∷_}
-use Prim.Native.Nat.{ℕ, _+_, _-_, _*_, _≤_, _<_}
+use Prim.Native.Nat.{ℕ, _+_, _-_, _*_, _≤_, _<_, zero, suc}
 use native.Mathlib.Omega.{arith}
+use lib.Dec.{leb, eqb}
 use lib.ListN.{length, take, drop, getD, length-drop}
 use lib.Seq.{length-take-le, drop-drop}
-use borrow.Author.Tests.{le-leb, eq-eqb}
+use borrow.Author.Tests.{le-leb, leb-true, eq-eqb}
 use Rattle.bits.specs.Bits.{valueOf, bitsOf, fieldAt}
 use Rattle.bits.specs.laws.Bytes.{length-bits}
 use Rattle.bits.specs.laws.Fields.{field-front}
-use Rattle.layout.specs.Fmt.{accepted, Fmt, read}
-use Rattle.layout.specs.Message.{Sound}
+use Rattle.layout.specs.Fmt.{accepted, Fault, good, bad, Fmt, read}
+use Rattle.layout.specs.Message.{Sound, body, sealFault, firstOf, codeOf, readMessage}
 use Rattle.layout.specs.laws.First.{opened}
 use Rattle.layout.specs.laws.Held.{Held, held, exactly}
 use Rattle.layout.specs.laws.Round.{read-write}
+use Rattle.layout.specs.laws.Walked.{unled}
 use Rattle.frame.specs.Frame.{frame, frames, leads}
 
 module _ (letters lo hi : ℕ) (f : Fmt) where
@@ -68,3 +70,34 @@ module _ (letters lo hi : ℕ) (f : Fmt) where
     stays = λ vs i v p w e. refl;
     some = λ e. some;
   }
+
+-- ---- a frame of one size
+
+leads-size : (letters n : ℕ) (s : List ℕ) → leads letters n n s ≡ 0 → length s ≡ n
+unfolding leads
+leads-size letters n s e = go (leb 12 (length s)) (eqb (fieldAt s 0 8) 0x24 && eqb (fieldAt s 8 32) letters) (leb n (length s)) (leb (length s) n) (eqb (fieldAt s 40 16) (length s)) refl refl e
+  where
+    go : (v w x y z : Bool) → leb n (length s) ≡ x → leb (length s) n ≡ y → _≡_ {A = ℕ} (cond v (cond w (cond ((x && y) && z) 0 1) 2) 1) 0 → length s ≡ n
+    go true true true true z ex ey k = let a = leb-true n (length s) ex in let b = leb-true (length s) n ey in omega arith
+    go true true true false z ex ey k = absurd (omega (arith, k))
+    go true true false y z ex ey k = absurd (omega (arith, k))
+    go true false x y z ex ey k = absurd (omega (arith, k))
+    go false w x y z ex ey k = absurd (omega (arith, k))
+
+-- Where the first tests pass, what they leave to the fields has all bytes but the seal.
+pub first-size : (letters n : ℕ) (s : List ℕ) {c : ℕ} {b : List ℕ} → c ≡ firstOf (sealFault true s) (leads letters n n s) → b ≡ body true s → c ≡ 0 → length b ≡ n - 1
+first-size letters n s e is z =
+    let l = leads-size letters n s (go (sealFault true s) (leads letters n n s) (sym e ∙ z)) in
+    ap length is ∙ length-take-le (length s - 1) s (omega arith) ∙ ap (_- 1) l
+  where
+    go : (x : Fault) (c : ℕ) → firstOf x c ≡ 0 → c ≡ 0
+    go good c e = e
+    go (bad d i) zero e = refl
+    go (bad d i) (suc c) e = e
+
+-- So has a frame that was read, with a field changed.
+pub read-size : (letters n : ℕ) (fmt : Fmt) (s t : List ℕ) {b : List ℕ} → codeOf (readMessage (frames letters n n fmt) s) ≡ 0 → length t ≡ length s → b ≡ body true t → length b ≡ n - 1
+unfolding readMessage
+read-size letters n fmt s t z same is =
+    let l = leads-size letters n s (unled (leads letters n n s) _ z) in
+    ap length is ∙ length-take-le (length t - 1) t (omega arith) ∙ ap (_- 1) (same ∙ l)

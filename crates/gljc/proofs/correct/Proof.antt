@@ -1,11 +1,15 @@
 -- `correct` is the correction in place of every family, with the frame's fields read before and behind the change and its table of places.
-use mathlib.Core.Path.{refl, ap, _∙_}
+use mathlib.Core.Path.{refl, sym, ap, _∙_}
 use mathlib.Core.List.{[]}
 use Rattle.bits.specs.Bits.{bitsOf}
+use Rattle.frame.specs.laws.Sound.{read-size}
 use Rattle.layout.specs.Fmt.{also, read}
+use Rattle.layout.specs.Message.{readMessage}
+use Rattle.layout.specs.laws.Answers.{numbered}
+use Rattle.layout.specs.laws.Correcting.{admitted-clean}
 use Rattle.layout.specs.laws.Corrections.{family-early, family-late}
 use Rattle.layout.specs.laws.Spots.{slim, table-stands, table-slim}
-use Rattle.gljc.specs.Gljc.{gljc, gljcs, valuesOf, recordOf, answerOf, numberOf}
+use Rattle.gljc.specs.Gljc.{letters, gljc, gljcs, valuesOf, recordOf, answerOf, numberOf}
 use Rattle.gljc.specs.laws.Correction.{places, widths, along}
 use Rattle.gljc.specs.laws.Demands.{family}
 use Rattle.gljc.specs.declared.Answer.the-variants.{Good, Refused}
@@ -53,7 +57,18 @@ inner-requires : tie.Need-inner-requires
 inner-requires c κs = search needs
 
 fields-requires : tie.Need-fields-requires
-fields-requires c κs = search needs
+unfolding gljcs
+fields-requires c κs =
+    let swap = c .before .before .before .before in
+    let test = swap .before .before in
+    let admits = test .before in
+    let number = admits .before in
+    let look = number .before in
+    let was = look .before .before .before in
+    let a = was .before .before .before .args in
+    let s = a .buf .now in
+    let clean = admitted-clean (number .refusal .result) (look .look-up .result .width) (a .value) (sym (admits .admits .ensures) ∙ test .if1 .left) in
+    λ z. read-size letters 12 gljc s (swap .swap .last .0) (sym (number .refusal .ensures ∙ ap numberOf (was .read .ensures) ∙ numbered Good Refused recordOf numberOf (λ r. refl) (λ c. refl) (readMessage gljcs s)) ∙ clean) (swap .swap .kept .0) (c .inner .ensures)
 
 refusal-requires-2 : tie.Need-refusal-requires-2
 refusal-requires-2 c κs = search needs

@@ -1,16 +1,26 @@
 -- `fields` walks the frame as its layout stands: one step a field and one law a receipt, then the record is that of the values.
-use mathlib.Core.Path.{refl, _∙_}
+use mathlib.Core.Path.{_≡_, sym, ap, refl, _∙_}
+use mathlib.Core.List.{[]}
 use lib.Dec.{lit<, lit≤}
+use Rattle.bits.specs.Bits.{bitsOf}
+use Rattle.layout.specs.Fmt.{also, read}
 use Rattle.frame.specs.laws.Head.{head-read}
 use Rattle.layout.specs.laws.Answers.{told-so}
 use Rattle.layout.specs.laws.Reading.{step-num}
-use Rattle.layout.specs.laws.Walked.{finish}
-use Rattle.txhz.specs.Txhz.{letters, txhz, recordOf}
+use Rattle.layout.specs.laws.Walked.{held-back, finish}
+use Rattle.txhz.specs.Txhz.{letters, txhz, recordOf, answerOf}
 use Rattle.txhz.specs.laws.Receipts.{receipt-read}
 use Rattle.txhz.specs.declared.Answer.the-variants.{Good, Refused}
 use borrow.Author.Needs.{needs}
 use Rattle.txhz.proofs.fields.Statement.{statement}
 use Rattle.txhz.proofs.fields.Tie as tie
+
+returns : tie.Need-returns
+returns c =
+    let i = c .before .before in
+    let a = i .args in
+    let n : a .code ≡ 0 → ⊥ = λ z. c .if1 .taken (i .pre z) in
+    sym (ap (λ o. answerOf (also recordOf o)) (held-back (a .code) (read txhz [] 0 (bitsOf (a .s .now))) n))
 
 head-requires : tie.Need-head-requires
 head-requires c κs = search needs
@@ -51,9 +61,9 @@ end-requires c κs = search needs
 told-requires : tie.Need-told-requires
 told-requires c κs = search needs
 
-returns : tie.Need-returns
+returns-2 : tie.Need-returns-2
 unfolding txhz recordOf
-returns c =
+returns-2 c =
     let ended = c .before in
     let c7 = ended .before .before in
     let c6 = c7 .before .before in
@@ -63,7 +73,7 @@ returns c =
     let c2 = c3 .before .before in
     let c1 = c2 .before .before in
     let c0 = c1 .before .before in
-    let a = c0 .before .before .args in
+    let a = c0 .before .before .before .args in
     let s = a .s .now in
     let r0 = head-read letters 35 35 _ s (a .code) (c0 .head .ensures .0) in
     let r1 = step-num 24 (lit< tt) (lit≤ tt) (lit< tt) 0 2_097_151 r0 (c1 .num .ensures .0) in
@@ -80,6 +90,7 @@ pub fields-spec : {M : Type 1} → statement M
 fields-spec =
     tie.close
     (tie.spec
+    returns
     head-requires
     cast-address
     num-requires
@@ -93,4 +104,4 @@ fields-spec =
     read-receipt-requires-5
     end-requires
     told-requires
-    returns)
+    returns-2)

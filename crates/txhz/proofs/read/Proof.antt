@@ -2,10 +2,11 @@
 use mathlib.Core.Path.{sym, ap, _∙_}
 use mathlib.Core.List.{[]}
 use Rattle.bits.specs.Bits.{bitsOf}
+use Rattle.frame.specs.laws.Sound.{first-size}
 use Rattle.layout.specs.Fmt.{also, check, read}
 use Rattle.layout.specs.Message.{fault}
 use Rattle.layout.specs.laws.Walked.{read-first}
-use Rattle.txhz.specs.Txhz.{txhz, txhzs, recordOf, answerOf}
+use Rattle.txhz.specs.Txhz.{letters, txhz, txhzs, recordOf, answerOf}
 use borrow.Author.Needs.{needs}
 use Rattle.txhz.proofs.read.Statement.{statement}
 use Rattle.txhz.proofs.read.Tie as tie
@@ -17,7 +18,9 @@ inner-requires : tie.Need-inner-requires
 inner-requires c κs = search needs
 
 fields-requires : tie.Need-fields-requires
-fields-requires c κs = search needs
+fields-requires c κs =
+    let first = c .before in
+    first-size letters 35 (first .before .before .args .s .now) (first .first .ensures) (c .inner .ensures)
 
 returns : tie.Need-returns
 unfolding txhzs
