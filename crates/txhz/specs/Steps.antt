@@ -1,6 +1,6 @@
 -- What the code's steps over one receipt answer and leave: read, judged, put; and the table of a correction. Assumes nothing.
 use Prim.Native.Nat.{ℕ, _+_}
-use mathlib.Core.Bool.{Bool, true, false, cond}
+use mathlib.Core.Bool.{Bool, cond}
 use mathlib.Core.List.{List, [], _∷_}
 use lib.Dec.{ltb}
 use Rattle.layout.specs.Correcting.{putIn}
@@ -12,7 +12,7 @@ use Rattle.txhz.specs.declared.Receipt.{Receipt}
 
 -- a byte read: 0 to most where the receipt is held, else fill
 abbrev pub slotRead : List ℕ → Bool → ℕ → Walk → Walk
-slotRead s held most r = cond held (ranged s 8 true 0 most 4 r) (ranged s 8 false 0 0 5 r)
+slotRead s held most r = ranged s 8 held 0 (cond held most 0) (cond held 4 5) r
 
 -- a receipt read: the walk past its last byte, and the value of the walk behind each
 unfoldable pub receiptRead : List ℕ → Bool → Walk → Passed

@@ -292,10 +292,19 @@ fn read_receipt(w: layout::walk::Walk, s: &[u8], held: bool) -> Passed
 fn read_slot(w: layout::walk::Walk, s: &[u8], held: bool, most: u64) -> layout::walk::Walk
     ensures { λ r. ⌜ (r ≡ slotRead (now (s .entry)) held most w) × (r .v < 2 ^ 8) ⌝ }
 {
-    if held {
-        return w.num(s, 8, 0, most);
-    }
-    w.number(s, 8, false, 0, 0, layout::FILL)
+    w.number(s, 8, held, 0, top(held, most), fault(held))
+}
+
+fn top(held: bool, most: u64) -> u64
+    ensures { λ r. ⌜ r ≡ cond held most 0 ⌝ }
+{
+    if held { most } else { 0 }
+}
+
+fn fault(held: bool) -> u8
+    ensures { λ r. ⌜ r ≡ cond held 4 5 ⌝ }
+{
+    if held { layout::RANGE } else { layout::FILL }
 }
 
 // ---- writing

@@ -1,19 +1,23 @@
--- `read_slot` is one step of the walk, by whether the receipt is held.
+-- `read_slot` is one step of the walk, its limit and its refusal by whether the receipt is held.
+use mathlib.Core.Path.{ap₂, _∙_}
+use Rattle.layout.specs.Reading.{ranged}
 use borrow.Author.Needs.{needs}
 use Rattle.txhz.proofs.read_slot.Statement.{statement}
 use Rattle.txhz.proofs.read_slot.Tie as tie
 
-num-requires : tie.Need-num-requires
-num-requires c κs = search needs
+top-requires : tie.Need-top-requires
+top-requires c κs = search needs
 
-returns : tie.Need-returns
-returns c = (rw (c .before .if1 .taken) (c .num .ensures .0), c .num .ensures .1)
+fault-requires : tie.Need-fault-requires
+fault-requires c κs = search needs
 
 number-requires : tie.Need-number-requires
 number-requires c κs = search needs
 
-returns-2 : tie.Need-returns-2
-returns-2 c = (rw (c .before .if1 .left) (c .number .ensures .0), c .number .ensures .1)
+returns : tie.Need-returns
+returns c =
+    let a = c .before .before .before .before .args in
+    (c .number .ensures .0 ∙ ap₂ (λ hi x. ranged (a .s .now) 8 (a .held) 0 hi x (a .w)) (c .before .before .top .ensures) (c .before .fault .ensures), c .number .ensures .1)
 
 pub read-slot-spec : {M : Type 1} → statement M
-read-slot-spec = tie.close (tie.spec num-requires returns number-requires returns-2)
+read-slot-spec = tie.close (tie.spec top-requires fault-requires number-requires returns)
