@@ -8,13 +8,14 @@ use borrow.Author.Tests.{le-leb, leb-true}
 use lib.Dec.{leb}
 use lib.ListN.{set, length, take, drop}
 use lib.Seq.{take-at}
-use Rattle.bits.specs.Bits.{Bytes}
+use Rattle.bits.specs.Bits.{Bytes, bitsOf, splice, putAt}
+use Rattle.bits.specs.laws.Fields.{length-put, bits-put}
 use Rattle.layout.specs.Fmt.{Out, accepted, refused, orBad, check, also, spot, none, found}
-use Rattle.layout.specs.Message.{Layout, Sound, codeOf, leaves, into, readMessage, writeMessage, correctMessage}
+use Rattle.layout.specs.Message.{Layout, Sound, body, codeOf, leaves, into, readMessage, writeMessage, correctMessage}
 use Rattle.layout.specs.Promises.{readRecord, Writes, Corrects}
 use Rattle.layout.specs.laws.Held.{Held, held}
 use Rattle.layout.specs.laws.Round.{clash, also-inv, read-write}
-use Rattle.layout.specs.laws.Whole.{was, made, write-read-message, read-write-message, correct-wide, Corrected, corrected, same-size}
+use Rattle.layout.specs.laws.Whole.{was, body-sealed, made, write-read-message, read-write-message, correct-wide, Corrected, corrected, same-size}
 use Rattle.layout.specs.laws.Zero.{Judged, Counted, no-zero-message, read-zero-message, correct-zero}
 
 -- What a family brings for its records of type R: those of them that a caller can lend, the values of a record, the record of values, and the record with one field changed.
@@ -179,3 +180,12 @@ module _ {l : Layout} {R : Type 0} {Lent : R → Type 0} {valuesOf : R → List 
       go : (o : Out (List ℕ)) → correctMessage l s i v ≡ o → 0 ≡ codeOf o → t ≡ leaves o s → Corrected l (F .sound) s i v t
       go (accepted u) e z x = corrected l (F .sound) s i v t (e ∙ ap accepted (sym x))
       go (refused c p) e z x = absurd (correct-zero l (F .sound) s i v p (F .judged) (e ∙ ap (λ c. refused c p) (sym z)))
+
+  -- Nothing outside the field and the seal differs: the body's bits are those before, with the field's made v, and the size is the same.
+  pub correction-bits : (s : List ℕ) (i v : ℕ) (t : List ℕ) (e : Corrects l s i v 0 t) → let c = accepted-correction s i v t e in
+      (bitsOf (body (l .seal) t) ≡ splice (c .place) (c .width) v (bitsOf (body (l .seal) s))) × (length (body (l .seal) t) ≡ length (body (l .seal) s))
+  correction-bits s i v t e =
+      let c = accepted-correction s i v t e in
+      let b = body (l .seal) s in
+      let is : body (l .seal) t ≡ putAt b (c .place) (c .width) v = ap (body (l .seal)) (c .changed) ∙ body-sealed (l .seal) (putAt b (c .place) (c .width) v) in
+      (ap bitsOf is ∙ bits-put b (c .place) (c .width) (c .within) v, ap length is ∙ length-put b (c .place) (c .width) v)

@@ -49,7 +49,7 @@ led-by (suc c) o e = clash e
 
 -- ---- seals
 
-body-sealed : (z : Bool) (t : List ℕ) → body z (sealed z t) ≡ t
+pub body-sealed : (z : Bool) (t : List ℕ) → body z (sealed z t) ≡ t
 body-sealed false t = refl
 body-sealed true t =
     let n : length (sealed true t) - 1 ≡ length t = omega (arith, length-append t (xorOf t ∷ [])) in
