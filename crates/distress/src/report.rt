@@ -155,8 +155,7 @@ fn fields(s: &[u8], lead: u8) -> Answer
     if s.len() != Report::LEAST {
         return Answer::Refused(lead);
     }
-    let w = layout::walk::Walk::begin(lead, 0);
-    let w = w.code(s, 16, CODE);
+    let w = layout::walk::Walk::begin(lead, 0).code(s, 16, CODE);
     let w = w.num(s, 32, 0, 999_999_999);
     let mmsi = w.v as u32;
     let w = w.signed(s, 25, 10_800_000, 22_754_432, 10_860_000);
@@ -176,7 +175,7 @@ fn fields(s: &[u8], lead: u8) -> Answer
     let w = w.num(s, 4, 0, 9);
     let kind = w.v as u8;
     let w = w.fill(s, 3).end(s);
-    let report = Report {
+    let r = Report {
         mmsi,
         longitude,
         latitude,
@@ -187,5 +186,5 @@ fn fields(s: &[u8], lead: u8) -> Answer
         course,
         kind,
     };
-    Answer::told(w.code, report)
+    Answer::told(w.code, r)
 }
