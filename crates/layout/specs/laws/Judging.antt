@@ -160,19 +160,6 @@ judge-fixed {h = h} w c n reach l e d =
     let x : cond (leb n n && leb n n) 0 (suc c) ≡ 0 = rw (le-leb n n (le-refl n)) refl in
     judge false n 0 0 (omega arith) reach opens-field (wrong-narrow w c (n ‥ n) h n l ∙ ap (λ c. blamed c 0) x) e d
 
--- a declared number, which the record gives: it is too wide, or good
-pub judge-declared : {o : Out (List Bool)} {f : Fmt} {h : List ℕ} {at v : ℕ} {vs : List ℕ} {r g : Walk} {m : List ℕ → Bool} (w c hi : ℕ) → at + w < 2 ^ 64 → hi + 1 ≡ 2 ^ w
-    → Judging o (field w (only w (suc c) (v ‥ v)) m f) h at (v ∷ vs) r → g ≡ valued w v 0 hi r → Judging o f (v ∷ h) (at + w) vs g
-judge-declared {h = h} {v = v} w c hi reach n e d = judge true v _ 0 (omega arith) reach opens-field (go (ltb v (2 ^ w)) refl) e d
-  where
-    go : (t : Bool) → ltb v (2 ^ w) ≡ t → wrong w (only w (suc c) (v ‥ v) h) v ≡ blamed (cond (leb 0 v && leb v hi) 0 4) 0
-    go true e =
-        let l = ltb-true v (2 ^ w) e in
-        wrong-narrow w c (v ‥ v) h v l ∙ rw (le-leb v v (le-refl v), le-leb 0 v (omega arith), le-leb v hi (omega arith)) refl
-    go false e =
-        let l = ltb-false v (2 ^ w) e in
-        wrong-wide w c (v ‥ v) h v l ∙ rw (lt-leb v hi (omega arith), and-false) refl
-
 -- ---- the start and the end
 
 -- the test of the kind answered c
