@@ -17,6 +17,10 @@ ranging s at w lo hi c = cond (within (length s) at w) (cond (leb lo (got s at w
 abbrev pub signing : List ℕ → ℕ → ℕ → ℕ → ℕ → ℕ → ℕ
 signing s at w top bottom none = cond (within (length s) at w) (cond (leb (got s at w) top || leb bottom (got s at w) || eqb (got s at w) none) 0 4) 1
 
+-- a fill's, by its halves
+abbrev pub blanking : List ℕ → ℕ → ℕ → ℕ
+blanking s at w = cond (leb (at + w) (length s * 8)) (cond (eqb (got s at (w / 2)) 0) (cond (eqb (got s ((at + w / 2) % 2 ^ 64) (w - w / 2)) 0) 0 5) 5) 1
+
 -- ---- the steps
 
 abbrev pub ranged : List ℕ → ℕ → Bool → ℕ → ℕ → ℕ → Walk → Walk
@@ -29,6 +33,10 @@ given s w c r = onward w false (got s (r .at) w) (cond (within (length s) (r .at
 -- content
 abbrev pub carried : List ℕ → ℕ → Walk → Walk
 carried s w r = onward w false 0 (cond (leb (r .at + w) (length s * 8)) 0 1) 0 r
+
+-- a fill of any width
+abbrev pub blanked : List ℕ → ℕ → Walk → Walk
+blanked s w r = onward w false 0 (blanking s (r .at) w) 0 r
 
 abbrev pub signedly : List ℕ → ℕ → ℕ → ℕ → ℕ → Walk → Walk
 signedly s w top bottom none r = onward w true (got s (r .at) w) (signing s (r .at) w top bottom none) 0 r

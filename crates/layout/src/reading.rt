@@ -6,7 +6,7 @@ ghost use lib.Dec.{eqb, leb};
 ghost use lib.ListN.{length};
 ghost use Rattle.bits.specs.Answers.{within, got};
 ghost use Rattle.layout.specs.Fmt.{pad};
-ghost use Rattle.layout.specs.Reading.{given, carried, ranged, ranging, signedly, signing, parted, grouped, wholly, closes, ended};
+ghost use Rattle.layout.specs.Reading.{given, carried, blanking, blanked, ranged, ranging, signedly, signing, parted, grouped, wholly, closes, ended};
 ghost use Rattle.layout.specs.Walk.{onward};
 use crate::walk::Walk;
 use crate::walk::choose;
@@ -77,6 +77,14 @@ impl Walk {
         ensures { λ r. ⌜ r ≡ ranged (now (s .entry)) w false 0 0 5 self ⌝ }
     {
         self.number(s, w, false, 0, 0, crate::FILL)
+    }
+
+    // Fill of up to 64 bits, looked at in two halves.
+    pub fn blank(self, s: &[u8], w: u32) -> Self
+        ensures { λ r. ⌜ r ≡ blanked (now (s .entry)) w self ⌝ }
+    {
+        let at = self.at;
+        self.wide(w as usize, clear(s, at, w))
     }
 
     // How many whole bytes are left: no bits.
@@ -198,6 +206,24 @@ fn lies(len: usize, at: usize, w: u32) -> bool
     ensures { λ r. ⌜ r ≡ leb (at + w) (len * 8) ⌝ }
 {
     at / 8 + (at % 8 + w as usize + 7) / 8 <= len
+}
+
+// 1 where w bits from bit `at` on do not lie within s, 5 where one of them is set.
+fn clear(s: &[u8], at: usize, w: u32) -> u8
+    ensures { λ r. ⌜ r ≡ blanking (now (s .entry)) at w ⌝ }
+{
+    let high = (w / 2) as usize;
+    let low = (w - w / 2) as usize;
+    if lies(s.len(), at, w) {
+        if bits::get(s, at, high) != 0 {
+            return crate::FILL;
+        }
+        if bits::get(s, std::num::wrapping_add_usize(at, high), low) != 0 {
+            return crate::FILL;
+        }
+        return 0;
+    }
+    crate::SIZE
 }
 
 // The fill bits up to a whole byte.

@@ -47,6 +47,9 @@ unfolding entries
 all-entries [] = refl
 all-entries (v ∷ vs) = ap (v ∷_) (shifted v 0 (length vs) vs ∙ all-entries vs)
 
--- Accepted values are the list of their entries.
+-- Accepted values are the list of their entries, behind any others.
+pub entries-behind : (f : Fmt) (h : List ℕ) (n : ℕ) (vs : List ℕ) → Long f n → Held f h vs → entries 0 n vs ≡ vs
+entries-behind f h n vs z e = ap (λ n. entries 0 n vs) (sym (held-long f h n vs z e)) ∙ all-entries vs
+
 pub held-entries : (f : Fmt) (n : ℕ) (vs : List ℕ) → Long f n → Held f [] vs → entries 0 n vs ≡ vs
-held-entries f n vs z e = ap (λ n. entries 0 n vs) (sym (held-long f [] n vs z e)) ∙ all-entries vs
+held-entries f n vs z e = entries-behind f [] n vs z e

@@ -8,7 +8,7 @@ use lib.Dec.{eqb}
 use lib.ListN.{length, take, drop, getD}
 use lib.Seq.{drop-drop, getD-drop}
 use Rattle.bits.specs.Bits.{valueOf}
-use Rattle.layout.specs.Fmt.{accepted, Judge, Fmt, end, field, choice, bytes, pad, orBad, read}
+use Rattle.layout.specs.Fmt.{Out, accepted, Judge, Fmt, end, field, choice, bytes, pad, orBad, readField, read}
 use Rattle.layout.specs.laws.First.{opened}
 use Rattle.layout.specs.laws.Round.{checked, accepted-inj, also-inv}
 
@@ -57,11 +57,25 @@ past (suc n) (bytes f) h at vs b k e =
     let p = past n (f v) (v ∷ h) at rest b k after in
     subst (λ vs. Past (suc n) (bytes f) vs b k) front (record { before = p .before; at = p .at; so = p .so })
 
--- Field n of an accepted message is the number at its place.
-pub value-at : (n : ℕ) (f : Fmt) (vs : List ℕ) (b : List Bool) → read f [] 0 b ≡ accepted vs → (w : ℕ) (j : Judge) (m : List ℕ → Bool) (g : Fmt) → behind n f vs ≡ field w j m g
-    → getD vs n 0 ≡ valueOf (take w (drop (reach n f vs 0) b))
-unfolding read
-value-at n f vs b e w j m g is =
-    let p = past n f [] 0 vs b 0 e in
-    let o = opened w j (p .before) (p .at) (drop (reach n f vs 0) b) (λ v r. read g (v ∷ p .before) (p .at + w) r) (drop n vs) (ap (λ k. read k (p .before) (p .at) (drop (reach n f vs 0) b)) (sym is) ∙ p .so) in
-    ap (λ k. getD vs k 0) (sym (add-zero n)) ∙ sym (getD-drop n vs 0 0) ∙ ap (λ l. getD l 0 0) (o .front)
+-- Field n of an accepted message is the number at its place,
+module _ (n : ℕ) (f : Fmt) (vs : List ℕ) (b : List Bool) (e : read f [] 0 b ≡ accepted vs) (w : ℕ) (j : Judge) where
+  abbrev here : List Bool
+  here = drop (reach n f vs 0) b
+
+  first-of : (h : List ℕ) (at : ℕ) (next : ℕ → List Bool → Out (List ℕ)) → readField w j h at here next ≡ accepted (drop n vs) → getD vs n 0 ≡ valueOf (take w here)
+  first-of h at next is =
+      let o = opened w j h at here next (drop n vs) is in
+      ap (λ k. getD vs k 0) (sym (add-zero n)) ∙ sym (getD-drop n vs 0 0) ∙ ap (λ l. getD l 0 0) (o .front)
+
+  pub value-at : (m : List ℕ → Bool) (g : Fmt) → behind n f vs ≡ field w j m g → getD vs n 0 ≡ valueOf (take w here)
+  unfolding read
+  value-at m g is =
+      let p = past n f [] 0 vs b 0 e in
+      first-of (p .before) (p .at) (λ v r. read g (v ∷ p .before) (p .at + w) r) (ap (λ k. read k (p .before) (p .at) here) (sym is) ∙ p .so)
+
+  -- whether it decides what follows or not.
+  pub choice-at : (g : ℕ → Fmt) → behind n f vs ≡ choice w j g → getD vs n 0 ≡ valueOf (take w here)
+  unfolding read
+  choice-at g is =
+      let p = past n f [] 0 vs b 0 e in
+      first-of (p .before) (p .at) (λ v r. read (g v) (v ∷ p .before) (p .at + w) r) (ap (λ k. read k (p .before) (p .at) here) (sym is) ∙ p .so)

@@ -1,6 +1,6 @@
 -- The code's walk reads a layout, field by field: each kind of field is one step, and the walk over all of them is the reading. Assumes nothing.
 use mathlib.Core.Path.{_≡_, refl, sym, ap, _∙_, subst, subst⁻¹}
-use mathlib.Core.Bool.{Bool, true, false, cond, _&&_, false≢true}
+use mathlib.Core.Bool.{Bool, true, false, cond, _&&_, and-false, false≢true}
 use mathlib.Core.List.{List, [], _∷_}
 use Prim.Native.Nat.{ℕ, zero, suc, _+_, _-_, _*_, _/_, _%_, _≤_, _<_, _^_}
 use native.Mathlib.Omega.{arith}
@@ -8,17 +8,18 @@ use native.Mathlib.Nat.{add-zero, zero-add, mod-eq-of-lt}
 use lib.Dec.{leb, eqb}
 use lib.ListN.{length, take, drop, length-drop}
 use lib.Pow.{pow-pos}
-use borrow.Author.Tests.{leb-true, ne-eqb}
+use borrow.Author.Tests.{le-leb, lt-leb, leb-true, ne-eqb}
 use Rattle.bits.specs.Bits.{valueOf, bitsOf, fieldAt}
 use Rattle.bits.specs.Answers.{within, got}
+use Rattle.bits.specs.laws.Answers.{got-fits}
 use Rattle.bits.specs.laws.Bytes.{length-bits}
-use Rattle.bits.specs.laws.Fields.{field-lt}
+use Rattle.bits.specs.laws.Fields.{field-lt, field-join}
 use Rattle.layout.specs.Fmt.{Out, accepted, refused, Judge, Fmt, field, choice, bytes, check, also, read, Spot, none, found, later, spot}
 use Rattle.layout.specs.Message.{fault}
-use Rattle.layout.specs.Reading.{ranging, signing, ranged, given, carried, signedly, wholly}
+use Rattle.layout.specs.Reading.{ranging, signing, blanking, ranged, given, carried, blanked, signedly, wholly}
 use Rattle.layout.specs.Walk.{begun, onward}
 use Rattle.layout.specs.Words.{Test, any, _‥_, signed, only, kept, num, code, fill}
-use Rattle.layout.specs.laws.Step.{sticky, sought, Reading, Steps, Tells, only-tells, step, step-choice, step-late, step-spots, told, tested, clean, also-also}
+use Rattle.layout.specs.laws.Step.{sticky, sought, blamed, Reading, Steps, Tells, only-tells, step, step-choice, step-late, step-spots, told, tested, clean, also-also}
 use Rattle.layout.specs.declared.walk.Walk.{Walk}
 
 -- ---- the code's steps
@@ -82,6 +83,48 @@ step-content {o} {all} {i} {s} {h} {at} {k} {r} {f = f} w reach e d =
     subst⁻¹ (λ g. Reading o all i s f (u ∷ h) (at + w) (λ vs. k (u ∷ vs)) g)
     (d ∙ ap (λ a. onward w false 0 (cond (leb (a + w) (length s * 8)) 0 1) 0 r) (e .here))
     (step-late 0 reach e (λ _ l. told s at w (only w 4 any) h (only-tells w 3 any h) reach (λ m. absurd (omega arith))))
+
+-- what stands in two halves is nothing where both are nothing
+blank-field : (s : List ℕ) (at w : ℕ) → w ≤ 64 → at + w < 2 ^ 64 → at + w ≤ length s * 8 → blanking s at w ≡ cond (leb 0 (fieldAt s at w) && leb (fieldAt s at w) 0) 0 5
+blank-field s at w small reach fits =
+    let a = w / 2 in
+    let b = w - w / 2 in
+    let whole : fieldAt s at w ≡ fieldAt s at a * 2 ^ b + fieldAt s (at + a) b = ap (fieldAt s at) (halves w) ∙ field-join s at a b (omega arith) in
+    let below : at + a < 2 ^ 64 = omega arith in
+    rw (le-leb (at + w) (length s * 8) fits, mod-eq-of-lt below, got-fits s at a (omega arith) (omega arith), got-fits s (at + a) b (omega arith) (omega arith), whole)
+    (go (fieldAt s at a) (fieldAt s (at + a) b) (2 ^ b) (pow-pos b))
+  where
+    halves : (w : ℕ) → w ≡ w / 2 + (w - w / 2)
+    halves w = omega arith
+
+    go : (x y n : ℕ) → 0 < n → _≡_ {A = ℕ} (cond (eqb x 0) (cond (eqb y 0) 0 5) 5) (cond (leb 0 (x * n + y) && leb (x * n + y) 0) 0 5)
+    go zero zero n l = let e : 0 * n + 0 ≡ 0 = omega arith in rw e refl
+    go zero (suc y) n l = rw (ne-eqb (suc y) 0 (λ z. omega arith), lt-leb (0 * n + suc y) 0 (omega arith), and-false) refl
+    go (suc x) y (suc n) l = rw (ne-eqb (suc x) 0 (λ z. omega arith), lt-leb (suc x * suc n + y) 0 (omega arith), and-false) refl
+    go (suc x) y zero l = absurd (omega arith)
+
+-- Fill of up to 64 bits.
+pub step-blank : {o : Out (List ℕ)} {all : Fmt} {i : ℕ} {s : List ℕ} {h : List ℕ} {at : ℕ} {k : List ℕ → List ℕ} {r : Walk} {g : Walk} {f : Fmt} (w : ℕ) → w ≤ 64 → at + w < 2 ^ 64
+    → Reading o all i s (fill w f) h at k r → g ≡ blanked s w r → Reading o all i s f (0 ∷ h) (at + w) (λ vs. k (0 ∷ vs)) g
+unfolding fieldAt
+step-blank {o} {all} {i} {s} {h} {at} {k} {r} {f = f} w small reach e d =
+    subst⁻¹ (λ g. Reading o all i s f (0 ∷ h) (at + w) (λ vs. k (0 ∷ vs)) g)
+    (d ∙ ap (λ a. onward w false 0 (blanking s a w) 0 r) (e .here))
+    (step-late 0 reach e (λ _ l.
+    let x = told s at w (only w 5 (0 ‥ 0)) h (only-tells w 4 (0 ‥ 0) h) reach (λ m. absurd (omega arith)) in
+    let c = same (leb (at + w) (length s * 8)) refl in
+    record { findable = x .findable; reach = reach; into = x .into; same = x .same ∙ ap (λ c. blamed c 0) (sym c); holds = λ z. sym (none (leb (at + w) (length s * 8)) (valueOf (take w (drop at (bitsOf s)))) (sym c ∙ z)) }))
+  where
+    v : ℕ
+    v = valueOf (take w (drop at (bitsOf s)))
+
+    same : (y : Bool) → leb (at + w) (length s * 8) ≡ y → blanking s at w ≡ cond (leb (at + w) (length s * 8)) (cond (leb 0 v && leb v 0) 0 5) 1
+    same true y = blank-field s at w small reach (leb-true (at + w) (length s * 8) y) ∙ rw y refl
+    same false y = rw y refl
+
+    none : (y : Bool) (v : ℕ) → _≡_ {A = ℕ} (cond y (cond (leb 0 v && leb v 0) 0 5) 1) 0 → v ≡ 0
+    none true v z = only-one 0 v 4 z
+    none false v z = absurd (omega (arith, z))
 
 module _ {o : Out (List ℕ)} {all : Fmt} {i : ℕ} {s : List ℕ} {h : List ℕ} {at : ℕ} {k : List ℕ → List ℕ} {r : Walk} {g : Walk}
     (w : ℕ) (some : 0 < w) (small : w ≤ 32) (reach : at + w < 2 ^ 64) where

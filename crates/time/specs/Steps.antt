@@ -1,0 +1,30 @@
+-- What the code's steps over a time answer: read, and judged. Assumes nothing.
+use Prim.Native.Nat.{ℕ}
+use mathlib.Core.Bool.{true}
+use mathlib.Core.List.{List}
+use Rattle.layout.specs.Judging.{unpieced, pieced}
+use Rattle.layout.specs.Reading.{parted, grouped}
+use Rattle.layout.specs.Walk.{onward}
+use Rattle.layout.specs.declared.judging.Pieces.{Pieces}
+use Rattle.layout.specs.declared.walk.Walk.{Walk}
+
+abbrev pub dateRead : List ℕ → Walk → Walk
+dateRead s r = parted s 5 0 23 (parted s 5 0 31 (parted s 4 0 12 r))
+
+abbrev pub timeRead : List ℕ → Walk → Walk
+timeRead s r = grouped s 20 (parted s 6 0 59 (dateRead s r)) r
+
+abbrev pub shortRead : List ℕ → Walk → Walk
+shortRead s r = grouped s 14 (dateRead s r) r
+
+abbrev pub datePieced : Pieces → Pieces
+datePieced g = pieced 5 0 23 (pieced 5 0 31 (pieced 4 0 12 g))
+
+abbrev pub judgedAs : Pieces → Walk → Walk
+judgedAs g r = onward (g .width) true (g .v) (g .code) (g .into) r
+
+abbrev pub timeJudged : ℕ → Walk → Walk
+timeJudged v r = judgedAs (pieced 6 0 59 (datePieced (unpieced 20 v))) r
+
+abbrev pub shortJudged : ℕ → Walk → Walk
+shortJudged v r = judgedAs (datePieced (unpieced 14 v)) r

@@ -1,0 +1,90 @@
+-- A time read and judged: where the code stands behind it. Assumes nothing.
+use mathlib.Core.Path.{_≡_, refl, ap, _∙_, subst⁻¹}
+use mathlib.Core.Bool.{Bool}
+use mathlib.Core.List.{List, [], _∷_}
+use Prim.Native.Nat.{ℕ, _+_, _≤_, _<_, _^_}
+use native.Mathlib.Omega.{arith}
+use lib.Dec.{lit<, lit≤}
+use lib.ListN.{take, drop, length-take}
+use Rattle.bits.specs.Answers.{got}
+use Rattle.bits.specs.Bits.{valueOf, bitsOf}
+use Rattle.layout.specs.Fmt.{Out, Fmt, field}
+use Rattle.layout.specs.Reading.{parted, grouped}
+use Rattle.layout.specs.Walk.{onward}
+use Rattle.layout.specs.Words.{Part, part, _‥_, walk, wide, free}
+use Rattle.layout.specs.laws.Group.{Parting, Passes, part-start, part-step, part-end, parts-there, group-step}
+use Rattle.layout.specs.laws.Judging.{Judging}
+use Rattle.layout.specs.laws.Pieces.{piece-start, piece-step, piece-end, judge-group}
+use Rattle.layout.specs.laws.Step.{Reading}
+use Rattle.layout.specs.laws.Zero.{Judged, Numbered, Coded, walk-numbered}
+use Rattle.layout.specs.declared.walk.Walk.{Walk}
+use Rattle.time.specs.Steps.{dateRead, timeRead, shortRead, timeJudged, shortJudged}
+use Rattle.time.specs.Time.{dateParts, time, shortTime}
+
+-- ---- read
+
+-- a part's number
+abbrev told : List Bool → ℕ → ℕ → ℕ
+told b into w = valueOf (take w (drop into b))
+
+-- over month, day and hour, the first of n bits, and in front of the parts ps
+date-parts : (s : List ℕ) (h : List ℕ) (at : ℕ) (r : Walk) (n : ℕ) (ps : List Part) → 14 ≤ n → at + n < 2 ^ 64 → r .at ≡ at → let b = take n (drop at (bitsOf s)) in
+    Parting r (walk (dateParts ps) 0 h b) at 14 b ps (told b 9 5 ∷ told b 4 5 ∷ told b 0 4 ∷ h) (dateRead s r)
+date-parts s h at r n ps inner reach here =
+    let b = take n (drop at (bitsOf s)) in
+    let p0 = part-start r at b (dateParts ps) h here in
+    let p1 = part-step s at n 0 4 0 12 (omega (arith, inner)) (lit< tt) (lit≤ tt) h _ reach p0 refl in
+    let p2 = part-step s at n 4 5 0 31 (omega (arith, inner)) (lit< tt) (lit≤ tt) _ _ reach p1 refl in
+    part-step s at n 9 5 0 23 (omega (arith, inner)) (lit< tt) (lit≤ tt) _ ps reach p2 refl
+
+module _ {o : Out (List ℕ)} {all : Fmt} {i : ℕ} {s : List ℕ} {h : List ℕ} {at : ℕ} {k : List ℕ → List ℕ} {r g : Walk} {f : Fmt} where
+  -- over a field of the parts ps, which led to p
+  parts-read : (n : ℕ) (ps : List Part) (p : Walk) → wide ps ≡ n → 0 < n → n ≤ 32 → at + n < 2 ^ 64 → Passes r (walk ps 0 h (take n (drop at (bitsOf s)))) at p
+      → Reading o all i s (field n (walk ps 0) free f) h at k r → g ≡ grouped s n p r → Reading o all i s f (g .v ∷ h) (at + n) (λ vs. k (g .v ∷ vs)) g
+  unfolding grouped onward
+  parts-read n ps p all-wide some small reach pass e d =
+      let v : g .v ≡ got s at n = ap (λ g. g .v) d ∙ ap (λ a. got s a n) (e .here) in
+      subst⁻¹ (λ v. Reading o all i s f (v ∷ h) (at + n) (λ vs. k (v ∷ vs)) g) v
+      (group-step p some small reach e pass (λ z. omega (arith, parts-there ps 0 h (take n (drop at (bitsOf s))) z, all-wide, length-take n (drop at (bitsOf s)))) d)
+
+  pub time-read : at + 20 < 2 ^ 64 → Reading o all i s (time f) h at k r → g ≡ timeRead s r → Reading o all i s f (g .v ∷ h) (at + 20) (λ vs. k (g .v ∷ vs)) g
+  unfolding wide
+  time-read reach e d =
+      let ps = part 6 4 (0 ‥ 59) ∷ [] in
+      let p = part-step s at 20 14 6 0 59 (lit≤ tt) (lit< tt) (lit≤ tt) _ [] reach (date-parts s h at r 20 ps (lit≤ tt) reach (e .here)) refl in
+      parts-read 20 (dateParts ps) (parted s 6 0 59 (dateRead s r)) refl (lit< tt) (lit≤ tt) reach (part-end p) e d
+
+  pub short-read : at + 14 < 2 ^ 64 → Reading o all i s (shortTime f) h at k r → g ≡ shortRead s r → Reading o all i s f (g .v ∷ h) (at + 14) (λ vs. k (g .v ∷ vs)) g
+  unfolding wide
+  short-read reach e d = parts-read 14 (dateParts []) (dateRead s r) refl (lit< tt) (lit≤ tt) reach (part-end (date-parts s h at r 14 [] (lit≤ tt) reach (e .here))) e d
+
+-- ---- judged
+
+module _ {o : Out (List Bool)} {f : Fmt} {h : List ℕ} {at v : ℕ} {vs : List ℕ} {r p : Walk} where
+  pub time-judged : at + 20 < 2 ^ 64 → Judging o (time f) h at (v ∷ vs) r → p ≡ timeJudged v r → Judging o f (v ∷ h) (at + 20) vs p
+  unfolding wide
+  time-judged reach e d =
+      let g0 = piece-start 20 v (dateParts (part 6 4 (0 ‥ 59) ∷ [])) h refl refl in
+      let g1 = piece-step 4 0 12 g0 refl in
+      let g2 = piece-step 5 0 31 g1 refl in
+      let g3 = piece-step 5 0 23 g2 refl in
+      judge-group reach (piece-end (piece-step 6 0 59 g3 refl)) e d
+
+  pub short-judged : at + 14 < 2 ^ 64 → Judging o (shortTime f) h at (v ∷ vs) r → p ≡ shortJudged v r → Judging o f (v ∷ h) (at + 14) vs p
+  unfolding wide
+  short-judged reach e d =
+      let g0 = piece-start 14 v (dateParts []) h refl refl in
+      let g1 = piece-step 4 0 12 g0 refl in
+      let g2 = piece-step 5 0 31 g1 refl in
+      judge-group reach (piece-end (piece-step 5 0 23 g2 refl)) e d
+
+-- ---- their refusals are numbers of the paper
+
+pub date-numbered : (ps : List Part) → Coded ps → Numbered (walk (dateParts ps) 0)
+date-numbered ps z = walk-numbered (dateParts ps) 0 ((λ z. omega arith), ((λ z. omega arith), ((λ z. omega arith), z)))
+
+pub time-numbered : (f : Fmt) → Judged f → Judged (time f)
+time-numbered f j = (date-numbered (part 6 4 (0 ‥ 59) ∷ []) ((λ z. omega arith), tt), j)
+
+pub short-numbered : (f : Fmt) → Judged f → Judged (shortTime f)
+short-numbered f j = (date-numbered [] tt, j)
