@@ -1,12 +1,12 @@
--- What the reading calls' promises and the sentence's decide, from the promises alone: one answer, lent memory untouched by a refusal, and the record of the family's own call. `bellnewt_distress_write` and `_correct` promise what every layout's calls do (layout/specs/laws/Family: one-writing, one-correction, refused-writing, refused-correction). Assumes nothing.
+-- What the reading calls' promises and the sentence's decide, from the promises alone: one answer, lent memory untouched by a refusal, and the record of the family's own call. `bellnewt_distress_write` and `_correct` promise what every layout's calls do (format/specs/laws/Family: one-writing, one-correction, refused-writing, refused-correction). Assumes nothing.
 use Prim.Native.Nat.{ℕ, _≤_}
 use mathlib.Core.Path.{_≡_, sym, subst, _∙_}
 use mathlib.Core.List.{List, _∷_, _++_}
 use lib.IntN.{ℤ, pos}
 use lib.ListN.{length, drop}
-use Rattle.layout.specs.Fmt.{Out, accepted, refused, also}
-use Rattle.layout.specs.Message.{codeOf, into, leaves}
-use Rattle.layout.specs.laws.Family.{refused-stands}
+use Rattle.format.specs.Fmt.{Out, accepted, refused, also}
+use Rattle.format.specs.Message.{codeOf, into, leaves}
+use Rattle.format.specs.laws.Family.{refused-stands}
 use Rattle.sentence.specs.laws.Demands.{no-zero-heard}
 use Rattle.distress.specs.Promises.{Reads}
 use Rattle.distress.specs.declared.report.Report.{Report}

@@ -2,8 +2,8 @@
 use Prim.Native.Nat.{ℕ}
 use mathlib.Core.List.{List, [], _∷_}
 use lib.IntN.{ℤ, pos}
-use Rattle.layout.specs.Fmt.{Out, also}
-use Rattle.layout.specs.Promises.{readRecord}
+use Rattle.format.specs.Fmt.{Out, also}
+use Rattle.format.specs.Promises.{readRecord}
 use Rattle.distress.specs.Report.{reports, reportOf}
 use Rattle.distress.specs.declared.report.Report.{Report}
 

@@ -4,8 +4,8 @@ use mathlib.Core.Path.{_≡_}
 use mathlib.Core.List.{List, _∷_}
 use lib.IntN.{ℤ, pos}
 use lib.ListN.{length}
-use Rattle.layout.specs.Fmt.{Out, also}
-use Rattle.layout.specs.Message.{codeOf, leaves}
+use Rattle.format.specs.Fmt.{Out, also}
+use Rattle.format.specs.Message.{codeOf, leaves}
 use Rattle.sentence.specs.Sentence.{readSentence, writeSentence, roomFor, laidOver}
 use Rattle.distress.specs.declared.report.Report.{Report}
 use Rattle.relay.specs.Report.{rowOf}

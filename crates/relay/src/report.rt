@@ -5,7 +5,7 @@ ghost use lib.IntN.{pos};
 ghost use Rattle.rows.specs.Row.{Fills};
 ghost use Rattle.relay.specs.Report.{rowOf, numbersOf, recordOf};
 ghost use Rattle.distress.specs.Report.{reports, valuesOf};
-ghost use Rattle.layout.specs.Promises.{Writes, Corrects};
+ghost use Rattle.format.specs.Promises.{Writes, Corrects};
 use distress::report::Answer;
 use distress::report::Report;
 

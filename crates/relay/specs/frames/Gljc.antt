@@ -2,8 +2,8 @@
 use Prim.Native.Nat.{ℕ}
 use mathlib.Core.List.{List, [], _∷_}
 use lib.IntN.{ℤ, pos}
-use Rattle.layout.specs.Fmt.{Out, accepted, refused, also}
-use Rattle.layout.specs.Promises.{readRecord}
+use Rattle.format.specs.Fmt.{Out, accepted, refused, also}
+use Rattle.format.specs.Promises.{readRecord}
 use Rattle.gljc.specs.Gljc.{gljcs, recordOf as framed}
 use Rattle.gljc.specs.declared.Gljc.{Gljc}
 use Rattle.gljc.specs.declared.Answer.{Answer}

@@ -5,9 +5,9 @@ use mathlib.Core.List.{List, [], _∷_}
 use lib.Dec.{eqb}
 use lib.IntN.{ℤ, pos}
 use lib.ListN.{length, getD}
-use Rattle.layout.specs.Fmt.{Out, accepted, refused, orBad, check, also}
-use Rattle.layout.specs.Message.{codeOf, leaves, into, writeMessage}
-use Rattle.layout.specs.Promises.{readRecord}
+use Rattle.format.specs.Fmt.{Out, accepted, refused, orBad, check, also}
+use Rattle.format.specs.Message.{codeOf, leaves, into, writeMessage}
+use Rattle.format.specs.Promises.{readRecord}
 use Rattle.txhz.specs.Txhz.{txhzs, valuesOf, recordOf as framed}
 use Rattle.txhz.specs.declared.Receipt.{Receipt}
 use Rattle.txhz.specs.declared.Txhz.{Txhz}

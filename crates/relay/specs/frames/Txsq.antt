@@ -3,8 +3,8 @@ use Prim.Native.Nat.{ℕ}
 use mathlib.Core.List.{List, [], _∷_}
 use lib.IntN.{ℤ, pos}
 use Rattle.frame.specs.Frame.{bytesFor}
-use Rattle.layout.specs.Fmt.{Out, accepted, refused, also}
-use Rattle.layout.specs.Promises.{readRecord}
+use Rattle.format.specs.Fmt.{Out, accepted, refused, also}
+use Rattle.format.specs.Promises.{readRecord}
 use Rattle.txsq.specs.Txsq.{txsqs, recordOf as framed}
 use Rattle.txsq.specs.declared.Txsq.{Txsq}
 use Rattle.txsq.specs.declared.Answer.{Answer}

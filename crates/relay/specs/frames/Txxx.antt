@@ -3,8 +3,8 @@ use Prim.Native.Nat.{ℕ}
 use mathlib.Core.List.{List, [], _∷_}
 use lib.IntN.{ℤ, pos}
 use Rattle.frame.specs.Frame.{bytesFor}
-use Rattle.layout.specs.Fmt.{Out, accepted, refused, also}
-use Rattle.layout.specs.Promises.{readRecord}
+use Rattle.format.specs.Fmt.{Out, accepted, refused, also}
+use Rattle.format.specs.Promises.{readRecord}
 use Rattle.txxx.specs.Txxx.{txxxs, recordOf as framed}
 use Rattle.txxx.specs.declared.Txxx.{Txxx}
 use Rattle.txxx.specs.declared.Answer.{Answer}

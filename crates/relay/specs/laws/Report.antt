@@ -7,14 +7,14 @@ use lib.IntN.{ℤ}
 use mir.Syntax.{w32}
 use mir.Val.{SFits, toZ, ofZ}
 use mir.ValLaws.{toZ-ofZ}
-use Rattle.layout.specs.Fmt.{Out, accepted, refused, also}
-use Rattle.layout.specs.laws.Family.{never-read}
+use Rattle.format.specs.Fmt.{Out, accepted, refused, also}
+use Rattle.format.specs.laws.Family.{never-read}
 use Rattle.distress.specs.laws.Demands.{family}
 use Rattle.distress.specs.Promises.{Reads}
 use Rattle.distress.specs.Report.{reports, reportOf, answerOf}
 use Rattle.distress.specs.declared.report.Report.{Report}
 use Rattle.distress.specs.declared.report.Answer.the-variants.{Good, Refused}
-use Rattle.layout.specs.Promises.{readRecord}
+use Rattle.format.specs.Promises.{readRecord}
 use Rattle.rows.specs.Row.{Fills}
 use Rattle.relay.specs.Report.{rowOf, numbersOf, recordOf}
 use Rattle.rows.specs.laws.Row.{row-refused}

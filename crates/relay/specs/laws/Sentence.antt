@@ -5,8 +5,8 @@ use mathlib.Core.List.{List, _∷_}
 use native.Mathlib.Omega.{arith}
 use lib.IntN.{ℤ, pos}
 use lib.ListN.{length}
-use Rattle.layout.specs.Fmt.{Out, accepted, refused, also}
-use Rattle.layout.specs.Message.{codeOf, leaves}
+use Rattle.format.specs.Fmt.{Out, accepted, refused, also}
+use Rattle.format.specs.Message.{codeOf, leaves}
 use Rattle.sentence.specs.Sentence.{readSentence, heardOf, sentOf, Hears, Sends}
 use Rattle.distress.specs.declared.report.Report.{Report}
 use Rattle.sentence.specs.declared.Heard.the-variants.{Good, Refused}

@@ -3,7 +3,7 @@ ghost use mathlib.Core.Path.{_≡_};
 ghost use Rattle.rows.specs.Row.{Fills};
 ghost use Rattle.relay.specs.frames.Gljc.{rowOf, numbersOf, recordOf};
 ghost use Rattle.gljc.specs.Gljc.{gljcs, valuesOf};
-ghost use Rattle.layout.specs.Promises.{Writes, Corrects};
+ghost use Rattle.format.specs.Promises.{Writes, Corrects};
 use gljc::Answer;
 use gljc::Gljc;
 

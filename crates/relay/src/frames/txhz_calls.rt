@@ -5,7 +5,7 @@ ghost use lib.ListN.{length};
 ghost use Rattle.rows.specs.Row.{Fills};
 ghost use Rattle.relay.specs.frames.Txhz.{rowOf, numbersOf, receiptAt, TxhzWrites};
 ghost use Rattle.txhz.specs.Txhz.{txhzs};
-ghost use Rattle.layout.specs.Promises.{Corrects};
+ghost use Rattle.format.specs.Promises.{Corrects};
 use txhz::Answer;
 use txhz::Receipt;
 use txhz::Txhz;
@@ -40,7 +40,7 @@ pub extern "C" fn bellnewt_txhz_write(
     ensures { λ code. ⌜ TxhzWrites (now (buf .entry)) (now (receipts .entry)) address receiver count code (now (buf .exit)) ⌝ }
 {
     if receipts.len() != RECEIPTS {
-        return layout::SIZE;
+        return format::SIZE;
     }
     let r = Txhz {
         address,

@@ -3,7 +3,7 @@ ghost use mathlib.Core.Path.{_≡_};
 ghost use Rattle.rows.specs.Row.{Fills};
 ghost use Rattle.relay.specs.frames.Txsq.{rowOf, numbersOf, recordOf};
 ghost use Rattle.txsq.specs.Txsq.{txsqs, valuesOf};
-ghost use Rattle.layout.specs.Promises.{Writes, Corrects};
+ghost use Rattle.format.specs.Promises.{Writes, Corrects};
 use txsq::Answer;
 use txsq::Txsq;
 

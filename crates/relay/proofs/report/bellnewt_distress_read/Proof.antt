@@ -3,7 +3,7 @@ use mathlib.Core.Path.{sym, ap, subst, _∙_}
 use mathlib.Core.List.{List}
 use lib.IntN.{ℤ}
 use lib.ListN.{take, drop}
-use Rattle.layout.specs.Fmt.{Out, accepted}
+use Rattle.format.specs.Fmt.{Out, accepted}
 use Rattle.rows.specs.Row.{Fills}
 use Rattle.relay.specs.Report.{rowOf}
 use Rattle.relay.specs.laws.Report.{good-numbers, refused-numbers}

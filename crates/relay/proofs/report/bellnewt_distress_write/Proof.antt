@@ -1,7 +1,7 @@
 -- `bellnewt_distress_write` is the report's `write` of the record of its numbers.
 use mathlib.Core.Path.{subst}
 use Rattle.distress.specs.Report.{reports, valuesOf}
-use Rattle.layout.specs.Promises.{Writes}
+use Rattle.format.specs.Promises.{Writes}
 use Rattle.distress.specs.declared.report.Report.{Report}
 use Rattle.relay.specs.Report.{recordOf}
 use Rattle.relay.specs.laws.Report.{kept}

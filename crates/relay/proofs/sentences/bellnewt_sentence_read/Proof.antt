@@ -2,7 +2,7 @@
 use mathlib.Core.Path.{sym, ap, subst, _∙_}
 use mathlib.Core.List.{List}
 use lib.IntN.{ℤ}
-use Rattle.layout.specs.Fmt.{Out, accepted}
+use Rattle.format.specs.Fmt.{Out, accepted}
 use Rattle.rows.specs.Row.{Fills}
 use Rattle.relay.specs.laws.Sentence.{heard-numbers, refused-sentence}
 use borrow.Author.Needs.{needs}

@@ -1,6 +1,6 @@
 -- `bellnewt_gljc_read` is the frame's `read`, and its record's numbers in the row.
 use mathlib.Core.Path.{refl}
-use Rattle.layout.specs.Promises.{readRecord}
+use Rattle.format.specs.Promises.{readRecord}
 use Rattle.rows.specs.laws.Row.{fills-good, fills-refused}
 use Rattle.gljc.specs.Gljc.{gljcs, recordOf as framed}
 use Rattle.gljc.specs.declared.Answer.the-variants.{Good, Refused}

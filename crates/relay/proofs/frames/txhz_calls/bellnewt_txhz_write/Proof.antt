@@ -2,7 +2,7 @@
 use mathlib.Core.Path.{refl, subst}
 use lib.ListN.{length}
 use borrow.Author.Tests.{eq-eqb, ne-eqb}
-use Rattle.layout.specs.Promises.{Writes}
+use Rattle.format.specs.Promises.{Writes}
 use Rattle.txhz.specs.Txhz.{txhzs, valuesOf}
 use Rattle.txhz.specs.declared.Txhz.{Txhz}
 use borrow.Author.Needs.{needs}

@@ -1,6 +1,6 @@
 -- `bellnewt_txsq_read` is the frame's `read`, and its record's numbers in the row.
 use mathlib.Core.Path.{refl}
-use Rattle.layout.specs.Promises.{readRecord}
+use Rattle.format.specs.Promises.{readRecord}
 use Rattle.rows.specs.laws.Row.{fills-good, fills-refused}
 use Rattle.txsq.specs.Txsq.{txsqs, recordOf as framed}
 use Rattle.txsq.specs.declared.Answer.the-variants.{Good, Refused}
