@@ -4,8 +4,8 @@ use mathlib.Core.Bool.{cond}
 use mathlib.Core.List.{List, [], _∷_}
 use lib.Dec.{eqb}
 use lib.ListN.{getD}
-use Rattle.layout.specs.Fmt.{Fmt}
-use Rattle.layout.specs.Words.{_‥_, _▹_, num, fill}
+use Rattle.format.specs.Fmt.{Fmt}
+use Rattle.format.specs.Words.{_‥_, _▹_, num, fill}
 use Rattle.bodies.specs.declared.Body.{Body}
 use Rattle.bodies.specs.declared.Body.the-variants.{Cyclone, Gale, Waves, Fog, Surge}
 

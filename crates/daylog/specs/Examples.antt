@@ -6,9 +6,9 @@ use Rattle.bits.specs.Bits.{bit, valueOf, digits, bitsOf, fieldAt}
 use Rattle.bits.specs.Xor.{xorOf}
 use Rattle.frame.specs.Frame.{leads}
 use Rattle.gljc.specs.Gljc.{gljc, gljcs}
-use Rattle.layout.specs.Fmt.{readField, read}
-use Rattle.layout.specs.Message.{readMessage}
-use Rattle.layout.specs.Words.{walk}
+use Rattle.format.specs.Fmt.{readField, read}
+use Rattle.format.specs.Message.{readMessage}
+use Rattle.format.specs.Words.{walk}
 use Rattle.serial.specs.Serial.{codeAs, codeOf as serialCode}
 use Rattle.daylog.specs.Text.{digitsBy, decimal, line, head, serial, unknown, broken}
 use Rattle.daylog.specs.Log.{word, codeOf, front, recordsBy, records, sizeOf, after-all, entryLine, lines, listingFrom, listing}

@@ -4,8 +4,7 @@ use mathlib.Core.Bool.{cond}
 use mathlib.Core.List.{List, [], _∷_, _++_}
 use lib.Dec.{leb, eqb}
 use lib.ListN.{length, getD, take, drop}
-use Rattle.layout.specs.Message.{between, readMessage}
-use Rattle.layout.specs.Message.{codeOf as refusal}
+use Rattle.format.specs.Message.{between, readMessage, codeOf as refusal}
 use Rattle.distress.specs.Report.{reports}
 use Rattle.serial.specs.Serial.{codeOf as serialCode}
 use Rattle.daylog.specs.Text.{line, head, serial, distress, unknown, broken}

@@ -7,7 +7,7 @@ ghost use lib.ListN.{length};
 ghost use Rattle.daylog.specs.Text.{decimal as Text·decimal, line as Text·line};
 ghost use Rattle.daylog.specs.Log.{front, codeOf, entryLine};
 ghost use Rattle.daylog.specs.Promises.{Stores, Lists, Ends, Heads, Keeps};
-ghost use Rattle.layout.specs.Message.{codeOf as Message·codeOf, readMessage};
+ghost use Rattle.format.specs.Message.{codeOf as Message·codeOf, readMessage};
 ghost use Rattle.distress.specs.Report.{reports};
 
 // A record's head: its length and its kind.
@@ -94,7 +94,7 @@ pub fn ending(out: &mut [u8], number: u64, left: u64) -> usize
     if left == 0 {
         return 0;
     }
-    line(out, 0, number, b"broken", layout::SIZE, left)
+    line(out, 0, number, b"broken", format::SIZE, left)
 }
 
 pub fn heading(out: &mut [u8]) -> usize
@@ -131,7 +131,7 @@ pub fn code(kind: u16, body: &[u8]) -> u8
     match kind {
         1 => serial::code(body),
         3 => report(body),
-        _ => layout::KIND,
+        _ => format::KIND,
     }
 }
 

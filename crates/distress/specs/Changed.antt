@@ -4,8 +4,8 @@ use mathlib.Core.Bool.{cond}
 use mathlib.Core.List.{List, [], _∷_}
 use lib.Dec.{eqb}
 use lib.ListN.{getD}
-use Rattle.layout.specs.Fmt.{Spot, none, found}
-use Rattle.layout.specs.Sign.{intOf}
+use Rattle.format.specs.Fmt.{Spot, none, found}
+use Rattle.field.specs.Sign.{intOf}
 use Rattle.distress.specs.declared.report.Report.{Report}
 
 -- the fields in bit order: where each that may be corrected stands, and its width; the code and the fill may not be

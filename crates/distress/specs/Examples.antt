@@ -4,10 +4,10 @@ use mathlib.Core.List.{List, [], _∷_}
 use Prim.Native.Nat.{ℕ}
 use lib.IntN.{pos}
 use Rattle.bits.specs.Bits.{bit, valueOf, digits, bitsOf, bytesOf, fieldAt}
-use Rattle.layout.specs.Fmt.{accepted, refused, readField, read, writeField, write}
-use Rattle.layout.specs.Message.{codeOf, readMessage, writeMessage}
-use Rattle.layout.specs.Sign.{spellOf}
-use Rattle.layout.specs.Words.{walk}
+use Rattle.format.specs.Fmt.{accepted, refused, readField, read, writeField, write}
+use Rattle.format.specs.Message.{codeOf, readMessage, writeMessage}
+use Rattle.field.specs.Sign.{spellOf}
+use Rattle.format.specs.Words.{walk}
 use Rattle.distress.specs.Report.{report, reports, valuesOf}
 use Rattle.distress.specs.declared.report.Report.{Report}
 

@@ -6,13 +6,13 @@ use mathlib.Core.List.{List, [], _∷_}
 use lib.Dec.{eqb, lit≤}
 use lib.ListN.{length, getD}
 use Rattle.bits.specs.Bits.{fieldAt}
-use Rattle.layout.specs.Fmt.{Out, Fmt, end}
-use Rattle.layout.specs.Message.{Layout, led, between}
-use Rattle.layout.specs.Promises.{answered}
-use Rattle.layout.specs.Sign.{intOf, spellOf}
-use Rattle.layout.specs.Words.{_‥_, signed, _▹_, num, code, fill}
-use Rattle.layout.specs.laws.Flat.{Plain, span}
-use Rattle.layout.specs.laws.Sign.{int-spell}
+use Rattle.format.specs.Fmt.{Out, Fmt, end}
+use Rattle.format.specs.Message.{Layout, led, between}
+use Rattle.format.specs.Promises.{answered}
+use Rattle.field.specs.Sign.{intOf, spellOf}
+use Rattle.format.specs.Words.{_‥_, signed, _▹_, num, code, fill}
+use Rattle.format.specs.laws.Extent.{Plain, span}
+use Rattle.field.specs.laws.Sign.{int-spell}
 use Rattle.distress.specs.declared.report.Report.{Report}
 use Rattle.distress.specs.declared.report.making.Values.{Values}
 use Rattle.distress.specs.declared.report.Answer.{Answer}

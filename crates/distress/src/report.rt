@@ -8,9 +8,9 @@ ghost use lib.ListN.{length};
 ghost use Rattle.distress.specs.Report.{reports, report, valuesOf, reportOf, answerOf, numberOf};
 ghost use Rattle.distress.specs.Promises.{Reads};
 ghost use Rattle.bits.specs.Bits.{bitsOf};
-ghost use Rattle.layout.specs.Fmt.{also, check, read};
-ghost use Rattle.layout.specs.Message.{fault};
-ghost use Rattle.layout.specs.Promises.{Writes, Corrects};
+ghost use Rattle.format.specs.Fmt.{also, check, read};
+ghost use Rattle.format.specs.Message.{fault};
+ghost use Rattle.format.specs.Promises.{Writes, Corrects};
 
 mod making;
 
@@ -108,7 +108,7 @@ pub fn write(buf: &mut [u8], r: Report) -> u8
         return code;
     }
     if buf.len() < Report::LEAST {
-        return layout::ROOM;
+        return format::ROOM;
     }
     making::put(buf, v);
     0
@@ -119,16 +119,16 @@ pub fn correct(buf: &mut [u8], field: usize, value: u64) -> u8
     ensures { λ code. ⌜ Corrects reports (now (buf .entry)) field value code (now (buf .exit)) ⌝ }
 {
     let was = fields(buf, lead(buf));
-    let spot = layout::correcting::look_up(&PLACES, &WIDTHS, field);
+    let spot = change::correcting::look_up(&PLACES, &WIDTHS, field);
     let at = spot.at;
     let width = spot.width;
-    let code = layout::correcting::admits(was.refusal(), width, value);
+    let code = change::correcting::admits(was.refusal(), width, value);
     if code != 0 {
         return code;
     }
-    let old = layout::correcting::swap(buf, at, width, value);
+    let old = change::correcting::swap(buf, at, width, value);
     let again = fields(buf, 0);
-    layout::correcting::settle(buf, at, width, old, again.refusal())
+    change::correcting::settle(buf, at, width, old, again.refusal())
 }
 
 // The first tests: smallest size, code, size.
@@ -136,13 +136,13 @@ fn lead(s: &[u8]) -> u8
     ensures { λ r. ⌜ r ≡ reports .lead (now (s .entry)) ⌝ }
 {
     if s.len() < Report::LEAST {
-        return layout::SIZE;
+        return format::SIZE;
     }
     if bits::get(s, 0, 16) != CODE {
-        return layout::KIND;
+        return format::KIND;
     }
     if s.len() > Report::GREATEST {
-        return layout::SIZE;
+        return format::SIZE;
     }
     0
 }
@@ -159,9 +159,9 @@ fn fields(s: &[u8], lead: u8) -> Answer
     let w = w.num(s, 32, 0, 999_999_999);
     let mmsi = w.v as u32;
     let w = w.signed(s, 25, 10_800_000, 22_754_432, 10_860_000);
-    let longitude = layout::sign::int(w.v, 33_554_432);
+    let longitude = field::sign::int(w.v, 33_554_432);
     let w = w.signed(s, 24, 5_400_000, 11_377_216, 5_460_000);
-    let latitude = layout::sign::int(w.v, 16_777_216);
+    let latitude = field::sign::int(w.v, 16_777_216);
     let w = w.num(s, 5, 0, 31);
     let day = w.v as u8;
     let w = w.num(s, 5, 0, 24);

@@ -5,9 +5,9 @@ use mathlib.Core.List.{List, _++_}
 use lib.Dec.{ltb, eqb}
 use lib.ListN.{length}
 use Rattle.bits.specs.Bits.{fieldAt, digits, bytesOf}
-use Rattle.layout.specs.Fmt.{Fmt, field, pad}
-use Rattle.layout.specs.Message.{Layout, led, between}
-use Rattle.layout.specs.Words.{_‥_, _▹_, only, kept, num, code}
+use Rattle.format.specs.Fmt.{Fmt, field, pad}
+use Rattle.format.specs.Message.{Layout, led, between}
+use Rattle.format.specs.Words.{_‥_, _▹_, only, kept, num, code}
 
 -- an address: the own one, a receiver's or a sender's
 abbrev pub address : Fmt → Fmt

@@ -2,7 +2,7 @@
 use Prim.Native.Nat.{ℕ}
 use mathlib.Core.Bool.{true, false}
 use mathlib.Core.List.{List}
-use Rattle.layout.specs.Correcting.{putIn}
+use Rattle.format.specs.Correcting.{putIn}
 use Rattle.layout.specs.Judging.{valued}
 use Rattle.layout.specs.Reading.{ranged}
 use Rattle.layout.specs.Walk.{begun, onward}

@@ -4,8 +4,8 @@ ghost use mathlib.Core.Bool.{true, cond};
 ghost use Prim.Native.Nat.{_+_, _<_, _^_};
 ghost use Rattle.frame.specs.Frame.{leads, declared as Frame·declared, fits};
 ghost use Rattle.frame.specs.Steps.{headed, headJudged, headPut};
-ghost use Rattle.layout.specs.Fmt.{pad};
-ghost use Rattle.layout.specs.Message.{firstOf, sealFault};
+ghost use Rattle.format.specs.Fmt.{pad};
+ghost use Rattle.format.specs.Message.{firstOf, sealFault};
 
 pub const DOLLAR: u64 = 0x24;
 
@@ -26,30 +26,30 @@ pub const MINUTE: u64 = 59;
 pub fn first(s: &[u8], letters: u64, least: usize, most: usize) -> u8
     ensures { λ r. ⌜ r ≡ firstOf (sealFault true (now (s .entry))) (leads letters least most (now (s .entry))) ⌝ }
 {
-    layout::sealing::stamped(s, lead(s, letters, least, most))
+    change::sealing::stamped(s, lead(s, letters, least, most))
 }
 
 fn lead(s: &[u8], letters: u64, least: usize, most: usize) -> u8
     ensures { λ r. ⌜ r ≡ leads letters least most (now (s .entry)) ⌝ }
 {
     if s.len() < LEAST {
-        return layout::SIZE;
+        return format::SIZE;
     }
     if bits::get(s, 0, 8) != DOLLAR {
-        return layout::KIND;
+        return format::KIND;
     }
     if bits::get(s, 8, 32) != letters {
-        return layout::KIND;
+        return format::KIND;
     }
     if s.len() < least {
-        return layout::SIZE;
+        return format::SIZE;
     }
     if s.len() > most {
-        return layout::SIZE;
+        return format::SIZE;
     }
     let length = bits::get(s, 40, 16) as usize;
     if length != s.len() {
-        return layout::SIZE;
+        return format::SIZE;
     }
     0
 }
@@ -61,7 +61,7 @@ pub fn head(s: &[u8], code: u8, letters: u64, least: u64, most: u64) -> layout::
     let w = layout::walk::Walk::begin(code, 0);
     let w = w.code(s, 8, DOLLAR);
     let w = w.code(s, 32, letters);
-    let w = w.number(s, 16, false, least, most, layout::SIZE);
+    let w = w.number(s, 16, false, least, most, format::SIZE);
     w.num(s, 24, 0, ADDRESS)
 }
 
@@ -104,7 +104,7 @@ pub fn sized(fixed: u8, length: u64, size: u64) -> u8
     if length == fixed as u64 + size / 8 + (size % 8 + 7) / 8 {
         0
     } else {
-        layout::SIZE
+        format::SIZE
     }
 }
 

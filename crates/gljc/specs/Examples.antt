@@ -5,9 +5,9 @@ use Prim.Native.Nat.{ℕ}
 use Rattle.bits.specs.Bits.{bit, valueOf, digits, bitsOf, bytesOf, fieldAt}
 use Rattle.bits.specs.Xor.{xorOf}
 use Rattle.frame.specs.Frame.{leads}
-use Rattle.layout.specs.Fmt.{accepted, refused, readField, read, writeField, write}
-use Rattle.layout.specs.Message.{readMessage, writeMessage}
-use Rattle.layout.specs.Words.{walk}
+use Rattle.format.specs.Fmt.{accepted, refused, readField, read, writeField, write}
+use Rattle.format.specs.Message.{readMessage, writeMessage}
+use Rattle.format.specs.Words.{walk}
 use Rattle.gljc.specs.Gljc.{letters, gljc, gljcs, valuesOf}
 
 -- `24 47 4C 4A 43 00 0C 00 00 00 00` and a last byte

@@ -3,10 +3,10 @@ use Prim.Native.Nat.{ℕ}
 use mathlib.Core.List.{List, [], _∷_}
 use lib.ListN.{getD}
 use Rattle.frame.specs.Frame.{frame, frames}
-use Rattle.layout.specs.Fmt.{Out, Fmt, end}
-use Rattle.layout.specs.Message.{Layout}
-use Rattle.layout.specs.Promises.{answered}
-use Rattle.layout.specs.Words.{_‥_, _▹_, num}
+use Rattle.format.specs.Fmt.{Out, Fmt, end}
+use Rattle.format.specs.Message.{Layout}
+use Rattle.format.specs.Promises.{answered}
+use Rattle.format.specs.Words.{_‥_, _▹_, num}
 use Rattle.gljc.specs.declared.Gljc.{Gljc}
 use Rattle.gljc.specs.declared.Answer.{Answer}
 use Rattle.gljc.specs.declared.Answer.the-variants.{Good, Refused}

@@ -1,8 +1,8 @@
--- What `read` promises of the bytes s that it is lent; writing and correcting promise what every layout's do (layout/specs/Promises). Assumes nothing.
+-- What `read` promises of the bytes s that it is lent; writing and correcting promise what every layout's do (format/specs/Promises). Assumes nothing.
 use mathlib.Core.Path.{_≡_}
 use mathlib.Core.List.{List}
 use Prim.Native.Nat.{ℕ}
-use Rattle.layout.specs.Promises.{readRecord}
+use Rattle.format.specs.Promises.{readRecord}
 use Rattle.gljc.specs.Gljc.{gljcs, recordOf, answerOf}
 use Rattle.gljc.specs.declared.Answer.{Answer}
 

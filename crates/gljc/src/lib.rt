@@ -5,11 +5,11 @@ ghost use mathlib.Core.List.{[]};
 ghost use lib.Dec.{eqb};
 ghost use lib.ListN.{length};
 ghost use Rattle.bits.specs.Bits.{bitsOf};
-ghost use Rattle.layout.specs.Fmt.{also, check, read as Fmt·read, write as Fmt·write};
-ghost use Rattle.layout.specs.Message.{fault};
-ghost use Rattle.layout.specs.Promises.{Writes, Corrects};
+ghost use Rattle.format.specs.Fmt.{also, check, read as Fmt·read, write as Fmt·write};
+ghost use Rattle.format.specs.Message.{fault};
+ghost use Rattle.format.specs.Promises.{Writes, Corrects};
 ghost use Rattle.layout.specs.laws.Judging.{Judged};
-ghost use Rattle.layout.specs.laws.Putting.{Puts};
+ghost use Rattle.format.specs.laws.Putting.{Puts};
 ghost use Rattle.gljc.specs.Gljc.{gljc, gljcs, valuesOf, recordOf, answerOf, numberOf};
 ghost use Rattle.gljc.specs.Promises.{Reads};
 ghost use Rattle.gljc.specs.declared.Answer.the-variants.{Good, Refused};
@@ -76,7 +76,7 @@ pub fn read(s: &[u8]) -> Answer
     ensures { λ r. ⌜ Reads (now (s .entry)) r ⌝ }
 {
     let code = frame::first(s, LETTERS, Gljc::LEAST, Gljc::GREATEST);
-    fields(layout::sealing::inner(s), code)
+    fields(change::sealing::inner(s), code)
 }
 
 // Writes the frame into the front of a lent buffer: the record is judged, then room (6); the bytes past the frame stay.
@@ -90,7 +90,7 @@ pub fn write(buf: &mut [u8], r: Gljc) -> u8
         return code;
     }
     put(buf, r);
-    layout::sealing::stamp(buf, n);
+    change::sealing::stamp(buf, n);
     0
 }
 
@@ -99,17 +99,17 @@ pub fn correct(buf: &mut [u8], field: usize, value: u64) -> u8
     ensures { λ code. ⌜ Corrects gljcs (now (buf .entry)) field value code (now (buf .exit)) ⌝ }
 {
     let was = read(buf);
-    let spot = layout::correcting::look_up(&PLACES, &WIDTHS, field);
+    let spot = change::correcting::look_up(&PLACES, &WIDTHS, field);
     let at = spot.at;
     let width = spot.width;
-    let code = layout::correcting::admits(was.refusal(), width, value);
+    let code = change::correcting::admits(was.refusal(), width, value);
     if code != 0 {
         return code;
     }
-    let old = layout::correcting::swap(buf, at, width, value);
-    let again = fields(layout::sealing::inner(buf), 0);
-    let code = layout::correcting::settle(buf, at, width, old, again.refusal());
-    layout::sealing::seal(buf);
+    let old = change::correcting::swap(buf, at, width, value);
+    let again = fields(change::sealing::inner(buf), 0);
+    let code = change::correcting::settle(buf, at, width, old, again.refusal());
+    change::sealing::seal(buf);
     code
 }
 

@@ -1,10 +1,9 @@
 -- What each step of judging a record answers, from its values. Assumes nothing.
-use Prim.Native.Nat.{ℕ, _+_, _-_, _/_, _%_, _^_}
+use Prim.Native.Nat.{ℕ, _+_, _/_, _%_}
 use mathlib.Core.Bool.{Bool, true, false, cond, _&&_, _||_}
 use lib.Dec.{leb, ltb, eqb}
-use Rattle.layout.specs.Message.{between}
+use Rattle.format.specs.Message.{between}
 use Rattle.layout.specs.Walk.{onward}
-use Rattle.layout.specs.declared.judging.Pieces.{Pieces}
 use Rattle.layout.specs.declared.walk.Walk.{Walk}
 
 -- a record's value
@@ -17,26 +16,6 @@ filled w v r = onward w false v (cond (leb 0 v && leb v 0) 0 5) 0 r
 
 abbrev pub signedlyValued : ℕ → ℕ → ℕ → ℕ → ℕ → ℕ → Walk → Walk
 signedlyValued w v full top bottom none r = onward w true v (cond (ltb v full) (cond (leb v top || leb bottom v || eqb v none) 0 4) 4) 0 r
-
--- ---- a number made of parts
-
--- v, of w bits: too wide (4), or no part is judged yet
-abbrev pub unpieced : ℕ → ℕ → Pieces
-unpieced w v = record { v = v; width = w; left = w; code = cond (ltb v (2 ^ w)) 0 4; into = 0 }
-
--- past the next part, of w bits: from lo to hi
-unfoldable pub pieced : ℕ → ℕ → ℕ → Pieces → Pieces
-pieced w lo hi g = let u = g .v / 2 ^ (g .left - w) % 2 ^ w in record {
-  v = g .v;
-  width = g .width;
-  left = g .left - w;
-  code = cond (eqb (g .code) 0) (cond (leb lo u && leb u hi) 0 4) (g .code);
-  into = cond (eqb (g .code) 0) (g .width - g .left) (g .into);
-}
-
--- 0 is good too
-abbrev pub unlessZero : Pieces → Pieces
-unlessZero g = record { v = g .v; width = g .width; left = g .left; code = cond (eqb (g .v) 0) 0 (g .code); into = g .into }
 
 -- ---- the message that the values make
 

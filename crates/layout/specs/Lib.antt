@@ -1,12 +1,5 @@
--- The definitions that contracts cite, and in `laws` what is proved of them for every layout.
-pub mod Fmt
-pub mod Words
-pub mod Message
-pub mod Promises
-pub mod Sign
+-- What the walk answers, and in `laws` that this is what reading and writing say.
 pub mod Walk
 pub mod Reading
 pub mod Judging
-pub mod Sealing
-pub mod Correcting
 pub mod laws

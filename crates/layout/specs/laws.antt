@@ -1,28 +1,11 @@
--- What is proved of every layout.
-pub mod Round
-pub mod Correct
-pub mod Whole
-pub mod Zero
-pub mod Held
-pub mod First
-pub mod Places
-pub mod Spots
+-- The walk reads and judges as every layout says.
 pub mod Step
 pub mod Reading
 pub mod Group
 pub mod Along
 pub mod Walked
-pub mod Answers
-pub mod Extent
 pub mod Judging
 pub mod Pieces
-pub mod Putting
 pub mod Loops
 pub mod Making
 pub mod Flat
-pub mod Sealing
-pub mod Correcting
-pub mod Sign
-pub mod Entries
-pub mod Family
-pub mod Corrections

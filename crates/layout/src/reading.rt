@@ -1,17 +1,24 @@
 // Reading: each kind of field, from the bytes.
-ghost use mathlib.Core.Bool.{cond, true, false, _&&_, _||_};
+ghost use mathlib.Core.Bool.{cond, true, false, _&&_};
 ghost use mathlib.Core.Path.{_≡_};
-ghost use Prim.Native.Nat.{_+_, _-_, _*_, _/_, _^_, _<_};
-ghost use lib.Dec.{eqb, leb};
+ghost use Prim.Native.Nat.{_^_, _<_};
+ghost use lib.Dec.{eqb};
 ghost use lib.ListN.{length};
 ghost use Rattle.bits.specs.Answers.{within, got};
-ghost use Rattle.layout.specs.Fmt.{pad};
-ghost use Rattle.layout.specs.Reading.{given, carried, blanking, blanked, ranged, ranging, signedly, signing, parted, grouped, wholly, closes, ended};
+ghost use Rattle.field.specs.Faults.{wholly};
+ghost use Rattle.layout.specs.Reading.{given, carried, blanked, ranged, signedly, parted, grouped, ended};
 ghost use Rattle.layout.specs.Walk.{onward};
 use crate::walk::Walk;
-use crate::walk::choose;
-use crate::walk::none;
-use crate::walk::pick;
+use field::choosing::choose;
+use field::choosing::none;
+use field::choosing::pick;
+use field::faults::clear;
+use field::faults::closing;
+use field::faults::lies;
+use field::faults::past;
+use field::faults::range;
+use field::faults::signs;
+use field::faults::whole_bytes;
 
 impl Walk {
     // A number from lo to hi, else `code`; `free` where it may be corrected.
@@ -32,14 +39,14 @@ impl Walk {
     pub fn num(self, s: &[u8], w: usize, lo: u64, hi: u64) -> Self
         ensures { λ r. ⌜ (r ≡ ranged (now (s .entry)) w true lo hi 4 self) × (r .v < 2 ^ w) ⌝ }
     {
-        self.number(s, w, true, lo, hi, crate::RANGE)
+        self.number(s, w, true, lo, hi, format::RANGE)
     }
 
     // A number from lo to hi that decides what follows.
     pub fn decide(self, s: &[u8], w: usize, lo: u64, hi: u64) -> Self
         ensures { λ r. ⌜ (r ≡ ranged (now (s .entry)) w false lo hi 4 self) × (r .v < 2 ^ w) ⌝ }
     {
-        self.number(s, w, false, lo, hi, crate::RANGE)
+        self.number(s, w, false, lo, hi, format::RANGE)
     }
 
     // A number that decides what follows and that the caller judged: `fault` is 0, or what is wrong with it.
@@ -52,7 +59,7 @@ impl Walk {
             w,
             false,
             bits::get(s, at, w),
-            choose(there, fault, crate::SIZE),
+            choose(there, fault, format::SIZE),
             0,
         )
     }
@@ -62,21 +69,21 @@ impl Walk {
         ensures { λ r. ⌜ r ≡ carried (now (s .entry)) w self ⌝ }
     {
         let at = self.at;
-        self.wide(w as usize, choose(lies(s.len(), at, w), 0, crate::SIZE))
+        self.wide(w as usize, choose(lies(s.len(), at, w), 0, format::SIZE))
     }
 
     // A fixed code.
     pub fn code(self, s: &[u8], w: usize, n: u64) -> Self
         ensures { λ r. ⌜ r ≡ ranged (now (s .entry)) w false n n 2 self ⌝ }
     {
-        self.number(s, w, false, n, n, crate::KIND)
+        self.number(s, w, false, n, n, format::KIND)
     }
 
     // Fill.
     pub fn fill(self, s: &[u8], w: usize) -> Self
         ensures { λ r. ⌜ r ≡ ranged (now (s .entry)) w false 0 0 5 self ⌝ }
     {
-        self.number(s, w, false, 0, 0, crate::FILL)
+        self.number(s, w, false, 0, 0, format::FILL)
     }
 
     // Fill of up to 64 bits, looked at in two halves.
@@ -117,7 +124,7 @@ impl Walk {
         let clear = none(self.code);
         Walk {
             at: std::num::wrapping_add_usize(at, w),
-            code: choose(clear, range(s, at, w, lo, hi, crate::RANGE), self.code),
+            code: choose(clear, range(s, at, w, lo, hi, format::RANGE), self.code),
             place: pick(clear, at, self.place),
             v: self.v,
             seek: self.seek,
@@ -177,113 +184,4 @@ impl Walk {
             width: pick(self.seek, 0, self.width),
         }
     }
-}
-
-// ---- what is wrong with a field, as a number
-
-fn range(s: &[u8], at: usize, w: usize, lo: u64, hi: u64, code: u8) -> u8
-    ensures { λ r. ⌜ r ≡ ranging (now (s .entry)) at w lo hi code ⌝ }
-{
-    if bits::holds(s.len(), at, w) {
-        inside(bits::get(s, at, w), lo, hi, code)
-    } else {
-        crate::SIZE
-    }
-}
-
-fn signs(s: &[u8], at: usize, w: usize, top: u64, bottom: u64, none: u64) -> u8
-    ensures { λ r. ⌜ r ≡ signing (now (s .entry)) at w top bottom none ⌝ }
-{
-    if bits::holds(s.len(), at, w) {
-        sign(bits::get(s, at, w), top, bottom, none)
-    } else {
-        crate::SIZE
-    }
-}
-
-// Whether w bits from bit `at` on lie within `len` bytes.
-fn lies(len: usize, at: usize, w: u32) -> bool
-    ensures { λ r. ⌜ r ≡ leb (at + w) (len * 8) ⌝ }
-{
-    at / 8 + (at % 8 + w as usize + 7) / 8 <= len
-}
-
-// 1 where w bits from bit `at` on do not lie within s, 5 where one of them is set.
-fn clear(s: &[u8], at: usize, w: u32) -> u8
-    ensures { λ r. ⌜ r ≡ blanking (now (s .entry)) at w ⌝ }
-{
-    let high = (w / 2) as usize;
-    let low = (w - w / 2) as usize;
-    if lies(s.len(), at, w) {
-        if bits::get(s, at, high) != 0 {
-            return crate::FILL;
-        }
-        if bits::get(s, std::num::wrapping_add_usize(at, high), low) != 0 {
-            return crate::FILL;
-        }
-        return 0;
-    }
-    crate::SIZE
-}
-
-// The fill bits up to a whole byte.
-fn padding(at: usize) -> usize
-    ensures { λ r. ⌜ r ≡ pad at ⌝ }
-{
-    (8 - at % 8) % 8
-}
-
-// How far behind the last field the fault lies: the fill begins there, and what is left over after it.
-fn past(fault: u8, at: usize) -> usize
-    ensures { λ r. ⌜ r ≡ cond (eqb fault 5) 0 (pad at) ⌝ }
-{
-    if fault == crate::FILL { 0 } else { padding(at) }
-}
-
-// 5 where a bit up to the next whole byte is set, 1 where that is not the end.
-fn closing(s: &[u8], at: usize) -> u8
-    ensures { λ r. ⌜ r ≡ closes (now (s .entry)) at ⌝ }
-{
-    if bits::get(s, at, padding(at)) != 0 {
-        return crate::FILL;
-    }
-    if at / 8 + (at % 8 + 7) / 8 != s.len() {
-        return crate::SIZE;
-    }
-    0
-}
-
-// The whole bytes from bit `at` on.
-fn whole_bytes(len: usize, at: usize) -> u64
-    ensures { λ r. ⌜ r ≡ (len * 8 - at) / 8 ⌝ }
-{
-    let from = at / 8 + (at % 8 + 7) / 8;
-    if from < len { (len - from) as u64 } else { 0 }
-}
-
-pub(crate) fn inside(v: u64, lo: u64, hi: u64, code: u8) -> u8
-    ensures { λ r. ⌜ r ≡ cond (leb lo v && leb v hi) 0 code ⌝ }
-{
-    if v < lo {
-        return code;
-    }
-    if hi < v {
-        return code;
-    }
-    0
-}
-
-pub(crate) fn sign(v: u64, top: u64, bottom: u64, none: u64) -> u8
-    ensures { λ r. ⌜ r ≡ cond (leb v top || leb bottom v || eqb v none) 0 4 ⌝ }
-{
-    if v <= top {
-        return 0;
-    }
-    if bottom <= v {
-        return 0;
-    }
-    if v == none {
-        return 0;
-    }
-    crate::RANGE
 }

@@ -1,9 +1,14 @@
 // The walk over a message's fields, in bit order: it carries its own place, and the first refusal sticks.
-ghost use mathlib.Core.Bool.{cond, true, false, _&&_};
+ghost use mathlib.Core.Bool.{false};
 ghost use mathlib.Core.Path.{_≡_};
-ghost use Prim.Native.Nat.{_-_};
-ghost use lib.Dec.{eqb};
 ghost use Rattle.layout.specs.Walk.{begun, onward};
+use field::choosing::both;
+use field::choosing::choose;
+use field::choosing::last;
+use field::choosing::less;
+use field::choosing::none;
+use field::choosing::not;
+use field::choosing::pick;
 
 pub struct Walk {
     // The bit where the next field starts.
@@ -63,48 +68,4 @@ impl Walk {
     {
         self.on(w, false, 0, fault, 0)
     }
-}
-
-// ---- small tests
-
-pub(crate) fn none(code: u8) -> bool
-    ensures { λ r. ⌜ r ≡ eqb code 0 ⌝ }
-{
-    code == 0
-}
-
-pub(crate) fn last(left: usize) -> bool
-    ensures { λ r. ⌜ r ≡ eqb left 0 ⌝ }
-{
-    left == 0
-}
-
-pub(crate) fn both(a: bool, b: bool) -> bool
-    ensures { λ r. ⌜ r ≡ (a && b) ⌝ }
-{
-    if a { b } else { false }
-}
-
-pub(crate) fn not(a: bool) -> bool
-    ensures { λ r. ⌜ r ≡ cond a false true ⌝ }
-{
-    if a { false } else { true }
-}
-
-pub(crate) fn choose(yes: bool, a: u8, b: u8) -> u8
-    ensures { λ r. ⌜ r ≡ cond yes a b ⌝ }
-{
-    if yes { a } else { b }
-}
-
-pub(crate) fn pick(yes: bool, a: usize, b: usize) -> usize
-    ensures { λ r. ⌜ r ≡ cond yes a b ⌝ }
-{
-    if yes { a } else { b }
-}
-
-pub(crate) fn less(n: usize) -> usize
-    ensures { λ r. ⌜ r ≡ n - 1 ⌝ }
-{
-    if n == 0 { 0 } else { n - 1 }
 }

@@ -3,9 +3,9 @@ use mathlib.Core.Path.{_≡_, refl}
 use mathlib.Core.List.{List, [], _∷_}
 use Prim.Native.Nat.{ℕ}
 use Rattle.bits.specs.Bits.{bit, valueOf, digits, bitsOf, bytesOf}
-use Rattle.layout.specs.Fmt.{accepted, readField, read, writeField, sized, write, spot}
-use Rattle.layout.specs.Message.{readMessage, writeMessage, correctMessage}
-use Rattle.layout.specs.Words.{walk, orZero}
+use Rattle.format.specs.Fmt.{accepted, readField, read, writeField, sized, write, spot}
+use Rattle.format.specs.Message.{readMessage, writeMessage, correctMessage}
+use Rattle.format.specs.Words.{walk, orZero}
 use Rattle.notice.specs.Notice.{subtypes, subtype, areas, english, inLanguage, text, notice, notices}
 
 -- source, station, serial, year, type, subtype, expiry, no areas, no text

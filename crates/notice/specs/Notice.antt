@@ -5,9 +5,9 @@ use mathlib.Core.List.{List, [], _∷_}
 use lib.Dec.{leb, eqb}
 use lib.ListN.{length}
 use Rattle.bits.specs.Bits.{bytesOf}
-use Rattle.layout.specs.Fmt.{Fmt, end, field, bytes}
-use Rattle.layout.specs.Message.{Layout, led, between}
-use Rattle.layout.specs.Words.{Test, any, _‥_, Part, part, walk, unless, orZero, free, kept, _▹_, num, group, deciding}
+use Rattle.format.specs.Fmt.{Fmt, end, field, bytes}
+use Rattle.format.specs.Message.{Layout, led, between}
+use Rattle.format.specs.Words.{Test, any, _‥_, Part, part, walk, unless, orZero, free, kept, _▹_, num, group, deciding}
 
 -- type 1: 1 to 10; 4: 1 to 13; 5: 1 to 8; 6: 1 to 13; 2, 3, 7, 8: 0 only
 unfoldable pub subtypes : ℕ → Test

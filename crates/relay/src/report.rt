@@ -1,12 +1,8 @@
 // The distress report's calls.
-ghost use mathlib.Core.Path.{_≡_};
-ghost use mathlib.Core.List.{_∷_};
-ghost use lib.IntN.{pos};
 ghost use Rattle.rows.specs.Row.{Fills};
-ghost use Rattle.relay.specs.Report.{rowOf, numbersOf, recordOf};
+ghost use Rattle.report_rows.specs.Report.{numbersOf, recordOf};
 ghost use Rattle.distress.specs.Report.{reports, valuesOf};
-ghost use Rattle.layout.specs.Promises.{Writes, Corrects};
-use distress::report::Answer;
+ghost use Rattle.format.specs.Promises.{Writes, Corrects};
 use distress::report::Report;
 
 // Reads the report into a row of 9: mmsi, longitude, latitude, day, hour, minute, speed, course, kind.
@@ -14,14 +10,7 @@ use distress::report::Report;
 pub extern "C" fn bellnewt_distress_read(s: &[u8], row: &mut [i64]) -> u8
     ensures { λ code. ⌜ Fills (numbersOf (now (s .entry))) (now (row .entry)) code (now (row .exit)) ⌝ }
 {
-    let answer = distress::report::read(s);
-    match answer {
-        Answer::Good(report) => {
-            let numbers = numbers(0, report);
-            rows::fill(row, &numbers[1..])
-        },
-        Answer::Refused(code) => code,
-    }
+    report_rows::report::read(s, row)
 }
 
 // Writes the report of these numbers into the front of a lent buffer.
@@ -60,24 +49,4 @@ pub extern "C" fn bellnewt_distress_correct(s: &mut [u8], field: usize, value: u
     ensures { λ code. ⌜ Corrects reports (now (s .entry)) field value code (now (s .exit)) ⌝ }
 {
     distress::report::correct(s, field, value)
-}
-
-// A sentence's numbers in the paper's order: its address, then the report's.
-pub(crate) fn numbers(address: u32, r: Report) -> [i64; 10]
-    ensures { λ xs. ⌜ xs ≡ pos address ∷ rowOf r ⌝ }
-{
-    let longitude = r.longitude;
-    let latitude = r.latitude;
-    [
-        address as i64,
-        r.mmsi as i64,
-        longitude as i64,
-        latitude as i64,
-        r.day as i64,
-        r.hour as i64,
-        r.minute as i64,
-        r.speed as i64,
-        r.course as i64,
-        r.kind as i64,
-    ]
 }

@@ -1,24 +1,15 @@
 // The distress sentence's calls.
 ghost use Rattle.rows.specs.Row.{Fills};
-ghost use Rattle.relay.specs.Report.{recordOf};
-ghost use Rattle.relay.specs.Sentence.{sentenceNumbers, SentenceWrites};
+ghost use Rattle.report_rows.specs.Report.{recordOf};
+ghost use Rattle.report_rows.specs.Sentence.{sentenceNumbers, SentenceWrites};
 use distress::report::Report;
-use sentence::Heard;
-use sentence::Sent;
 
 // Reads the sentence into a row of 10: address, then the report's nine.
 #[no_mangle]
 pub extern "C" fn bellnewt_sentence_read(s: &[u8], row: &mut [i64]) -> u8
     ensures { λ code. ⌜ Fills (sentenceNumbers (now (s .entry))) (now (row .entry)) code (now (row .exit)) ⌝ }
 {
-    let heard = sentence::read(s);
-    match heard {
-        Heard::Good(address, report) => {
-            let numbers = crate::report::numbers(address, report);
-            rows::fill(row, &numbers)
-        },
-        Heard::Refused(code) => code,
-    }
+    report_rows::sentences::read(s, row)
 }
 
 // Writes the sentence of these numbers into the front of a lent buffer, and how many bytes it has into `size`.
@@ -50,12 +41,5 @@ pub extern "C" fn bellnewt_sentence_write(
         course,
         kind,
     };
-    let sent = sentence::write(buf, address, report);
-    match sent {
-        Sent::Bytes(n) => {
-            *size = n;
-            0
-        },
-        Sent::Refused(code) => code,
-    }
+    report_rows::sentences::write(buf, size, address, report)
 }

@@ -3,8 +3,8 @@ use Prim.Native.Nat.{ℕ}
 use mathlib.Core.Path.{_≡_}
 use mathlib.Core.List.{List}
 use lib.IntN.{ℤ}
-use Rattle.layout.specs.Fmt.{Out}
-use Rattle.layout.specs.Message.{codeOf, leaves, into}
+use Rattle.format.specs.Fmt.{Out}
+use Rattle.format.specs.Message.{codeOf, leaves, into}
 
 -- what a call promises that answers a reading in a row: its number, and the row t that it leaves
 abbrev pub Fills : Out (List ℤ) → List ℤ → ℕ → List ℤ → Type 0

@@ -1,5 +1,5 @@
 // Lent rows of signed 64-bit numbers, in which readings answer.
-ghost use Rattle.layout.specs.Fmt.{accepted};
+ghost use Rattle.format.specs.Fmt.{accepted};
 ghost use Rattle.rows.specs.Row.{Fills};
 
 // Stores the numbers at the front of a row that has room; the entries past them stay.
@@ -7,7 +7,7 @@ pub fn fill(row: &mut [i64], numbers: &[i64]) -> u8
     ensures { λ code. ⌜ Fills (accepted (now (numbers .entry))) (now (row .entry)) code (now (row .exit)) ⌝ }
 {
     if row.len() < numbers.len() {
-        return layout::ROOM;
+        return format::ROOM;
     }
     let mut i: usize = 0;
     while i < numbers.len() {

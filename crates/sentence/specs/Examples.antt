@@ -3,7 +3,7 @@ use mathlib.Core.List.{List, [], _∷_}
 use mathlib.Core.Path.{_≡_, refl}
 use Prim.Native.Nat.{ℕ}
 use Rattle.bits.specs.Xor.{xorOf}
-use Rattle.layout.specs.Fmt.{accepted}
+use Rattle.format.specs.Fmt.{accepted}
 use Rattle.sentence.specs.Sentence.{figureOf, digitValue, allDigits, decimal, spelt, hexOf, unhexed, closingOf, opening, summedUp, sentence, sameBytes, addressLike, patternLike, leadOf, aroundSo}
 
 -- bdc1075bcd15385c8780d1ba258c8a16c0

@@ -6,9 +6,9 @@ use mathlib.Core.List.{List, [], _∷_, _++_}
 use lib.Dec.{leb, ltb, eqb}
 use lib.ListN.{length, take, drop, getD}
 use Rattle.bits.specs.Xor.{xorOf}
-use Rattle.layout.specs.Fmt.{Out, accepted, refused, orBad, check, also, after}
-use Rattle.layout.specs.Message.{fault, between, writeMessage}
-use Rattle.layout.specs.Promises.{readRecord}
+use Rattle.format.specs.Fmt.{Out, accepted, refused, orBad, check, also, after}
+use Rattle.format.specs.Message.{fault, between, writeMessage}
+use Rattle.format.specs.Promises.{readRecord}
 use Rattle.distress.specs.Report.{reports, valuesOf, reportOf}
 use Rattle.distress.specs.declared.report.Report.{Report}
 use Rattle.sentence.specs.declared.Around.{Around}

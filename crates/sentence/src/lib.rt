@@ -90,17 +90,17 @@ fn lead(s: &[u8]) -> u8
 {
     let n = s.len();
     if n < Sentence::LEAST {
-        return layout::SIZE;
+        return format::SIZE;
     }
     if n > Sentence::GREATEST {
-        return layout::SIZE;
+        return format::SIZE;
     }
     if !same(&s[0..7], b"$CCTXA,") {
-        return layout::KIND;
+        return format::KIND;
     }
     let last = spelling::closing(bits::xor(&s[1..n - 5]));
     if !same(&s[n - 5..], &last) {
-        return layout::CHECKSUM;
+        return format::CHECKSUM;
     }
     0
 }
@@ -115,14 +115,14 @@ fn accept(s: &[u8]) -> Around
     }
     let n = s.len();
     if !same(&s[n - 46..n - 39], b",2,2,A4") {
-        return Around::Refused(layout::RANGE);
+        return Around::Refused(format::RANGE);
     }
     if !spelling::all_digits(&s[n - 39..n - 5], 16) {
-        return Around::Refused(layout::RANGE);
+        return Around::Refused(format::RANGE);
     }
     let to = address(&s[7..n - 46]);
     if to == 0 {
-        return Around::Refused(layout::RANGE);
+        return Around::Refused(format::RANGE);
     }
     Around::Accepted(to)
 }
@@ -176,10 +176,10 @@ pub fn write(buf: &mut [u8], address: u32, r: Report) -> Sent
     ensures { λ sent. ⌜ Sends (now (buf .entry)) address r sent (now (buf .exit)) ⌝ }
 {
     if address < LEAST_ADDRESS {
-        return Sent::Refused(layout::RANGE);
+        return Sent::Refused(format::RANGE);
     }
     if address > GREATEST_ADDRESS {
-        return Sent::Refused(layout::RANGE);
+        return Sent::Refused(format::RANGE);
     }
     let mut bytes = [0u8; 17];
     let code = distress::report::write(&mut bytes, r);
@@ -191,7 +191,7 @@ pub fn write(buf: &mut [u8], address: u32, r: Report) -> Sent
     let places = figures.places;
     let size = Sentence::GREATEST - from;
     if buf.len() < size {
-        return Sent::Refused(layout::ROOM);
+        return Sent::Refused(format::ROOM);
     }
     lay(buf, &places[from..], &bytes);
     Sent::Bytes(size)

@@ -4,7 +4,7 @@ use mathlib.Core.List.{[], _∷_}
 use Prim.Native.Nat.{ℕ}
 use Rattle.bits.specs.Bits.{bit, valueOf, digits, bitsOf, fieldAt}
 use Rattle.frame.specs.Frame.{leads}
-use Rattle.layout.specs.Message.{readMessage}
+use Rattle.format.specs.Message.{readMessage}
 use Rattle.txhz.specs.Txhz.{txhzs}
 use Rattle.serial.specs.Serial.{codeAs, codeOf}
 

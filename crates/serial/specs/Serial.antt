@@ -6,8 +6,7 @@ use mathlib.Core.List.{List}
 use lib.Dec.{leb, eqb}
 use lib.ListN.{length}
 use Rattle.bits.specs.Bits.{fieldAt}
-use Rattle.layout.specs.Message.{readMessage}
-use Rattle.layout.specs.Message.{codeOf as refusal}
+use Rattle.format.specs.Message.{readMessage, codeOf as refusal}
 use Rattle.gljc.specs.Gljc.{gljcs, letters as GLJC}
 use Rattle.txsq.specs.Txsq.{txsqs, letters as TXSQ}
 use Rattle.txxx.specs.Txxx.{txxxs, letters as TXXX}

@@ -7,10 +7,10 @@ pub fn code(s: &[u8]) -> u8
     ensures { λ r. ⌜ r ≡ codeOf (now (s .entry)) ⌝ }
 {
     if s.len() < frame::LEAST {
-        return layout::SIZE;
+        return format::SIZE;
     }
     if bits::get(s, 0, 8) != frame::DOLLAR {
-        return layout::KIND;
+        return format::KIND;
     }
     code_as(bits::get(s, 8, 32), s)
 }
@@ -30,5 +30,5 @@ fn code_as(letters: u64, s: &[u8]) -> u8
     if letters == txhz::LETTERS {
         return txhz::read(s).refusal();
     }
-    layout::KIND
+    format::KIND
 }

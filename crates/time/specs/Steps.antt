@@ -2,10 +2,10 @@
 use Prim.Native.Nat.{ℕ}
 use mathlib.Core.Bool.{true}
 use mathlib.Core.List.{List}
-use Rattle.layout.specs.Judging.{unpieced, pieced}
+use Rattle.field.specs.Pieces.{unpieced, pieced}
 use Rattle.layout.specs.Reading.{parted, grouped}
 use Rattle.layout.specs.Walk.{onward}
-use Rattle.layout.specs.declared.judging.Pieces.{Pieces}
+use Rattle.field.specs.declared.pieces.Pieces.{Pieces}
 use Rattle.layout.specs.declared.walk.Walk.{Walk}
 
 abbrev pub dateRead : List ℕ → Walk → Walk

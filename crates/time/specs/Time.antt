@@ -3,8 +3,8 @@ use Prim.Native.Nat.{ℕ, _+_, _*_, _/_, _%_, _^_}
 use mathlib.Core.Bool.{cond, _&&_}
 use mathlib.Core.List.{List, [], _∷_, _++_}
 use lib.Dec.{ltb}
-use Rattle.layout.specs.Fmt.{Fmt}
-use Rattle.layout.specs.Words.{Part, part, _‥_, group}
+use Rattle.format.specs.Fmt.{Fmt}
+use Rattle.format.specs.Words.{Part, part, _‥_, group}
 use Rattle.time.specs.declared.Time.{Time}
 use Rattle.time.specs.declared.ShortTime.{ShortTime}
 

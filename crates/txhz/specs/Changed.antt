@@ -4,7 +4,7 @@ use mathlib.Core.Bool.{Bool, cond}
 use mathlib.Core.List.{List, [], _∷_}
 use lib.Dec.{eqb, ltb}
 use lib.ListN.{getD}
-use Rattle.layout.specs.Fmt.{Spot, none, found}
+use Rattle.format.specs.Fmt.{Spot, none, found}
 use Rattle.txhz.specs.declared.Receipt.{Receipt}
 use Rattle.txhz.specs.declared.Txhz.{Txhz}
 

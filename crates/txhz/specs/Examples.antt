@@ -5,9 +5,9 @@ use Prim.Native.Nat.{ℕ}
 use Rattle.bits.specs.Bits.{bit, valueOf, digits, bitsOf, bytesOf, fieldAt}
 use Rattle.bits.specs.Xor.{xorOf}
 use Rattle.frame.specs.Frame.{leads}
-use Rattle.layout.specs.Fmt.{accepted, refused, readField, read, writeField, write, spot}
-use Rattle.layout.specs.Message.{readMessage, writeMessage, correctMessage}
-use Rattle.layout.specs.Words.{walk}
+use Rattle.format.specs.Fmt.{accepted, refused, readField, read, writeField, write, spot}
+use Rattle.format.specs.Message.{readMessage, writeMessage, correctMessage}
+use Rattle.format.specs.Words.{walk}
 use Rattle.txhz.specs.Txhz.{txhz, txhzs}
 
 -- from 1 to 2, with the receipt 12:30, 13:00, the others zero, and a last byte

@@ -3,7 +3,7 @@ use Prim.Native.Nat.{ℕ, _+_}
 use mathlib.Core.Bool.{Bool, cond}
 use mathlib.Core.List.{List, [], _∷_}
 use lib.Dec.{ltb}
-use Rattle.layout.specs.Correcting.{putIn}
+use Rattle.format.specs.Correcting.{putIn}
 use Rattle.layout.specs.Judging.{valued, filled}
 use Rattle.layout.specs.Reading.{ranged}
 use Rattle.layout.specs.declared.walk.Walk.{Walk}

@@ -5,10 +5,10 @@ use mathlib.Core.List.{List, [], _∷_}
 use lib.Dec.{ltb}
 use lib.ListN.{getD}
 use Rattle.frame.specs.Frame.{address, lastHour, lastMinute, frame, frames}
-use Rattle.layout.specs.Fmt.{Out, Fmt, end, field}
-use Rattle.layout.specs.Message.{Layout}
-use Rattle.layout.specs.Promises.{answered}
-use Rattle.layout.specs.Words.{_‥_, _▹_, only, num, ago}
+use Rattle.format.specs.Fmt.{Out, Fmt, end, field}
+use Rattle.format.specs.Message.{Layout}
+use Rattle.format.specs.Promises.{answered}
+use Rattle.format.specs.Words.{_‥_, _▹_, only, num, ago}
 use Rattle.txhz.specs.declared.Receipt.{Receipt}
 use Rattle.txhz.specs.declared.Txhz.{Txhz}
 use Rattle.txhz.specs.declared.Answer.{Answer}

@@ -4,7 +4,7 @@ use mathlib.Core.Bool.{cond}
 use mathlib.Core.List.{List, [], _∷_}
 use lib.Dec.{eqb}
 use lib.ListN.{getD}
-use Rattle.layout.specs.Fmt.{Spot, none, found}
+use Rattle.format.specs.Fmt.{Spot, none, found}
 use Rattle.txsq.specs.declared.Txsq.{Txsq}
 
 -- the fields in bit order: where each that may be corrected stands, and its width

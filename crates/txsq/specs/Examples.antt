@@ -5,9 +5,9 @@ use Prim.Native.Nat.{ℕ}
 use Rattle.bits.specs.Bits.{bit, valueOf, digits, bitsOf, bytesOf, fieldAt}
 use Rattle.bits.specs.Xor.{xorOf}
 use Rattle.frame.specs.Frame.{leads, declared}
-use Rattle.layout.specs.Fmt.{accepted, readField, read, writeField, write}
-use Rattle.layout.specs.Message.{readMessage, writeMessage}
-use Rattle.layout.specs.Words.{walk}
+use Rattle.format.specs.Fmt.{accepted, readField, read, writeField, write}
+use Rattle.format.specs.Message.{readMessage, writeMessage}
+use Rattle.format.specs.Words.{walk}
 use Rattle.txsq.specs.Txsq.{letters, txsq, txsqs, valuesOf}
 
 -- `24 54 58 53 51 00 14 02 00 BA 46 02 00 BA 00 10 00 A4 31 FD`

@@ -6,10 +6,10 @@ use lib.Dec.{leb, eqb}
 use lib.ListN.{length, getD}
 use Rattle.bits.specs.Bits.{fieldAt}
 use Rattle.frame.specs.Frame.{frame, frames, address, declared, fits, contentOf}
-use Rattle.layout.specs.Fmt.{Out, Fmt, end, choice, pad}
-use Rattle.layout.specs.Message.{Layout}
-use Rattle.layout.specs.Promises.{answered}
-use Rattle.layout.specs.Words.{Test, _‥_, _▹_, num, code, twice, content, ago}
+use Rattle.format.specs.Fmt.{Out, Fmt, end, choice, pad}
+use Rattle.format.specs.Message.{Layout}
+use Rattle.format.specs.Promises.{answered}
+use Rattle.format.specs.Words.{Test, _‥_, _▹_, num, code, twice, content, ago}
 use Rattle.txsq.specs.declared.Txsq.{Txsq}
 use Rattle.txsq.specs.declared.Answer.{Answer}
 use Rattle.txsq.specs.declared.Answer.the-variants.{Good, Refused}

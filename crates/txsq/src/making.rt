@@ -3,9 +3,9 @@ use crate::CLASS;
 use crate::LETTERS;
 use crate::Txsq;
 ghost use mathlib.Core.List.{[]};
-ghost use Rattle.layout.specs.Fmt.{write};
+ghost use Rattle.format.specs.Fmt.{write};
 ghost use Rattle.layout.specs.laws.Judging.{Judged};
-ghost use Rattle.layout.specs.laws.Putting.{Puts};
+ghost use Rattle.format.specs.laws.Putting.{Puts};
 ghost use Rattle.txsq.specs.Txsq.{txsq, valuesOf};
 
 pub(crate) fn judged(r: Txsq, content: &[u8]) -> layout::walk::Walk

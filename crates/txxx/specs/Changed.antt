@@ -5,7 +5,7 @@ use mathlib.Core.List.{List, [], _∷_}
 use lib.Dec.{eqb}
 use lib.ListN.{getD}
 use Rattle.frame.specs.Frame.{bytesFor}
-use Rattle.layout.specs.Fmt.{Spot, none, found}
+use Rattle.format.specs.Fmt.{Spot, none, found}
 use Rattle.txxx.specs.declared.Txxx.{Txxx}
 
 -- the fields in bit order, of a frame with l bits of content: where each that may be corrected stands, and its width

@@ -4,9 +4,9 @@ use mathlib.Core.List.{[], _∷_}
 use Rattle.bits.specs.Bits.{bit, valueOf, digits, bitsOf, bytesOf, fieldAt}
 use Rattle.bits.specs.Xor.{xorOf}
 use Rattle.frame.specs.Frame.{declared}
-use Rattle.layout.specs.Fmt.{accepted, refused, writeField, write}
-use Rattle.layout.specs.Message.{writeMessage}
-use Rattle.layout.specs.Words.{walk}
+use Rattle.format.specs.Fmt.{accepted, refused, writeField, write}
+use Rattle.format.specs.Message.{writeMessage}
+use Rattle.format.specs.Words.{walk}
 use Rattle.txxx.specs.Txxx.{txxx, txxxs, valuesOf}
 use Rattle.txxx.specs.declared.Txxx.{Txxx}
 

@@ -1,8 +1,8 @@
--- What `read` and `content` promise of the bytes s that they are lent; writing and correcting promise what every layout's do (layout/specs/Promises). Assumes nothing.
+-- What `read` and `content` promise of the bytes s that they are lent; writing and correcting promise what every layout's do (format/specs/Promises). Assumes nothing.
 use mathlib.Core.Path.{_≡_}
 use mathlib.Core.List.{List, []}
 use Prim.Native.Nat.{ℕ}
-use Rattle.layout.specs.Promises.{answered, readRecord}
+use Rattle.format.specs.Promises.{answered, readRecord}
 use Rattle.txxx.specs.Txxx.{txxxs, recordOf, answerOf}
 use Rattle.txxx.specs.declared.Answer.{Answer}
 

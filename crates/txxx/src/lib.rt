@@ -5,9 +5,9 @@ ghost use Prim.Native.Nat.{_-_, _*_};
 ghost use mathlib.Core.List.{[]};
 ghost use lib.Dec.{eqb};
 ghost use Rattle.bits.specs.Bits.{bitsOf};
-ghost use Rattle.layout.specs.Fmt.{also, check, read as Fmt·read};
-ghost use Rattle.layout.specs.Message.{fault, between};
-ghost use Rattle.layout.specs.Promises.{Writes, Corrects};
+ghost use Rattle.format.specs.Fmt.{also, check, read as Fmt·read};
+ghost use Rattle.format.specs.Message.{fault, between};
+ghost use Rattle.format.specs.Promises.{Writes, Corrects};
 ghost use Rattle.txxx.specs.Txxx.{txxx, txxxs, bounded, valuesOf, recordOf, answerOf, numberOf};
 ghost use Rattle.txxx.specs.Promises.{Reads, Shows};
 ghost use Rattle.txxx.specs.declared.Answer.the-variants.{Good, Refused};
@@ -91,7 +91,7 @@ pub fn read(s: &[u8]) -> Answer
     ensures { λ r. ⌜ Reads (now (s .entry)) r ⌝ }
 {
     let code = frame::first(s, LETTERS, Txxx::LEAST, Txxx::GREATEST);
-    fields(layout::sealing::inner(s), code)
+    fields(change::sealing::inner(s), code)
 }
 
 // The content, as a part of the frame itself; an empty part where the frame is refused.
@@ -117,7 +117,7 @@ pub fn write(buf: &mut [u8], r: Txxx, content: &[u8]) -> u8
         return code;
     }
     making::put(buf, r, content);
-    layout::sealing::stamp(buf, n);
+    change::sealing::stamp(buf, n);
     0
 }
 
@@ -141,17 +141,17 @@ pub fn correct(buf: &mut [u8], field: usize, value: u64) -> u8
         144,
         mark(buf.len()),
     ];
-    let spot = layout::correcting::look_up(&places, &WIDTHS, field);
+    let spot = change::correcting::look_up(&places, &WIDTHS, field);
     let at = spot.at;
     let width = spot.width;
-    let code = layout::correcting::admits(was.refusal(), width, value);
+    let code = change::correcting::admits(was.refusal(), width, value);
     if code != 0 {
         return code;
     }
-    let old = layout::correcting::swap(buf, at, width, value);
-    let again = fields(layout::sealing::inner(buf), 0);
-    let code = layout::correcting::settle(buf, at, width, old, again.refusal());
-    layout::sealing::seal(buf);
+    let old = change::correcting::swap(buf, at, width, value);
+    let again = fields(change::sealing::inner(buf), 0);
+    let code = change::correcting::settle(buf, at, width, old, again.refusal());
+    change::sealing::seal(buf);
     code
 }
 
@@ -206,7 +206,7 @@ pub(crate) fn limit(length: u64, size: u64) -> u8
     ensures { λ r. ⌜ r ≡ bounded length size ⌝ }
 {
     if size > 1_680 {
-        return layout::RANGE;
+        return format::RANGE;
     }
     frame::sized(20, length, size)
 }

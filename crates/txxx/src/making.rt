@@ -2,9 +2,9 @@
 use crate::LETTERS;
 use crate::Txxx;
 ghost use mathlib.Core.List.{[]};
-ghost use Rattle.layout.specs.Fmt.{write};
+ghost use Rattle.format.specs.Fmt.{write};
 ghost use Rattle.layout.specs.laws.Judging.{Judged};
-ghost use Rattle.layout.specs.laws.Putting.{Puts};
+ghost use Rattle.format.specs.laws.Putting.{Puts};
 ghost use Rattle.txxx.specs.Txxx.{txxx, valuesOf};
 
 pub(crate) fn judged(r: Txxx, content: &[u8]) -> layout::walk::Walk

@@ -1,6 +1,6 @@
 -- `put_gale` is one put a field, one behind another.
 use mathlib.Core.Path.{ap, _∙_}
-use Rattle.layout.specs.Correcting.{putIn, put-in}
+use Rattle.format.specs.Correcting.{putIn, put-in}
 use borrow.Author.Needs.{needs}
 use Rattle.bodies.proofs.put_gale.Statement.{statement}
 use Rattle.bodies.proofs.put_gale.Tie as tie

@@ -5,13 +5,13 @@ use mathlib.Core.List.{List, _∷_}
 use Prim.Native.Nat.{ℕ, _+_, _≤_}
 use native.Mathlib.Omega.{arith}
 use lib.Dec.{lit<, lit≤}
-use Rattle.layout.specs.Fmt.{Out, Fmt}
-use Rattle.layout.specs.laws.Extent.{opens-field}
+use Rattle.format.specs.Fmt.{Out, Fmt}
+use Rattle.format.specs.laws.Extent.{opens-field}
 use Rattle.layout.specs.laws.Judging.{Judging, judge-num, judge-fixed}
-use Rattle.layout.specs.laws.Putting.{Putting, put-number, put-pair}
+use Rattle.format.specs.laws.Putting.{Putting, put-number, put-pair}
 use Rattle.layout.specs.laws.Reading.{step-num, step-fill, step-blank}
 use Rattle.layout.specs.laws.Step.{Reading}
-use Rattle.layout.specs.laws.Zero.{Judged, only-numbered}
+use Rattle.format.specs.laws.Zero.{Judged, only-numbered}
 use Rattle.layout.specs.declared.walk.Walk.{Walk}
 use Rattle.bodies.specs.Bodies.{Kind, cyclone, gale, waves, fog, surge, body, bodyKind, bodyValues}
 use Rattle.bodies.specs.Steps.{cycloneRead, galeRead, wavesRead, fogRead, surgeRead, bodyRead, bodyJudged, bodyPut}

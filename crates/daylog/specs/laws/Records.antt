@@ -5,7 +5,7 @@ use mathlib.Core.List.{List, [], _∷_, _++_}
 use Prim.Native.Nat.{ℕ, zero, suc, _+_, _-_, _≤_, _<_}
 use native.Mathlib.Omega.{arith}
 use lib.Dec.{leb}
-use Rattle.layout.specs.Message.{between}
+use Rattle.format.specs.Message.{between}
 use lib.ListN.{length, take, drop, length-append, length-drop, List·getD-append}
 use borrow.Author.Tests.{le-leb, leb-true, leb-false}
 use Rattle.daylog.specs.Log.{pairAt, front, opened, recordsBy, records}

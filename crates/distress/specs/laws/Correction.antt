@@ -7,10 +7,10 @@ use borrow.Author.Tests.{eqb-true}
 use lib.Dec.{eqb, lit≤}
 use lib.IntN.{ℤ}
 use lib.ListN.{getD, set}
-use Rattle.layout.specs.Fmt.{spot, none, found}
-use Rattle.layout.specs.Sign.{intOf, spellOf}
-use Rattle.layout.specs.laws.Sign.{spell-int}
-use Rattle.layout.specs.laws.Spots.{spotsAlong, spot-along, rows, eachAt, set-each, kept-entry}
+use Rattle.format.specs.Fmt.{spot, none, found}
+use Rattle.field.specs.Sign.{intOf, spellOf}
+use Rattle.field.specs.laws.Sign.{spell-int}
+use Rattle.format.specs.laws.Spots.{spotsAlong, spot-along, rows, eachAt, set-each, kept-entry}
 use Rattle.distress.specs.Changed.{spotOf, changed}
 use Rattle.distress.specs.Report.{report, reports, valuesOf}
 use Rattle.distress.specs.declared.report.Report.{Report}

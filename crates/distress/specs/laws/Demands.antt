@@ -1,4 +1,4 @@
--- The report is a family of layout/specs/laws/Family, whose theorems are demands 2 and 3; said here of the report's own promises. Assumes nothing.
+-- The report is a family of format/specs/laws/Family, whose theorems are demands 2 and 3; said here of the report's own promises. Assumes nothing.
 use mathlib.Core.Path.{_≡_, refl, sym, ap, _∙_, subst}
 use mathlib.Core.List.{List, [], _∷_}
 use Prim.Native.Nat.{ℕ, _≤_, _<_, _^_}
@@ -6,14 +6,14 @@ use lib.Dec.{lit≤}
 use native.Mathlib.Omega.{arith}
 use lib.ListN.{length, getD, take}
 use Rattle.bits.specs.Bits.{Bytes, putAt}
-use Rattle.layout.specs.Fmt.{Out, accepted, refused, found}
-use Rattle.layout.specs.Message.{writeMessage}
-use Rattle.layout.specs.Promises.{readRecord, Writes, Corrects}
-use Rattle.layout.specs.laws.Entries.{entries, held-entries}
-use Rattle.layout.specs.laws.Family.{Family, one-size, written-front, accepted-correction, corrected-as-written}
-use Rattle.layout.specs.laws.Held.{Held, exactly}
-use Rattle.layout.specs.laws.Sign.{spell-int}
-use Rattle.layout.specs.laws.Zero.{Judged, only-numbered}
+use Rattle.format.specs.Fmt.{Out, accepted, refused, found}
+use Rattle.format.specs.Message.{writeMessage}
+use Rattle.format.specs.Promises.{readRecord, Writes, Corrects}
+use Rattle.format.specs.laws.Entries.{entries, held-entries}
+use Rattle.format.specs.laws.Family.{Family, one-size, written-front, accepted-correction, corrected-as-written}
+use Rattle.format.specs.laws.Held.{Held, exactly}
+use Rattle.field.specs.laws.Sign.{spell-int}
+use Rattle.format.specs.laws.Zero.{Judged, only-numbered}
 use Rattle.distress.specs.Changed.{spotOf, changed}
 use Rattle.distress.specs.Promises.{Reads}
 use Rattle.distress.specs.Report.{report, reports, valuesOf, reportOf, answerOf, again}

@@ -8,9 +8,9 @@ use lib.ListN.{length}
 use mathlib.Core.Bool.{false≢true}
 use borrow.Author.Tests.{eq-eqb}
 use Rattle.bits.specs.Bits.{fieldAt}
-use Rattle.layout.specs.Message.{Sound}
-use Rattle.layout.specs.Words.{kept}
-use Rattle.layout.specs.laws.First.{opens, bytes-long, led-between}
+use Rattle.format.specs.Message.{Sound}
+use Rattle.format.specs.Words.{kept}
+use Rattle.format.specs.laws.First.{opens, bytes-long, led-between}
 use Rattle.distress.specs.Report.{report, reports, plain}
 
 pub sound : Sound reports

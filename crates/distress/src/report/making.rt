@@ -4,9 +4,9 @@ use crate::report::Report;
 ghost use mathlib.Core.Path.{_≡_};
 ghost use mathlib.Core.List.{[]};
 ghost use Rattle.distress.specs.Report.{report, valuesOf, listOf};
-ghost use Rattle.layout.specs.Fmt.{write};
+ghost use Rattle.format.specs.Fmt.{write};
 ghost use Rattle.layout.specs.laws.Judging.{Judged};
-ghost use Rattle.layout.specs.laws.Putting.{Puts};
+ghost use Rattle.format.specs.laws.Putting.{Puts};
 
 // A record's fields as the numbers that their bits spell.
 pub(crate) struct Values {
@@ -26,8 +26,8 @@ pub(crate) fn spelled(r: Report) -> Values
 {
     let east = r.longitude;
     let north = r.latitude;
-    let longitude = layout::sign::spelled(east, 33_554_432);
-    let latitude = layout::sign::spelled(north, 16_777_216);
+    let longitude = field::sign::spelled(east, 33_554_432);
+    let latitude = field::sign::spelled(north, 16_777_216);
     Values {
         mmsi: r.mmsi as u64,
         longitude,

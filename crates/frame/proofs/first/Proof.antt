@@ -1,7 +1,7 @@
 -- `first` is the lead, then the seal.
 use mathlib.Core.Path.{ap, _∙_}
 use mathlib.Core.Bool.{true}
-use Rattle.layout.specs.Message.{firstOf, sealFault}
+use Rattle.format.specs.Message.{firstOf, sealFault}
 use borrow.Author.Needs.{needs}
 use Rattle.frame.proofs.first.Statement.{statement}
 use Rattle.frame.proofs.first.Tie as tie

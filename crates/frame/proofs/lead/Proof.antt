@@ -10,7 +10,7 @@ use borrow.Author.Tests.{le-leb, lt-leb, eq-eqb, ne-eqb}
 use Rattle.bits.specs.Answers.{got}
 use Rattle.bits.specs.Bits.{fieldAt}
 use Rattle.bits.specs.laws.Answers.{got-fits}
-use Rattle.layout.specs.Message.{between}
+use Rattle.format.specs.Message.{between}
 use Rattle.frame.specs.Frame.{leads}
 use borrow.Author.Needs.{needs}
 use Rattle.frame.proofs.lead.Statement.{statement}

@@ -1,6 +1,6 @@
 -- `put` is four puts, one behind another.
 use mathlib.Core.Path.{ap, _∙_}
-use Rattle.layout.specs.Correcting.{putIn, put-in}
+use Rattle.format.specs.Correcting.{putIn, put-in}
 use borrow.Author.Needs.{needs}
 use Rattle.frame.proofs.put.Statement.{statement}
 use Rattle.frame.proofs.put.Tie as tie

@@ -14,7 +14,7 @@ use Rattle.bits.specs.laws.Answers.{got-fits}
 use Rattle.bits.specs.laws.Bytes.{length-bits, length-bytes, bits-bytes, bits-same, bytes-bits, bytes-below, bytes-take, bytes-drop}
 use Rattle.bits.specs.laws.Digits.{length-digits, value-nil, value-digits, digits-value}
 use Rattle.bits.specs.laws.Fields.{bits-take, bits-drop}
-use Rattle.layout.specs.Fmt.{pad}
+use Rattle.format.specs.Fmt.{pad}
 use Rattle.frame.specs.Frame.{declared, bytesFor, contentOf}
 
 -- the fill makes whole bytes

@@ -11,12 +11,12 @@ use borrow.Author.Tests.{le-leb, leb-true, eq-eqb}
 use Rattle.bits.specs.Bits.{valueOf, bitsOf, fieldAt}
 use Rattle.bits.specs.laws.Bytes.{length-bits}
 use Rattle.bits.specs.laws.Fields.{field-front}
-use Rattle.layout.specs.Fmt.{accepted, Fault, good, bad, Fmt, read}
-use Rattle.layout.specs.Message.{Sound, body, sealFault, firstOf, codeOf, readMessage}
-use Rattle.layout.specs.laws.First.{opened}
-use Rattle.layout.specs.laws.Held.{Held, held, exactly}
-use Rattle.layout.specs.laws.Round.{read-write}
-use Rattle.layout.specs.laws.Walked.{unled}
+use Rattle.format.specs.Fmt.{accepted, Fault, good, bad, Fmt, read}
+use Rattle.format.specs.Message.{Sound, body, sealFault, firstOf, codeOf, readMessage}
+use Rattle.format.specs.laws.First.{opened}
+use Rattle.format.specs.laws.Held.{Held, held, exactly}
+use Rattle.format.specs.laws.Round.{read-write}
+use Rattle.format.specs.laws.Lead.{unled}
 use Rattle.frame.specs.Frame.{frame, frames, leads}
 
 module _ (letters lo hi : ℕ) (f : Fmt) where

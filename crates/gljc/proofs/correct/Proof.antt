@@ -3,12 +3,12 @@ use mathlib.Core.Path.{refl, sym, ap, _∙_}
 use mathlib.Core.List.{[]}
 use Rattle.bits.specs.Bits.{bitsOf}
 use Rattle.frame.specs.laws.Sound.{read-size}
-use Rattle.layout.specs.Fmt.{also, read}
-use Rattle.layout.specs.Message.{readMessage}
-use Rattle.layout.specs.laws.Answers.{numbered}
-use Rattle.layout.specs.laws.Correcting.{admitted-clean}
-use Rattle.layout.specs.laws.Corrections.{family-early, family-late}
-use Rattle.layout.specs.laws.Spots.{slim, table-stands, table-slim}
+use Rattle.format.specs.Fmt.{also, read}
+use Rattle.format.specs.Message.{readMessage}
+use Rattle.format.specs.laws.Answers.{numbered}
+use Rattle.format.specs.laws.Correcting.{admitted-clean}
+use Rattle.format.specs.laws.Corrections.{family-early, family-late}
+use Rattle.format.specs.laws.Spots.{slim, table-stands, table-slim}
 use Rattle.gljc.specs.Gljc.{letters, gljc, gljcs, valuesOf, recordOf, answerOf, numberOf}
 use Rattle.gljc.specs.laws.Correction.{places, widths, along}
 use Rattle.gljc.specs.laws.Demands.{family}

@@ -3,11 +3,12 @@ use mathlib.Core.Path.{_≡_, sym, ap, _∙_}
 use mathlib.Core.List.{[]}
 use lib.Dec.{lit<, lit≤}
 use Rattle.bits.specs.Bits.{bitsOf}
-use Rattle.layout.specs.Fmt.{also, read}
+use Rattle.format.specs.Fmt.{also, read}
 use Rattle.frame.specs.laws.Head.{head-read}
-use Rattle.layout.specs.laws.Answers.{told-so}
+use Rattle.format.specs.laws.Answers.{told-so}
 use Rattle.layout.specs.laws.Reading.{step-num}
-use Rattle.layout.specs.laws.Walked.{held-back, finish}
+use Rattle.layout.specs.laws.Walked.{finish}
+use Rattle.format.specs.laws.Lead.{held-back}
 use Rattle.gljc.specs.Gljc.{letters, gljc, recordOf, answerOf}
 use Rattle.gljc.specs.declared.Answer.the-variants.{Good, Refused}
 use borrow.Author.Needs.{needs}

@@ -5,8 +5,8 @@ use mathlib.Core.List.{List, [], _∷_}
 use Prim.Native.Nat.{ℕ}
 use lib.Dec.{eqb}
 use lib.ListN.{getD, set}
-use Rattle.layout.specs.Fmt.{spot, none, found}
-use Rattle.layout.specs.laws.Spots.{spotsAlong, spot-along, rows, eachAt, set-each, kept-entry}
+use Rattle.format.specs.Fmt.{spot, none, found}
+use Rattle.format.specs.laws.Spots.{spotsAlong, spot-along, rows, eachAt, set-each, kept-entry}
 use Rattle.gljc.specs.Changed.{spotOf, changed}
 use Rattle.gljc.specs.Gljc.{letters, gljc, gljcs, valuesOf}
 use Rattle.gljc.specs.declared.Gljc.{Gljc}

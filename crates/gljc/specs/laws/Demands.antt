@@ -1,4 +1,4 @@
--- The frame GLJC is a family of layout/specs/laws/Family, whose theorems are demands 2 and 3; said here of the frame's own promises. Assumes nothing.
+-- The frame GLJC is a family of format/specs/laws/Family, whose theorems are demands 2 and 3; said here of the frame's own promises. Assumes nothing.
 use mathlib.Core.Path.{_≡_, refl, sym, ap, _∙_, subst}
 use mathlib.Core.Bool.{Bool}
 use mathlib.Core.List.{List, [], _∷_, _++_}
@@ -9,14 +9,14 @@ use lib.ListN.{length, getD, take, drop}
 use Rattle.bits.specs.Bits.{Bytes}
 use Rattle.frame.specs.laws.Head.{head-numbered}
 use Rattle.frame.specs.laws.Sound.{frame-sound}
-use Rattle.layout.specs.Fmt.{Out, accepted, refused, read, found}
-use Rattle.layout.specs.Promises.{readRecord, Writes, Corrects}
-use Rattle.layout.specs.laws.Entries.{entries, held-entries}
-use Rattle.layout.specs.laws.Extent.{extent-laid}
-use Rattle.layout.specs.laws.Family.{Family, one-size, written-front, read-written, corrected-as-written}
-use Rattle.layout.specs.laws.Held.{Held, held, exactly}
-use Rattle.layout.specs.laws.Round.{read-write}
-use Rattle.layout.specs.laws.Zero.{Judged, only-numbered}
+use Rattle.format.specs.Fmt.{Out, accepted, refused, read, found}
+use Rattle.format.specs.Promises.{readRecord, Writes, Corrects}
+use Rattle.format.specs.laws.Entries.{entries, held-entries}
+use Rattle.format.specs.laws.Extent.{extent-laid}
+use Rattle.format.specs.laws.Family.{Family, one-size, written-front, read-written, corrected-as-written}
+use Rattle.format.specs.laws.Held.{Held, held, exactly}
+use Rattle.format.specs.laws.Round.{read-write}
+use Rattle.format.specs.laws.Zero.{Judged, only-numbered}
 use Rattle.gljc.specs.Changed.{spotOf, changed}
 use Rattle.gljc.specs.Gljc.{letters, body, gljc, gljcs, valuesOf, recordOf, answerOf}
 use Rattle.gljc.specs.Promises.{Reads}

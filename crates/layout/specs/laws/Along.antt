@@ -7,7 +7,7 @@ use native.Mathlib.Omega.{arith}
 use lib.Dec.{eqb}
 use lib.Seq.{append-snoc}
 use borrow.Author.Tests.{ne-eqb, eqb-true, eqb-false}
-use Rattle.layout.specs.Fmt.{Out, accepted, refused, Judge, Fmt, field, also, read, spot}
+use Rattle.format.specs.Fmt.{Out, accepted, refused, Judge, Fmt, field, also, read, spot}
 use Rattle.layout.specs.Walk.{onward}
 use Rattle.layout.specs.laws.Step.{sticky, Reading, Steps, step, clean}
 use Rattle.layout.specs.declared.walk.Walk.{Walk}

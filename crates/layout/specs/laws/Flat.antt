@@ -2,36 +2,20 @@
 use mathlib.Core.Path.{_≡_, refl, _∙_, subst⁻¹}
 use mathlib.Core.Bool.{Bool, true, false, cond}
 use mathlib.Core.List.{List, []}
-use Prim.Native.Nat.{ℕ, _*_, _≤_, _<_}
+use Prim.Native.Nat.{ℕ, _≤_, _<_}
 use native.Mathlib.Omega.{arith}
 use lib.ListN.{length}
 use borrow.Author.Tests.{eq-eqb, ne-eqb, le-leb, lt-leb}
-use Rattle.layout.specs.Fmt.{accepted, Fmt, check, write}
+use Rattle.format.specs.Fmt.{accepted, check, write}
 use Rattle.layout.specs.Judging.{bytesTo}
-use Rattle.layout.specs.Promises.{Writes}
-use Rattle.layout.specs.Message.{Layout, fault, between, size}
-use Rattle.layout.specs.laws.Extent.{extent, extent-laid, flat, flat-extent}
+use Rattle.format.specs.Promises.{Writes}
+use Rattle.format.specs.Message.{Layout, fault, between}
+use Rattle.format.specs.laws.Extent.{span-laid, Plain}
 use Rattle.layout.specs.laws.Judging.{Judged}
 use Rattle.layout.specs.laws.Making.{write-refused, write-bare}
-use Rattle.layout.specs.laws.Putting.{Puts}
+use Rattle.format.specs.laws.Putting.{Puts}
 use Rattle.layout.specs.laws.Step.{clear}
 use Rattle.layout.specs.declared.walk.Walk.{Walk}
-
--- the bits of a flat layout
-unfoldable pub span : Fmt → ℕ → ℕ
-span f at = extent f at []
-
-pub span-laid : (f : Fmt) (h : List ℕ) (at : ℕ) (vs : List ℕ) (b : List Bool) → flat f ≡ true → write f h at vs ≡ accepted b → length b ≡ span f at
-unfolding span
-span-laid f h at vs b z e = extent-laid f h at vs b e ∙ flat-extent f at vs [] z
-
--- A flat layout of n bytes, with no kind to test and no seal.
-pub record Plain (l : Layout) (n : ℕ) : Type 0 where
-  pub bare : l .seal ≡ false
-  pub kindless : (vs : List ℕ) → l .kind vs ≡ 0
-  pub even : flat (l .fmt) ≡ true
-  pub spans : span (l .fmt) 0 ≡ n * 8
-  pub sized : size l n ≡ 0
 
 module _ (l : Layout) {n : ℕ} (x : Plain l n) (s vs : List ℕ) {w : Walk} (j : Judged (write (l .fmt) [] 0 vs) w) where
   whole : Judged (check (fault (l .kind vs)) 0 (write (l .fmt) [] 0 vs)) w

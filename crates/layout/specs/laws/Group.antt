@@ -13,12 +13,14 @@ use Rattle.bits.specs.Bits.{valueOf, bitsOf, fieldAt}
 use Rattle.bits.specs.Answers.{within, got}
 use Rattle.bits.specs.laws.Answers.{got-fits}
 use Rattle.bits.specs.laws.Bytes.{length-bits}
-use Rattle.layout.specs.Fmt.{Out, accepted, refused, Fault, good, bad, orBad, Judge, Fmt, field, check, also, read, spot}
-use Rattle.layout.specs.Reading.{ranging, parted, grouped}
+use Rattle.format.specs.Fmt.{Out, accepted, refused, Fault, good, bad, orBad, Judge, Fmt, field, check, also, read, spot}
+use Rattle.layout.specs.Reading.{parted, grouped}
+use Rattle.field.specs.Faults.{ranging}
 use Rattle.layout.specs.Walk.{onward}
-use Rattle.layout.specs.Words.{_‥_, Part, part, walk, wide, orElse, unless, orZero, free}
-use Rattle.layout.specs.laws.Round.{clash}
-use Rattle.layout.specs.laws.Step.{sticky, clear, Reading, read-flaw, also-also, step-spots, blamed as placed}
+use Rattle.format.specs.Words.{_‥_, Part, part, walk, wide, orElse, unless, orZero, free}
+use Rattle.format.specs.laws.Round.{clash}
+use Rattle.layout.specs.laws.Step.{sticky, clear, Reading, read-flaw, also-also, step-spots}
+use Rattle.format.specs.laws.Tells.{blamed as placed}
 use Rattle.layout.specs.declared.walk.Walk.{Walk}
 
 -- The field starts at `at` and has the bits b. Its fault x, after r₀, is what the parts from bit i on say, after r.

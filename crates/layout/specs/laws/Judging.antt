@@ -7,17 +7,18 @@ use native.Mathlib.Omega.{arith}
 use native.Mathlib.Nat.{le-refl, mod-eq-of-lt}
 use lib.Dec.{leb, ltb, eqb}
 use lib.ListN.{length, length-append}
-use borrow.Author.Tests.{le-leb, lt-leb, lt-ltb, le-ltb, ltb-true, ltb-false, eqb-true, ne-eqb}
-use Rattle.bits.specs.Bits.{valueOf, digits}
-use Rattle.bits.specs.laws.Digits.{length-digits, value-digits, value-lt, digits-value}
-use Rattle.layout.specs.Fmt.{Out, accepted, refused, Fault, good, bad, orBad, Judge, Fmt, end, field, bytes, check, also, sized, writeField, write, pad}
+use borrow.Author.Tests.{le-leb, lt-leb, ltb-true, ltb-false, eqb-true, ne-eqb}
+use Rattle.bits.specs.Bits.{digits}
+use Rattle.bits.specs.laws.Digits.{length-digits}
+use Rattle.format.specs.Fmt.{Out, accepted, refused, Fault, good, bad, orBad, Judge, Fmt, end, field, bytes, check, also, sized, writeField, write, pad}
 use Rattle.layout.specs.Judging.{valued, signedlyValued}
-use Rattle.layout.specs.Message.{fault}
+use Rattle.format.specs.Message.{fault}
 use Rattle.layout.specs.Walk.{begun, onward}
-use Rattle.layout.specs.Words.{Test, _‥_, signed, orElse, only, num, deciding, code}
-use Rattle.layout.specs.laws.Extent.{Opens, opens-field, opens-choice, extent, extent-laid}
-use Rattle.layout.specs.laws.Round.{sized-at}
-use Rattle.layout.specs.laws.Step.{sticky, stuck, blamed, Tells, only-tells}
+use Rattle.format.specs.Words.{Test, _‥_, signed, orElse, only, num, deciding, code}
+use Rattle.format.specs.laws.Extent.{Opens, opens-field, opens-choice, extent, extent-laid}
+use Rattle.format.specs.laws.Round.{sized-at}
+use Rattle.layout.specs.laws.Step.{sticky, stuck}
+use Rattle.format.specs.laws.Tells.{blamed, Tells, wrong, wrong-tells, wrong-narrow, wrong-wide}
 use Rattle.layout.specs.declared.walk.Walk.{Walk}
 
 -- o is what writing vs in f from `at` on answers, the bits before them put in front by k, unless r was refused before.
@@ -26,10 +27,6 @@ pub record Judging (o : Out (List Bool)) (f : Fmt) (h : List ℕ) (at : ℕ) (vs
   pub so : o ≡ sticky r (also k (write f h at vs))
   pub here : r .code ≡ 0 → r .at ≡ at
   pub long : r .code ≡ 0 → (l : List Bool) → length (k l) ≡ at + length l
-
--- the fault of a value: too wide, or as its judge says
-abbrev pub wrong : ℕ → (List Bool → Fault) → ℕ → Fault
-wrong w j v = orElse (orBad (ltb v (2 ^ w)) 4) (j (digits w v))
 
 -- ---- one step
 
@@ -93,18 +90,6 @@ judge-refused {g = g} {r = r} h′ to us n e = record {
 
 -- ---- the fault of a value
 
--- of one number, by a judge that tells a number
-pub wrong-tells : (w v : ℕ) {j : List Bool → Fault} {faultOf : ℕ → ℕ} → Tells w j faultOf → v < 2 ^ w → wrong w j v ≡ blamed (faultOf v) 0
-wrong-tells w v x l = rw (lt-ltb v (2 ^ w) l, x .whole (digits w v) (length-digits w v), value-digits w l) refl
-
--- by a test
-module _ (w c : ℕ) (t : Test) (h : List ℕ) (v : ℕ) where
-  pub wrong-narrow : v < 2 ^ w → wrong w (only w (suc c) t h) v ≡ blamed (cond (t h v) 0 (suc c)) 0
-  wrong-narrow l = wrong-tells w v (only-tells w c t h) l
-
-  pub wrong-wide : 2 ^ w ≤ v → wrong w (only w (suc c) t h) v ≡ bad 4 0
-  wrong-wide l = rw (le-ltb v (2 ^ w) l) refl
-
 -- a test that is limits, for the values that fit
 abbrev pub Limits : ℕ → Test → List ℕ → ℕ → ℕ → ℕ → Type 0
 Limits w t h v lo hi = v < 2 ^ w → t h v ≡ (lo ‥ hi) h v
@@ -118,12 +103,6 @@ wrong-limits w lo hi t h v n k = go (ltb v (2 ^ w)) refl
     go : (t′ : Bool) → ltb v (2 ^ w) ≡ t′ → wrong w (only w 4 t h) v ≡ blamed (cond (leb lo v && leb v hi) 0 4) 0
     go true e = let l = ltb-true v (2 ^ w) e in wrong-narrow w 3 t h v l ∙ ap (λ x. blamed (cond x 0 4) 0) (k l)
     go false e = let l = ltb-false v (2 ^ w) e in wrong-wide w 3 t h v l ∙ ap (λ c. blamed c 0) (sym (over l))
-
--- of bits that are given: a text, or content
-pub wrong-bits : (w : ℕ) (j : List Bool → Fault) (l : List Bool) → length l ≡ w → wrong w j (valueOf l) ≡ j l
-wrong-bits w j l e =
-    let n : valueOf l < 2 ^ w = rw (← e) (value-lt l) in
-    rw (lt-ltb (valueOf l) (2 ^ w) n, digits-value w l e) refl
 
 -- ---- the steps of the code
 

@@ -6,10 +6,10 @@ use Prim.Native.Nat.{ℕ, _+_, _≤_, _^_}
 use native.Mathlib.Nat.{mod-le}
 use lib.Dec.{eqb}
 use borrow.Author.Tests.{eqb-true, eqb-false}
-use Rattle.layout.specs.Fmt.{Out, Fmt}
+use Rattle.format.specs.Fmt.{Out, Fmt}
 use Rattle.layout.specs.Walk.{onward}
 use Rattle.layout.specs.laws.Judging.{Judging, judge-refused}
-use Rattle.layout.specs.laws.Putting.{Putting}
+use Rattle.format.specs.laws.Putting.{Putting}
 use Rattle.layout.specs.declared.walk.Walk.{Walk}
 
 -- ---- judging

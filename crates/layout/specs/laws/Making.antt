@@ -11,14 +11,14 @@ use borrow.Author.Tests.{leb-true, lt-ltb, eqb-true, eqb-false}
 use Rattle.bits.specs.Bits.{bytesOf}
 use Rattle.bits.specs.laws.Bytes.{length-bytes}
 use Rattle.bits.specs.Xor.{xorOf}
-use Rattle.layout.specs.Fmt.{Out, accepted, refused, Fault, good, bad, check, after, write}
+use Rattle.format.specs.Fmt.{Out, accepted, refused, Fault, good, bad, check, after, write}
 use Rattle.layout.specs.Judging.{bytesTo, made, closing}
-use Rattle.layout.specs.Promises.{Writes}
-use Rattle.layout.specs.Sealing.{stamped}
-use Rattle.layout.specs.Message.{Layout, fault, between, size, sealed, closed, into, refuses, accepts, writeMessage}
+use Rattle.format.specs.Promises.{Writes}
+use Rattle.format.specs.Sealing.{stamped}
+use Rattle.format.specs.Message.{Layout, fault, between, size, sealed, closed, into, refuses, accepts, writeMessage}
 use Rattle.layout.specs.laws.Judging.{Judged}
-use Rattle.layout.specs.laws.Putting.{Puts}
-use Rattle.layout.specs.laws.Round.{checked}
+use Rattle.format.specs.laws.Putting.{Puts}
+use Rattle.format.specs.laws.Round.{checked}
 use Rattle.layout.specs.laws.Step.{sticky, clear}
 use Rattle.layout.specs.declared.walk.Walk.{Walk}
 

@@ -12,14 +12,14 @@ use lib.Seq.{take-at, drop-at}
 use borrow.Author.Tests.{le-leb, lt-ltb, ltb-true, eq-eqb, ne-eqb, eqb-true, eqb-false}
 use Rattle.bits.specs.Bits.{valueOf, digits}
 use Rattle.bits.specs.laws.Digits.{length-digits, digits-add, value-digits, value-digits-mod}
-use Rattle.layout.specs.Fmt.{Out, Fault, good, bad, orBad, Judge, Fmt, field}
-use Rattle.layout.specs.Judging.{unpieced, pieced, unlessZero}
+use Rattle.format.specs.Fmt.{Out, Fault, good, bad, orBad, Judge, Fmt, field}
+use Rattle.field.specs.Pieces.{unpieced, pieced, unlessZero}
 use Rattle.layout.specs.Walk.{onward}
-use Rattle.layout.specs.Words.{_‥_, Part, part, walk, wide, orElse, unless, orZero}
-use Rattle.layout.specs.laws.Extent.{opens-field}
-use Rattle.layout.specs.laws.Judging.{Judging, wrong, judge}
-use Rattle.layout.specs.laws.Step.{blamed}
-use Rattle.layout.specs.declared.judging.Pieces.{Pieces}
+use Rattle.format.specs.Words.{_‥_, Part, part, walk, wide, orElse, unless, orZero}
+use Rattle.format.specs.laws.Extent.{opens-field}
+use Rattle.layout.specs.laws.Judging.{Judging, judge}
+use Rattle.format.specs.laws.Tells.{wrong, blamed}
+use Rattle.field.specs.declared.pieces.Pieces.{Pieces}
 use Rattle.layout.specs.declared.walk.Walk.{Walk}
 
 -- The fault of v, of w bits: what g found, or what the parts ps say of the low bits, the first of them i bits in.

@@ -14,24 +14,17 @@ use Rattle.bits.specs.Answers.{within, got}
 use Rattle.bits.specs.laws.Answers.{got-fits}
 use Rattle.bits.specs.laws.Bytes.{length-bits}
 use Rattle.bits.specs.laws.Fields.{field-lt, field-join}
-use Rattle.layout.specs.Fmt.{Out, accepted, refused, Judge, Fmt, field, choice, bytes, check, also, read, Spot, none, found, later, spot}
-use Rattle.layout.specs.Message.{fault}
-use Rattle.layout.specs.Reading.{ranging, signing, blanking, ranged, given, carried, blanked, signedly, wholly}
+use Rattle.format.specs.Fmt.{Out, accepted, refused, Judge, Fmt, field, choice, bytes, check, also, read, Spot, none, found, later, spot}
+use Rattle.format.specs.Message.{fault}
+use Rattle.layout.specs.Reading.{ranged, given, carried, blanked, signedly}
+use Rattle.field.specs.Faults.{ranging, signing, blanking, wholly}
 use Rattle.layout.specs.Walk.{begun, onward}
-use Rattle.layout.specs.Words.{Test, any, _‥_, signed, only, kept, num, code, fill}
-use Rattle.layout.specs.laws.Step.{sticky, sought, blamed, Reading, Steps, Tells, only-tells, step, step-choice, step-late, step-spots, told, tested, clean, also-also}
+use Rattle.format.specs.Words.{Test, any, _‥_, signed, only, kept, num, code, fill}
+use Rattle.layout.specs.laws.Step.{sticky, sought, Reading, Steps, step, step-choice, step-late, step-spots, told, tested, clean, also-also}
+use Rattle.format.specs.laws.Tells.{blamed, Tells, only-tells, only-one}
 use Rattle.layout.specs.declared.walk.Walk.{Walk}
 
 -- ---- the code's steps
-
--- what a range that is one number leaves
-pub only-one : (n v c : ℕ) → cond (leb n v && leb v n) 0 (suc c) ≡ 0 → v ≡ n
-only-one n v c = go (leb n v) (leb v n) refl refl
-  where
-    go : (x y : Bool) → leb n v ≡ x → leb v n ≡ y → _≡_ {A = ℕ} (cond (x && y) 0 (suc c)) 0 → v ≡ n
-    go true true ex ey z = let a = leb-true n v ex in let b = leb-true v n ey in omega arith
-    go true false ex ey z = absurd (omega (arith, z))
-    go false y ex ey z = absurd (omega (arith, z))
 
 known : (s : List ℕ) (at w c n : ℕ) → ranging s at w n n (suc c) ≡ 0 → got s at w ≡ n
 known s at w c n = go (within (length s) at w)

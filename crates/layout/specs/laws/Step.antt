@@ -1,5 +1,5 @@
 -- One step of the walk, over any judge: where reading stands at a field, it stands behind it afterwards. Assumes nothing.
-use mathlib.Core.Path.{_≡_, refl, sym, ap, ap₂, _∙_}
+use mathlib.Core.Path.{_≡_, refl, sym, ap, _∙_}
 use mathlib.Core.Bool.{Bool, true, false, cond, _&&_, false≢true}
 use mathlib.Core.List.{List, [], _∷_}
 use Prim.Native.Nat.{ℕ, zero, suc, _+_, _-_, _*_, _%_, _≤_, _<_, _^_}
@@ -7,15 +7,16 @@ use native.Mathlib.Omega.{arith}
 use native.Mathlib.Nat.{add-zero, add-assoc, mod-eq-of-lt}
 use lib.Dec.{leb, eqb}
 use lib.ListN.{length, take, drop, length-take, length-drop}
-use lib.Seq.{length-take-le, take-all, drop-drop}
-use borrow.Author.Tests.{le-leb, lt-leb, leb-true, leb-false, eq-eqb, ne-eqb, eqb-true, eqb-false}
+use lib.Seq.{length-take-le, drop-drop}
+use borrow.Author.Tests.{le-leb, leb-true, leb-false, eq-eqb, ne-eqb, eqb-true, eqb-false}
 use Rattle.bits.specs.Bits.{valueOf, bitsOf, fieldAt}
 use Rattle.bits.specs.Answers.{within, got}
 use Rattle.bits.specs.laws.Bytes.{length-bits}
-use Rattle.layout.specs.Fmt.{Out, accepted, refused, Fault, good, bad, orBad, Judge, Fmt, field, choice, check, also, readField, read, Spot, none, found, later, where?, spot}
-use Rattle.layout.specs.Correcting.{standing}
+use Rattle.format.specs.Fmt.{Out, accepted, refused, Fault, good, bad, orBad, Judge, Fmt, field, choice, check, also, readField, read, Spot, none, found, later, where?, spot}
+use Rattle.format.specs.Correcting.{standing}
 use Rattle.layout.specs.Walk.{onward}
-use Rattle.layout.specs.Words.{Test, walk, orElse, unless, only, twice, kept}
+use Rattle.format.specs.Words.{orElse, kept}
+use Rattle.format.specs.laws.Tells.{blamed, Tells}
 use Rattle.layout.specs.declared.walk.Walk.{Walk}
 
 -- a refusal sticks
@@ -54,11 +55,6 @@ also-also k v (refused c p) = refl
 -- the judge's fault, or that the field is cut
 abbrev pub flaw : ℕ → (List Bool → Fault) → List Bool → Fault
 flaw w j b = orElse (j (take w b)) (orBad (leb w (length b)) 1)
-
--- the fault with the number c, i bits in
-abbrev pub blamed : ℕ → ℕ → Fault
-blamed zero i = good
-blamed (suc c) i = bad (suc c) i
 
 pub read-flaw : (w : ℕ) (j : Judge) (h : List ℕ) (at : ℕ) (b : List Bool) (next : ℕ → List Bool → Out (List ℕ))
     → readField w j h at b next ≡ check (flaw w (j h) b) at (also (valueOf (take w b) ∷_) (next (valueOf (take w b)) (drop w b)))
@@ -214,42 +210,6 @@ step-late {o} {all} {i} {s} {h} {at} {k} {r} {w} {j} {f} {u} {c} {q} v reach e x
     go false t = late (eqb-false (r .code) 0 t)
 
 -- ---- a field of one number
-
--- The judge's fault is a number that the field's value gives, or 1 where the field is cut.
-pub record Tells (w : ℕ) (j : List Bool → Fault) (faultOf : ℕ → ℕ) : Type 0 where
-  pub whole : (b : List Bool) → length b ≡ w → j b ≡ blamed (faultOf (valueOf b)) 0
-  pub cut : (b : List Bool) → length b < w → j b ≡ bad 1 0
-
-pub only-tells : (w c : ℕ) (t : Test) (h : List ℕ) → Tells w (only w (suc c) t h) (λ v. cond (t h v) 0 (suc c))
-unfolding walk
-only-tells w c t h = record {
-  whole = λ b e. rw (le-leb w (length b) (omega (arith, e)), take-all w b (omega (arith, e))) (go (t h (valueOf b)));
-  cut = λ b l. rw (lt-leb w (length b) l) refl;
-}
-  where
-    go : (x : Bool) → orElse (unless x (suc c) 0) good ≡ blamed (cond x 0 (suc c)) 0
-    go true = refl
-    go false = refl
-
--- under two tests
-pub twice-tells : (w c d : ℕ) (t u : Test) (h : List ℕ) → Tells w (twice w (suc c) t (suc d) u h) (λ v. cond (t h v) (cond (u h v) 0 (suc d)) (suc c))
-twice-tells w c d t u h =
-    let x = only-tells w c t h in
-    let y = only-tells w d u h in
-    record {
-      whole = λ b e. ap₂ orElse (x .whole b e) (y .whole b e) ∙ go (t h (valueOf b)) (u h (valueOf b));
-      cut = λ b l. ap₂ orElse (x .cut b l) (y .cut b l);
-    }
-  where
-    go : (x y : Bool) → orElse (blamed (cond x 0 (suc c)) 0) (blamed (cond y 0 (suc d)) 0) ≡ blamed (cond x (cond y 0 (suc d)) (suc c)) 0
-    go true true = refl
-    go true false = refl
-    go false y = refl
-
--- under a judge that hangs on a test of the values before
-pub cond-tells : (w : ℕ) (x : Bool) {j k : List Bool → Fault} {f g : ℕ → ℕ} → Tells w j f → Tells w k g → Tells w (λ b. cond x (j b) (k b)) (λ v. cond x (f v) (g v))
-cond-tells w true y z = y
-cond-tells w false y z = z
 
 module _ (s : List ℕ) (at w : ℕ) (j : Judge) (h : List ℕ) {faultOf : ℕ → ℕ} (x : Tells w (j h) faultOf) (reach : at + w < 2 ^ 64) (some : length s * 8 < at → 0 < w) where
   abbrev rest : List Bool

@@ -2,20 +2,19 @@
 use mathlib.Core.Path.{_≡_, refl, ap, _∙_, subst, subst⁻¹}
 use mathlib.Core.Bool.{Bool, true, false, cond}
 use mathlib.Core.List.{List, []}
-use Prim.Native.Nat.{ℕ, zero, suc, _+_, _-_, _*_, _/_, _%_, _≤_, _<_, _^_}
+use Prim.Native.Nat.{ℕ, _+_, _-_, _*_, _/_, _%_, _≤_, _<_, _^_}
 use native.Mathlib.Omega.{arith}
 use native.Mathlib.Nat.{add-zero, mod-eq-of-lt}
 use lib.Dec.{eqb}
-use lib.ListN.{length, take, drop, getD, length-drop}
-use Rattle.bits.specs.Xor.{xorOf}
+use lib.ListN.{length, take, drop, length-drop}
 use borrow.Author.Tests.{eq-eqb, ne-eqb, eqb-true, eqb-false}
 use Rattle.bits.specs.Bits.{valueOf, bitsOf, fieldAt}
 use Rattle.bits.specs.Answers.{got}
 use Rattle.bits.specs.laws.Answers.{got-fits}
 use Rattle.bits.specs.laws.Bytes.{length-bits}
-use Rattle.layout.specs.Fmt.{Out, accepted, refused, orBad, check, Fmt, end, also, read, pad, spot}
-use Rattle.layout.specs.Message.{Layout, fault, body, sealFault, firstOf, first, codeOf, readMessage}
-use Rattle.layout.specs.Reading.{closes, ended}
+use Rattle.format.specs.Fmt.{Out, accepted, Fmt, end, also, read, pad, spot}
+use Rattle.layout.specs.Reading.{ended}
+use Rattle.field.specs.Faults.{closes}
 use Rattle.layout.specs.laws.Step.{sticky, stood, sought, Reading, clean}
 use Rattle.layout.specs.declared.walk.Walk.{Walk}
 
@@ -27,16 +26,6 @@ pub record Walked (o : Out (List ℕ)) (all : Fmt) (i : ℕ) (vs : List ℕ) (r 
 
 pub same-values : {o : Out (List ℕ)} {all : Fmt} {i : ℕ} {us vs : List ℕ} {r : Walk} → us ≡ vs → Walked o all i us r → Walked o all i vs r
 same-values {o} {all} {i} {r = r} e x = subst (λ vs. Walked o all i vs r) e x
-
--- Where the first tests refused, that is the answer.
-pub held-back : {A : Type 0} (c : ℕ) (o : Out A) → (c ≡ 0 → ⊥) → check (fault c) 0 o ≡ refused c 0
-held-back zero o n = absurd (n refl)
-held-back (suc c) o n = refl
-
--- What was accepted behind the first tests passed them.
-pub unled : {A : Type 0} (c : ℕ) (o : Out A) → codeOf (check (fault c) 0 o) ≡ 0 → c ≡ 0
-unled zero o e = refl
-unled (suc c) o e = e
 
 -- fill bits up to a whole byte, and nothing behind them
 pub finish : {o : Out (List ℕ)} {all : Fmt} {i : ℕ} {s : List ℕ} {h : List ℕ} {at : ℕ} {k : List ℕ → List ℕ} {r q : Walk} → at + 8 < 2 ^ 64
@@ -85,25 +74,3 @@ finish {o} {all} {i} {s} {h} {at} {k} {r} reach e d =
     thin : (x : Bool) → cond x 0 (r .width) ≤ 32
     thin true = omega arith
     thin false = e .slim
-
--- the lead and the seal are one test
-pub first-tests : {A : Type 0} (l : Layout) (s : List ℕ) (o : Out A) → check (fault (l .lead s)) 0 (check (sealFault (l .seal) s) 0 o) ≡ check (fault (first l s)) 0 o
-first-tests l s o = go (l .lead s) (l .seal)
-  where
-    stamped : (t : Bool) → check (orBad t 3) 0 o ≡ check (fault (firstOf (orBad t 3) 0)) 0 o
-    stamped true = refl
-    stamped false = refl
-
-    go : (c : ℕ) (z : Bool) → check (fault c) 0 (check (sealFault z s) 0 o) ≡ check (fault (firstOf (sealFault z s) c)) 0 o
-    go c false = refl
-    go (suc c) true = late (eqb (getD s (length s - 1) 0) (xorOf (take (length s - 1) s)))
-      where
-        late : (t : Bool) → check (fault (suc c)) 0 (check (orBad t 3) 0 o) ≡ check (fault (firstOf (orBad t 3) (suc c))) 0 o
-        late true = refl
-        late false = refl
-    go zero true = stamped (eqb (getD s (length s - 1) 0) (xorOf (take (length s - 1) s)))
-
--- The message is read by its first tests, then its fields.
-pub read-first : (l : Layout) (s : List ℕ) {c : ℕ} → c ≡ first l s → readMessage l s ≡ check (fault c) 0 (read (l .fmt) [] 0 (bitsOf (body (l .seal) s)))
-unfolding readMessage
-read-first l s e = first-tests l s (read (l .fmt) [] 0 (bitsOf (body (l .seal) s))) ∙ rw (← e) refl

@@ -6,10 +6,10 @@ use native.Mathlib.Omega.{arith}
 use lib.Dec.{leb, eqb}
 use lib.ListN.{length}
 use Rattle.bits.specs.Bits.{bytesOf}
-use Rattle.layout.specs.Fmt.{bad, Fmt, end}
-use Rattle.layout.specs.Message.{Sound}
-use Rattle.layout.specs.Words.{any, _‥_, _▹_, unless, walk, num, deciding}
-use Rattle.layout.specs.laws.Zero.{Numbered, Judged, walk-numbered, zero-numbered, only-numbered}
+use Rattle.format.specs.Fmt.{bad, Fmt, end}
+use Rattle.format.specs.Message.{Sound}
+use Rattle.format.specs.Words.{any, _‥_, _▹_, unless, walk, num, deciding}
+use Rattle.format.specs.laws.Zero.{Numbered, Judged, walk-numbered, zero-numbered, only-numbered}
 use Rattle.notice.specs.Notice.{moment, angle, latitude, longitude, points, least, inside, areas, inLanguage, text, notice, notices}
 
 pub sound : (l : ℕ) → Sound (notices l)

@@ -1,10 +1,8 @@
 // The frame TXXX's calls.
-ghost use mathlib.Core.Path.{_≡_};
 ghost use Rattle.rows.specs.Row.{Fills};
-ghost use Rattle.relay.specs.frames.Txxx.{rowOf, numbersOf, recordOf};
+ghost use Rattle.frame_rows.specs.Txxx.{numbersOf, recordOf};
 ghost use Rattle.txxx.specs.Txxx.{txxxs, valuesOf};
-ghost use Rattle.layout.specs.Promises.{Writes, Corrects};
-use txxx::Answer;
+ghost use Rattle.format.specs.Promises.{Writes, Corrects};
 use txxx::Txxx;
 
 // Reads the frame into a row of 9: address, class, sender, hour, minute, size, mark, where the content begins and its bytes.
@@ -12,14 +10,7 @@ use txxx::Txxx;
 pub extern "C" fn bellnewt_txxx_read(s: &[u8], row: &mut [i64]) -> u8
     ensures { λ code. ⌜ Fills (numbersOf (now (s .entry))) (now (row .entry)) code (now (row .exit)) ⌝ }
 {
-    let answer = txxx::read(s);
-    match answer {
-        Answer::Good(r) => {
-            let numbers = numbers(r);
-            rows::fill(row, &numbers)
-        },
-        Answer::Refused(code) => code,
-    }
+    frame_rows::txxxs::read(s, row)
 }
 
 // Writes the frame of these numbers and content into the front of a lent buffer.
@@ -55,20 +46,4 @@ pub extern "C" fn bellnewt_txxx_correct(s: &mut [u8], field: usize, value: u64) 
     ensures { λ code. ⌜ Corrects txxxs (now (s .entry)) field value code (now (s .exit)) ⌝ }
 {
     txxx::correct(s, field, value)
-}
-
-fn numbers(r: Txxx) -> [i64; 9]
-    ensures { λ xs. ⌜ xs ≡ rowOf r ⌝ }
-{
-    [
-        r.address as i64,
-        r.class as i64,
-        r.sender as i64,
-        r.hour as i64,
-        r.minute as i64,
-        r.size as i64,
-        r.mark as i64,
-        Txxx::CONTENT as i64,
-        crate::frames::whole_bytes(r.size) as i64,
-    ]
 }

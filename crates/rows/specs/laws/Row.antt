@@ -9,9 +9,9 @@ use lib.IntN.{ℤ, pos}
 use lib.ListN.{length, take, drop, getD, set}
 use lib.Seq.{take-length, paste-suc}
 use borrow.Author.Tests.{le-leb, lt-leb}
-use Rattle.layout.specs.Fmt.{Out, accepted, refused, also}
-use Rattle.layout.specs.Message.{codeOf, into, leaves}
-use Rattle.layout.specs.Promises.{answered}
+use Rattle.format.specs.Fmt.{Out, accepted, refused, also}
+use Rattle.format.specs.Message.{codeOf, into, leaves}
+use Rattle.format.specs.Promises.{answered}
 use Rattle.rows.specs.Row.{Fills}
 
 -- the call's number and the row that it leaves, from its answer

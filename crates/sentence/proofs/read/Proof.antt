@@ -5,7 +5,7 @@ use native.Mathlib.Omega.{arith}
 use Prim.Native.Nat.{_-_}
 use lib.ListN.{length}
 use Rattle.sentence.specs.Sentence.{refusalOf}
-use Rattle.layout.specs.Fmt.{accepted}
+use Rattle.format.specs.Fmt.{accepted}
 use Rattle.sentence.specs.declared.Heard.the-variants.{Refused}
 use Rattle.sentence.specs.laws.Parts.{length-part}
 use Rattle.sentence.specs.laws.Calls.{heard-refused, Taken, taken, heardAs, heard-inside}

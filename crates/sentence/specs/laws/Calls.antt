@@ -7,11 +7,11 @@ use native.Mathlib.Omega.{arith}
 use lib.ListN.{length, drop, drop-of-length-le}
 use borrow.Author.Tests.{le-leb, lt-leb}
 use Rattle.bits.specs.Bits.{Bytes}
-use Rattle.layout.specs.Fmt.{Out, accepted, refused, also}
-use Rattle.layout.specs.Message.{codeOf, leaves, into, writeMessage}
-use Rattle.layout.specs.laws.Whole.{made}
-use Rattle.layout.specs.laws.Family.{never-written}
-use Rattle.layout.specs.Promises.{readRecord, Writes}
+use Rattle.format.specs.Fmt.{Out, accepted, refused, also}
+use Rattle.format.specs.Message.{codeOf, leaves, into, writeMessage}
+use Rattle.format.specs.laws.Whole.{made}
+use Rattle.format.specs.laws.Family.{never-written}
+use Rattle.format.specs.Promises.{readRecord, Writes}
 use Rattle.distress.specs.laws.Demands.{family, long}
 use Rattle.distress.specs.Report.{reports, valuesOf, reportOf, answerOf}
 use Rattle.sentence.specs.Sentence.{Front, allDigits, decimal, unhexed, opening, summedUp, sentence, addressGood, hexPart, aroundSo, readSentence, writeSentence, roomFor, aroundOf, heardOf, sentOf, laidOver, Sends}

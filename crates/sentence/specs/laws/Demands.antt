@@ -9,10 +9,10 @@ use lib.ListN.{length, take, drop}
 use lib.Seq.{take-at}
 use borrow.Author.Tests.{le-leb, leb-true}
 use Rattle.bits.specs.Bits.{Bytes}
-use Rattle.layout.specs.Fmt.{Out, accepted, refused, orBad, check, also}
-use Rattle.layout.specs.Message.{writeMessage}
-use Rattle.layout.specs.laws.Family.{never-read, never-written, written-record, read-writes}
-use Rattle.layout.specs.Promises.{readRecord}
+use Rattle.format.specs.Fmt.{Out, accepted, refused, orBad, check, also}
+use Rattle.format.specs.Message.{writeMessage}
+use Rattle.format.specs.laws.Family.{never-read, never-written, written-record, read-writes}
+use Rattle.format.specs.Promises.{readRecord}
 use Rattle.distress.specs.laws.Demands.{family, good}
 use Rattle.distress.specs.Promises.{Reads}
 use Rattle.distress.specs.Report.{reports, valuesOf, reportOf, answerOf}

@@ -8,7 +8,7 @@ use lib.ListN.{length, take, drop, length-append, length-drop, take-append-drop}
 use lib.Seq.{take-at, drop-at, drop-drop, length-take-le}
 use Rattle.bits.specs.Bits.{Bytes}
 use Rattle.bits.specs.Xor.{xorOf}
-use Rattle.layout.specs.Fmt.{accepted}
+use Rattle.format.specs.Fmt.{accepted}
 use Rattle.sentence.specs.Sentence.{allDigits, decimal, spelt, hexOf, unhexed, startMark, innerMark, closingOf, opening, summedUp, sentence, sameBytes, part, addressPart, innerPart, hexPart, summed, lastFive, addressLike, aroundSo}
 use Rattle.sentence.specs.laws.Digits.{spelt-decimal, decimal-spelt, decimal-length, decimal-most, decimal-head, decimal-digits}
 use Rattle.sentence.specs.laws.Hex.{hex-length, hex-digits, unhexed-hex, Unhexed, hex-unhexed}

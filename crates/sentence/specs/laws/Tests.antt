@@ -8,8 +8,8 @@ use lib.Dec.{leb, eqb}
 use lib.ListN.{length, take, getD}
 use borrow.Author.Tests.{le-leb, lt-leb, leb-true, eqb-true, eqb-false, eq-eqb, ne-eqb, not-true}
 use Rattle.bits.specs.Xor.{xorOf}
-use Rattle.layout.specs.Fmt.{Out, accepted, refused, orBad, check}
-use Rattle.layout.specs.Message.{fault, between}
+use Rattle.format.specs.Fmt.{Out, accepted, refused, orBad, check}
+use Rattle.format.specs.Message.{fault, between}
 use Rattle.sentence.specs.Sentence.{allDigits, spelt, unhexed, startMark, innerMark, closingOf, sameBytes, addressGood, addressPart, innerPart, hexPart, summed, lastFive, addressLike, patternLike, leadOf, aroundSo}
 use Rattle.sentence.specs.laws.Digits.{both, spelt-some}
 

@@ -1,8 +1,8 @@
 -- `code_as` takes the reading that the letters name.
 use mathlib.Core.Path.{refl, ap, _∙_}
 use borrow.Author.Tests.{eq-eqb, ne-eqb}
-use Rattle.layout.specs.Message.{readMessage}
-use Rattle.layout.specs.laws.Answers.{numbered}
+use Rattle.format.specs.Message.{readMessage}
+use Rattle.format.specs.laws.Answers.{numbered}
 use Rattle.gljc.specs.Gljc.{gljcs, recordOf as gljcOf, numberOf as gljcNumber, letters as GLJC}
 use Rattle.gljc.specs.declared.Answer.the-variants.{Good as gljcGood, Refused as gljcBad}
 use Rattle.txsq.specs.Txsq.{txsqs, recordOf as txsqOf, numberOf as txsqNumber, letters as TXSQ}

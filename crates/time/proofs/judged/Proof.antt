@@ -1,6 +1,6 @@
 -- `judged` is the step over the number whose parts are judged.
 use mathlib.Core.Path.{ap, _∙_}
-use Rattle.layout.specs.Judging.{pieced}
+use Rattle.field.specs.Pieces.{pieced}
 use Rattle.time.specs.Steps.{datePieced, judgedAs}
 use borrow.Author.Needs.{needs}
 use Rattle.time.proofs.judged.Statement.{statement}

@@ -8,15 +8,15 @@ use lib.Dec.{lit<, lit≤}
 use lib.ListN.{take, drop, length-take}
 use Rattle.bits.specs.Answers.{got}
 use Rattle.bits.specs.Bits.{valueOf, bitsOf}
-use Rattle.layout.specs.Fmt.{Out, Fmt, field}
+use Rattle.format.specs.Fmt.{Out, Fmt, field}
 use Rattle.layout.specs.Reading.{parted, grouped}
 use Rattle.layout.specs.Walk.{onward}
-use Rattle.layout.specs.Words.{Part, part, _‥_, walk, wide, free}
+use Rattle.format.specs.Words.{Part, part, _‥_, walk, wide, free}
 use Rattle.layout.specs.laws.Group.{Parting, Passes, part-start, part-step, part-end, parts-there, group-step}
 use Rattle.layout.specs.laws.Judging.{Judging}
 use Rattle.layout.specs.laws.Pieces.{piece-start, piece-step, piece-end, judge-group}
 use Rattle.layout.specs.laws.Step.{Reading}
-use Rattle.layout.specs.laws.Zero.{Judged, Numbered, Coded, walk-numbered}
+use Rattle.format.specs.laws.Zero.{Judged, Numbered, Coded, walk-numbered}
 use Rattle.layout.specs.declared.walk.Walk.{Walk}
 use Rattle.time.specs.Steps.{dateRead, timeRead, shortRead, timeJudged, shortJudged}
 use Rattle.time.specs.Time.{dateParts, time, shortTime}

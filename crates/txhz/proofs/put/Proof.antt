@@ -3,7 +3,7 @@ use mathlib.Core.Path.{refl, _∙_}
 use lib.Dec.{lit≤}
 use Rattle.bits.specs.Bits.{Bytes}
 use Rattle.frame.specs.laws.Head.{head-put}
-use Rattle.layout.specs.laws.Putting.{put-start, put-step, put-end}
+use Rattle.format.specs.laws.Putting.{put-start, put-step, put-end}
 use Rattle.txhz.specs.Txhz.{letters, txhz, valuesOf}
 use Rattle.txhz.specs.laws.Receipts.{receipt-put}
 use borrow.Author.Needs.{needs}

@@ -1,7 +1,7 @@
 -- `put_receipt` is four puts, one behind another.
 use mathlib.Core.Path.{ap, _∙_}
 use Prim.Native.Nat.{_+_}
-use Rattle.layout.specs.Correcting.{putIn, put-in}
+use Rattle.format.specs.Correcting.{putIn, put-in}
 use borrow.Author.Needs.{needs}
 use Rattle.txhz.proofs.put_receipt.Statement.{statement}
 use Rattle.txhz.proofs.put_receipt.Tie as tie

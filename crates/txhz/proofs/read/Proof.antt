@@ -3,9 +3,9 @@ use mathlib.Core.Path.{sym, ap, _∙_}
 use mathlib.Core.List.{[]}
 use Rattle.bits.specs.Bits.{bitsOf}
 use Rattle.frame.specs.laws.Sound.{first-size}
-use Rattle.layout.specs.Fmt.{also, check, read}
-use Rattle.layout.specs.Message.{fault}
-use Rattle.layout.specs.laws.Walked.{read-first}
+use Rattle.format.specs.Fmt.{also, check, read}
+use Rattle.format.specs.Message.{fault}
+use Rattle.format.specs.laws.Lead.{read-first}
 use Rattle.txhz.specs.Txhz.{letters, txhz, txhzs, recordOf, answerOf}
 use borrow.Author.Needs.{needs}
 use Rattle.txhz.proofs.read.Statement.{statement}

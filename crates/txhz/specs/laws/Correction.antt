@@ -5,10 +5,10 @@ use mathlib.Core.List.{List, [], _∷_}
 use Prim.Native.Nat.{ℕ, _+_, _≤_}
 use lib.Dec.{eqb, ltb}
 use lib.ListN.{getD, set}
-use Rattle.layout.specs.Correcting.{standing}
-use Rattle.layout.specs.Fmt.{accepted, Spot, none, found, spot}
-use Rattle.layout.specs.Promises.{readRecord}
-use Rattle.layout.specs.laws.Spots.{spotsAlong, spot-along, rows, slim, where-row, table-stands, table-slim, eachAt, set-each, kept-entry}
+use Rattle.format.specs.Correcting.{standing}
+use Rattle.format.specs.Fmt.{accepted, Spot, none, found, spot}
+use Rattle.format.specs.Promises.{readRecord}
+use Rattle.format.specs.laws.Spots.{spotsAlong, spot-along, rows, slim, where-row, table-stands, table-slim, eachAt, set-each, kept-entry}
 use Rattle.txhz.specs.Changed.{spotOf, changedReceipt, changed}
 use Rattle.txhz.specs.Promises.{Reads}
 use Rattle.txhz.specs.Steps.{wide, tableOf}

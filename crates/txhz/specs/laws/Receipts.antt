@@ -7,15 +7,16 @@ use native.Mathlib.Omega.{arith}
 use lib.Dec.{leb, lit<, lit≤}
 use lib.ListN.{length}
 use Rattle.bits.specs.Answers.{within, got}
-use Rattle.layout.specs.Correcting.{putIn}
-use Rattle.layout.specs.Fmt.{Out, bad, Fmt}
+use Rattle.format.specs.Correcting.{putIn}
+use Rattle.format.specs.Fmt.{Out, bad, Fmt}
 use Rattle.layout.specs.Walk.{onward}
-use Rattle.layout.specs.Words.{_‥_, only}
-use Rattle.layout.specs.laws.Extent.{opens-field}
+use Rattle.format.specs.Words.{_‥_, only}
+use Rattle.format.specs.laws.Extent.{opens-field}
 use Rattle.layout.specs.laws.Judging.{Judging, judge-tells}
-use Rattle.layout.specs.laws.Putting.{Putting, put-number}
-use Rattle.layout.specs.laws.Step.{Reading, Tells, only-tells, cond-tells, step, tested}
-use Rattle.layout.specs.laws.Zero.{Judged, Numbered, only-numbered}
+use Rattle.format.specs.laws.Putting.{Putting, put-number}
+use Rattle.layout.specs.laws.Step.{Reading, step, tested}
+use Rattle.format.specs.laws.Tells.{Tells, only-tells, cond-tells}
+use Rattle.format.specs.laws.Zero.{Judged, Numbered, only-numbered}
 use Rattle.layout.specs.declared.walk.Walk.{Walk}
 use Rattle.txhz.specs.Steps.{slotRead, receiptRead, slotJudged, receiptJudged, receiptPut}
 use Rattle.txhz.specs.Txhz.{counted, slot, receipt, times}

@@ -3,9 +3,9 @@ use mathlib.Core.Path.{refl, ap, _∙_}
 use mathlib.Core.List.{List, []}
 use Prim.Native.Nat.{ℕ}
 use Rattle.bits.specs.Bits.{bitsOf}
-use Rattle.layout.specs.Fmt.{also, read}
-use Rattle.layout.specs.laws.Corrections.{family-early, family-late}
-use Rattle.layout.specs.laws.Spots.{slim, table-stands, table-slim}
+use Rattle.format.specs.Fmt.{also, read}
+use Rattle.format.specs.laws.Corrections.{family-early, family-late}
+use Rattle.format.specs.laws.Spots.{slim, table-stands, table-slim}
 use Rattle.txsq.specs.Txsq.{txsq, txsqs, valuesOf, recordOf, answerOf, numberOf}
 use Rattle.txsq.specs.laws.Correction.{places, widths, along}
 use Rattle.txsq.specs.laws.Demands.{family}

@@ -5,12 +5,12 @@ use Prim.Native.Nat.{_<_, _^_}
 use native.Mathlib.Omega.{arith}
 use lib.Dec.{lit<, lit≤}
 use Rattle.frame.specs.laws.Head.{head-read}
-use Rattle.layout.specs.Fmt.{pad}
+use Rattle.format.specs.Fmt.{pad}
 use Rattle.layout.specs.Reading.{ranged}
-use Rattle.layout.specs.Words.{_‥_, ago}
-use Rattle.layout.specs.laws.Answers.{told-so}
+use Rattle.format.specs.Words.{_‥_, ago}
+use Rattle.format.specs.laws.Answers.{told-so}
 use Rattle.layout.specs.laws.Reading.{step-code, step-num, step-limits, step-given, step-content, step-fill}
-use Rattle.layout.specs.laws.Step.{twice-tells}
+use Rattle.format.specs.laws.Tells.{twice-tells}
 use Rattle.layout.specs.laws.Walked.{finish}
 use Rattle.txsq.specs.Txsq.{letters, allowed, bounded, limits, filling, txsq, recordOf}
 use Rattle.txsq.specs.declared.Answer.the-variants.{Good, Refused}

@@ -7,8 +7,8 @@ use lib.Dec.{eqb}
 use lib.ListN.{length, getD, set}
 use Rattle.bits.specs.Bits.{fieldAt}
 use Rattle.frame.specs.Frame.{declared}
-use Rattle.layout.specs.Fmt.{pad, spot, none, found}
-use Rattle.layout.specs.laws.Spots.{spotsAlong, spot-along, rows, eachAt, set-each, kept-entry}
+use Rattle.format.specs.Fmt.{pad, spot, none, found}
+use Rattle.format.specs.laws.Spots.{spotsAlong, spot-along, rows, eachAt, set-each, kept-entry}
 use Rattle.txsq.specs.Changed.{spotOf, changed}
 use Rattle.txsq.specs.Txsq.{letters, txsq, txsqs, valuesOf}
 use Rattle.txsq.specs.declared.Txsq.{Txsq}

@@ -1,4 +1,4 @@
--- The frame TXSQ is a family of layout/specs/laws/Family, whose theorems are demands 2 and 3; said here of the frame's own promises. Assumes nothing.
+-- The frame TXSQ is a family of format/specs/laws/Family, whose theorems are demands 2 and 3; said here of the frame's own promises. Assumes nothing.
 use mathlib.Core.Path.{_≡_, refl, sym, ap, _∙_, subst}
 use mathlib.Core.Bool.{Bool, true, false, cond}
 use mathlib.Core.List.{List, [], _∷_, _++_}
@@ -12,18 +12,18 @@ use Rattle.frame.specs.Frame.{bytesFor, contentOf}
 use Rattle.frame.specs.laws.Content.{fits-content, declared-fits, content-again, content-first, content-fill, content-long, content-bytes}
 use Rattle.frame.specs.laws.Head.{head-numbered}
 use Rattle.frame.specs.laws.Sound.{frame-sound}
-use Rattle.layout.specs.Fmt.{accepted, good as Fmt·good, pad, read, Out, refused, found}
-use Rattle.layout.specs.Words.{code, twice, ago}
-use Rattle.layout.specs.laws.Entries.{entries, held-entries}
-use Rattle.layout.specs.laws.Extent.{extent, extent-laid}
-use Rattle.layout.specs.laws.Family.{Family, written-front, read-written, corrected-as-written}
-use Rattle.layout.specs.laws.Held.{Held, held, exactly, told-good}
-use Rattle.layout.specs.laws.Round.{read-write}
-use Rattle.layout.specs.laws.Step.{twice-tells}
-use Rattle.layout.specs.laws.Zero.{Judged, only-numbered, twice-numbered}
-use Rattle.layout.specs.Promises.{answered, readRecord, Writes, Corrects}
-use Rattle.layout.specs.Message.{writeMessage}
-use Rattle.layout.specs.laws.Whole.{was, write-read-message}
+use Rattle.format.specs.Fmt.{accepted, good as Fmt·good, pad, read, Out, refused, found}
+use Rattle.format.specs.Words.{code, twice, ago}
+use Rattle.format.specs.laws.Entries.{entries, held-entries}
+use Rattle.format.specs.laws.Extent.{extent, extent-laid}
+use Rattle.format.specs.laws.Family.{Family, written-front, read-written, corrected-as-written}
+use Rattle.format.specs.laws.Held.{Held, held, exactly, told-good}
+use Rattle.format.specs.laws.Round.{read-write}
+use Rattle.format.specs.laws.Tells.{twice-tells}
+use Rattle.format.specs.laws.Zero.{Judged, only-numbered, twice-numbered}
+use Rattle.format.specs.Promises.{answered, readRecord, Writes, Corrects}
+use Rattle.format.specs.Message.{writeMessage}
+use Rattle.format.specs.laws.Whole.{was, write-read-message}
 use Rattle.bits.specs.laws.Bytes.{length-bits}
 use lib.Seq.{length-take-le}
 use Rattle.txsq.specs.declared.Answer.the-variants.{Good}

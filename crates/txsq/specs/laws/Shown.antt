@@ -10,18 +10,18 @@ use Rattle.bits.specs.Bits.{Bytes, bitsOf}
 use Rattle.bits.specs.laws.Bytes.{length-bits}
 use Rattle.frame.specs.Frame.{bytesFor}
 use Rattle.frame.specs.laws.Content.{content-part}
-use Rattle.layout.specs.Fmt.{accepted, also, end, pad, read}
-use Rattle.layout.specs.Message.{codeOf, readMessage}
-use Rattle.layout.specs.Promises.{answered}
-use Rattle.layout.specs.laws.Answers.{numbered}
-use Rattle.layout.specs.laws.Correcting.{accepted-by, refused-by}
-use Rattle.layout.specs.laws.Places.{value-at}
-use Rattle.layout.specs.laws.Entries.{entries}
-use Rattle.layout.specs.laws.Held.{held}
-use Rattle.layout.specs.laws.Round.{read-write}
-use Rattle.layout.specs.Words.{any, _‥_, only, kept, fill}
-use Rattle.layout.specs.laws.Whole.{was}
-use Rattle.layout.specs.laws.Zero.{read-zero-message}
+use Rattle.format.specs.Fmt.{accepted, also, end, pad, read}
+use Rattle.format.specs.Message.{codeOf, readMessage}
+use Rattle.format.specs.Promises.{answered}
+use Rattle.format.specs.laws.Answers.{numbered}
+use Rattle.format.specs.laws.Correcting.{accepted-by, refused-by}
+use Rattle.format.specs.laws.Places.{value-at}
+use Rattle.format.specs.laws.Entries.{entries}
+use Rattle.format.specs.laws.Held.{held}
+use Rattle.format.specs.laws.Round.{read-write}
+use Rattle.format.specs.Words.{any, _‥_, only, kept, fill}
+use Rattle.format.specs.laws.Whole.{was}
+use Rattle.format.specs.laws.Zero.{read-zero-message}
 use Rattle.txsq.specs.Promises.{Reads, Shows}
 use Rattle.txsq.specs.Txsq.{txsq, txsqs, recordOf, numberOf}
 use Rattle.txsq.specs.declared.Answer.{Answer}

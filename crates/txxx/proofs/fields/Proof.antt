@@ -5,11 +5,11 @@ use Prim.Native.Nat.{_<_, _^_}
 use native.Mathlib.Omega.{arith}
 use lib.Dec.{lit<, lit≤}
 use Rattle.frame.specs.laws.Head.{head-read}
-use Rattle.layout.specs.Fmt.{pad}
+use Rattle.format.specs.Fmt.{pad}
 use Rattle.layout.specs.Reading.{ranged}
-use Rattle.layout.specs.laws.Answers.{told-so}
+use Rattle.format.specs.laws.Answers.{told-so}
 use Rattle.layout.specs.laws.Reading.{step-num, step-given, step-content, step-fill}
-use Rattle.layout.specs.laws.Step.{twice-tells}
+use Rattle.format.specs.laws.Tells.{twice-tells}
 use Rattle.layout.specs.laws.Walked.{finish}
 use Rattle.txxx.specs.Txxx.{letters, bounded, limits, filling, txxx, recordOf}
 use Rattle.txxx.specs.declared.Answer.the-variants.{Good, Refused}

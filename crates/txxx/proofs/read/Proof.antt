@@ -2,9 +2,9 @@
 use mathlib.Core.Path.{sym, ap, _∙_}
 use mathlib.Core.List.{[]}
 use Rattle.bits.specs.Bits.{bitsOf}
-use Rattle.layout.specs.Fmt.{also, check, read}
-use Rattle.layout.specs.Message.{fault}
-use Rattle.layout.specs.laws.Walked.{read-first}
+use Rattle.format.specs.Fmt.{also, check, read}
+use Rattle.format.specs.Message.{fault}
+use Rattle.format.specs.laws.Lead.{read-first}
 use Rattle.txxx.specs.Txxx.{txxx, txxxs, recordOf, answerOf}
 use borrow.Author.Needs.{needs}
 use Rattle.txxx.proofs.read.Statement.{statement}

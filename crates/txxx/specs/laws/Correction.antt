@@ -9,8 +9,8 @@ use lib.ListN.{length, getD, set}
 use Rattle.bits.specs.Bits.{fieldAt}
 use Rattle.frame.specs.Frame.{declared, bytesFor}
 use Rattle.frame.specs.laws.Content.{padded}
-use Rattle.layout.specs.Fmt.{pad, spot, none, found}
-use Rattle.layout.specs.laws.Spots.{spotsAlong, spot-along, rows, eachAt, set-each, kept-entry}
+use Rattle.format.specs.Fmt.{pad, spot, none, found}
+use Rattle.format.specs.laws.Spots.{spotsAlong, spot-along, rows, eachAt, set-each, kept-entry}
 use Rattle.txxx.specs.Changed.{spotOf, changed}
 use Rattle.txxx.specs.Txxx.{letters, txxx, txxxs, valuesOf}
 use Rattle.txxx.specs.declared.Txxx.{Txxx}

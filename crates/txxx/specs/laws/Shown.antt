@@ -10,18 +10,18 @@ use lib.ListN.{length, take, drop, getD}
 use Rattle.bits.specs.Bits.{Bytes, bitsOf}
 use Rattle.frame.specs.Frame.{bytesFor}
 use Rattle.frame.specs.laws.Content.{content-part}
-use Rattle.layout.specs.Fmt.{accepted, also, end, pad, read}
-use Rattle.layout.specs.Message.{between, codeOf, readMessage}
-use Rattle.layout.specs.Promises.{answered, readRecord}
-use Rattle.layout.specs.laws.Answers.{numbered}
-use Rattle.layout.specs.laws.Correcting.{accepted-by, refused-by}
-use Rattle.layout.specs.laws.Places.{value-at}
-use Rattle.layout.specs.laws.Entries.{entries}
-use Rattle.layout.specs.laws.Held.{held}
-use Rattle.layout.specs.laws.Round.{also-inv, read-write}
-use Rattle.layout.specs.Words.{any, _‥_, only, kept, num, fill}
-use Rattle.layout.specs.laws.Whole.{was}
-use Rattle.layout.specs.laws.Zero.{read-zero-message}
+use Rattle.format.specs.Fmt.{accepted, also, end, pad, read}
+use Rattle.format.specs.Message.{between, codeOf, readMessage}
+use Rattle.format.specs.Promises.{answered, readRecord}
+use Rattle.format.specs.laws.Answers.{numbered}
+use Rattle.format.specs.laws.Correcting.{accepted-by, refused-by}
+use Rattle.format.specs.laws.Places.{value-at}
+use Rattle.format.specs.laws.Entries.{entries}
+use Rattle.format.specs.laws.Held.{held}
+use Rattle.format.specs.laws.Round.{also-inv, read-write}
+use Rattle.format.specs.Words.{any, _‥_, only, kept, num, fill}
+use Rattle.format.specs.laws.Whole.{was}
+use Rattle.format.specs.laws.Zero.{read-zero-message}
 use Rattle.txxx.specs.Promises.{Reads, Shows}
 use Rattle.txxx.specs.Txxx.{txxx, txxxs, recordOf, numberOf}
 use Rattle.txxx.specs.declared.Txxx.{Txxx}

@@ -3,15 +3,15 @@ use mathlib.Core.Path.{_≡_, refl, sym, ap, _∙_}
 use mathlib.Core.List.{List, []}
 use Prim.Native.Nat.{ℕ}
 use lib.ListN.{getD}
-use Rattle.layout.specs.Correcting.{standing}
-use Rattle.layout.specs.Fmt.{accepted, spot}
-use Rattle.layout.specs.Message.{readMessage}
-use Rattle.layout.specs.laws.Family.{record-values}
-use Rattle.layout.specs.laws.Correcting.{admitted-clean, correct-early, correct-late}
-use Rattle.layout.specs.laws.Spots.{spotsAlong, slim, table-stands, table-slim}
+use Rattle.format.specs.Correcting.{standing}
+use Rattle.format.specs.Fmt.{accepted, spot}
+use Rattle.format.specs.Message.{readMessage}
+use Rattle.format.specs.laws.Family.{record-values}
+use Rattle.format.specs.laws.Correcting.{admitted-clean, correct-early, correct-late}
+use Rattle.format.specs.laws.Spots.{spotsAlong, slim, table-stands, table-slim}
 use Rattle.distress.specs.Report.{report, reports, reportOf, numberOf}
 use Rattle.distress.specs.declared.report.Answer.the-variants.{Good, Refused}
-use Rattle.layout.specs.laws.Answers.{fields-code, whole-code, clean-lead}
+use Rattle.format.specs.laws.Answers.{fields-code, whole-code, clean-lead}
 use Rattle.distress.specs.laws.Correction.{places, widths, along}
 use Rattle.distress.specs.laws.Demands.{family}
 use Rattle.distress.specs.laws.Sound.{sound, sized}

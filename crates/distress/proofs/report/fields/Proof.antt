@@ -3,17 +3,18 @@ use mathlib.Core.Path.{_≡_, refl, sym, ap, _∙_}
 use Prim.Native.Nat.{_≤_, _<_, _^_}
 use mathlib.Core.List.{[], _∷_}
 use lib.Dec.{eqb, lit<, lit≤}
-use Rattle.layout.specs.Sign.{spellOf}
+use Rattle.field.specs.Sign.{spellOf}
 use Rattle.layout.specs.laws.Reading.{start, step-code, step-num, step-signed, step-fill}
 use Rattle.bits.specs.Bits.{bitsOf}
-use Rattle.layout.specs.Fmt.{also, read}
+use Rattle.format.specs.Fmt.{also, read}
 use mathlib.Core.Bool.{cond}
-use Rattle.layout.specs.laws.Walked.{held-back, finish, same-values}
-use Rattle.layout.specs.laws.Sign.{spell-int}
+use Rattle.layout.specs.laws.Walked.{finish, same-values}
+use Rattle.format.specs.laws.Lead.{held-back}
+use Rattle.field.specs.laws.Sign.{spell-int}
 use mir.Syntax.{w32}
 use mir.ValLaws.{toZ-ofZ}
 use Rattle.distress.specs.Report.{report, valuesOf, reportOf, answerOf, again}
-use Rattle.layout.specs.laws.Answers.{told-so}
+use Rattle.format.specs.laws.Answers.{told-so}
 use Rattle.distress.specs.declared.report.Answer.the-variants.{Good, Refused}
 use borrow.Author.Needs.{needs}
 use Rattle.distress.proofs.report.fields.Statement.{statement}

@@ -1,7 +1,7 @@
 -- `read` is the fields behind the first tests.
 use mathlib.Core.Path.{sym, ap, _∙_}
-use Rattle.layout.specs.Fmt.{also, read}
-use Rattle.layout.specs.laws.Walked.{read-first}
+use Rattle.format.specs.Fmt.{also, read}
+use Rattle.format.specs.laws.Lead.{read-first}
 use Rattle.distress.specs.laws.Sound.{sized}
 use Rattle.distress.specs.Report.{reports, reportOf, answerOf}
 use borrow.Author.Needs.{needs}

@@ -1,6 +1,6 @@
 -- `write` answers as the walk over the values and the room decide.
 use mathlib.Core.Path.{subst}
-use Rattle.layout.specs.Promises.{Writes}
+use Rattle.format.specs.Promises.{Writes}
 use Rattle.layout.specs.laws.Flat.{write-fails, write-cramped, write-flat}
 use Rattle.distress.specs.Report.{reports, plain}
 use borrow.Author.Needs.{needs}

@@ -12,12 +12,12 @@ use Rattle.frame.specs.Frame.{declared}
 use Rattle.frame.specs.Steps.{headJudged}
 use Rattle.frame.specs.laws.Content.{declared-small, got-fill}
 use Rattle.frame.specs.laws.Head.{head-judged}
-use Rattle.layout.specs.Fmt.{pad}
+use Rattle.format.specs.Fmt.{pad}
 use Rattle.layout.specs.Judging.{valued, filled}
-use Rattle.layout.specs.Words.{any, _‥_, ago}
-use Rattle.layout.specs.laws.Extent.{opens-field, opens-choice}
+use Rattle.format.specs.Words.{any, _‥_, ago}
+use Rattle.format.specs.laws.Extent.{opens-field, opens-choice}
 use Rattle.layout.specs.laws.Judging.{judge-fixed, judge-num, judge-limits, judge-tells, judge-end}
-use Rattle.layout.specs.laws.Step.{only-tells, twice-tells}
+use Rattle.format.specs.laws.Tells.{only-tells, twice-tells}
 use Rattle.txsq.specs.Txsq.{letters, body, allowed, bounded, limits, filling, txsq, valuesOf}
 use Rattle.txsq.specs.laws.Demands.{allowed-below}
 use borrow.Author.Needs.{needs}

@@ -7,9 +7,9 @@ use Rattle.bits.specs.Bits.{Bytes, putBytesAt}
 use Rattle.frame.specs.Steps.{headPut}
 use Rattle.frame.specs.laws.Content.{content-bits}
 use Rattle.frame.specs.laws.Head.{head-put}
-use Rattle.layout.specs.laws.Extent.{opens-field}
-use Rattle.layout.specs.laws.Held.{held}
-use Rattle.layout.specs.laws.Putting.{put-start, put-step, put-choice, begins, begins-then, put-run, put-end}
+use Rattle.format.specs.laws.Extent.{opens-field}
+use Rattle.format.specs.laws.Held.{held}
+use Rattle.format.specs.laws.Putting.{put-start, put-step, put-choice, begins, begins-then, put-run, put-end}
 use Rattle.txsq.specs.Txsq.{letters, body, txsq, valuesOf}
 use Rattle.txsq.specs.laws.Demands.{content-size}
 use borrow.Author.Needs.{needs}

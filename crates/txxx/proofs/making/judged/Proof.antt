@@ -12,12 +12,12 @@ use Rattle.frame.specs.Frame.{declared}
 use Rattle.frame.specs.Steps.{headJudged}
 use Rattle.frame.specs.laws.Content.{declared-small, got-fill}
 use Rattle.frame.specs.laws.Head.{head-judged}
-use Rattle.layout.specs.Fmt.{pad}
+use Rattle.format.specs.Fmt.{pad}
 use Rattle.layout.specs.Judging.{filled}
-use Rattle.layout.specs.Words.{any, _‥_}
-use Rattle.layout.specs.laws.Extent.{opens-field, opens-choice}
+use Rattle.format.specs.Words.{any, _‥_}
+use Rattle.format.specs.laws.Extent.{opens-field, opens-choice}
 use Rattle.layout.specs.laws.Judging.{judge-num, judge-tells, judge-end}
-use Rattle.layout.specs.laws.Step.{only-tells, twice-tells}
+use Rattle.format.specs.laws.Tells.{only-tells, twice-tells}
 use Rattle.txxx.specs.Txxx.{letters, body, bounded, limits, filling, txxx, valuesOf}
 use borrow.Author.Needs.{needs}
 use Rattle.txxx.proofs.making.judged.Statement.{statement}

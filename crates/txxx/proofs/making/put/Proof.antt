@@ -8,11 +8,11 @@ use Rattle.bits.specs.Bits.{Bytes, putBytesAt}
 use Rattle.frame.specs.Steps.{headPut}
 use Rattle.frame.specs.laws.Content.{padded, content-bits}
 use Rattle.frame.specs.laws.Head.{head-put}
-use Rattle.layout.specs.Correcting.{putIn, put-in}
-use Rattle.layout.specs.Fmt.{pad}
-use Rattle.layout.specs.laws.Extent.{opens-field}
-use Rattle.layout.specs.laws.Held.{held}
-use Rattle.layout.specs.laws.Putting.{put-start, put-step, put-choice, put-number, begins, begins-then, put-run, put-end}
+use Rattle.format.specs.Correcting.{putIn, put-in}
+use Rattle.format.specs.Fmt.{pad}
+use Rattle.format.specs.laws.Extent.{opens-field}
+use Rattle.format.specs.laws.Held.{held}
+use Rattle.format.specs.laws.Putting.{put-start, put-step, put-choice, put-number, begins, begins-then, put-run, put-end}
 use Rattle.txxx.specs.Txxx.{letters, body, txxx, valuesOf}
 use Rattle.txxx.specs.laws.Demands.{content-size}
 use borrow.Author.Needs.{needs}

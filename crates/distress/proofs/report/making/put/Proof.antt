@@ -2,7 +2,7 @@
 use mathlib.Core.Path.{refl, _∙_}
 use lib.Dec.{lit≤}
 use Rattle.bits.specs.Bits.{Bytes}
-use Rattle.layout.specs.laws.Putting.{put-start, put-step, put-end}
+use Rattle.format.specs.laws.Putting.{put-start, put-step, put-end}
 use Rattle.distress.specs.Report.{report, listOf}
 use borrow.Author.Needs.{needs}
 use Rattle.distress.proofs.report.making.put.Statement.{statement}

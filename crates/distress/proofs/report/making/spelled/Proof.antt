@@ -4,7 +4,7 @@ use mir.ValLaws.{toZ-ofZ}
 use mathlib.Core.List.{[], _∷_}
 use mathlib.Core.Path.{ap, _∙_}
 use Prim.Native.Nat.{_^_}
-use Rattle.layout.specs.Sign.{spellOf}
+use Rattle.field.specs.Sign.{spellOf}
 use Rattle.distress.specs.Report.{listOf, valuesOf}
 use borrow.Author.Needs.{needs}
 use Rattle.distress.proofs.report.making.spelled.Statement.{statement}

@@ -4,7 +4,7 @@ use mathlib.Core.Bool.{cond, and-false}
 use mathlib.Core.Path.{_≡_, refl, ap, _∙_}
 use lib.Dec.{leb, eqb}
 use borrow.Author.Tests.{eq-eqb, ne-eqb, le-leb, lt-leb}
-use Rattle.layout.specs.Message.{between}
+use Rattle.format.specs.Message.{between}
 use borrow.Author.Needs.{needs}
 use Rattle.layout.proofs.walk.Walk.closes.Statement.{statement}
 use Rattle.layout.proofs.walk.Walk.closes.Tie as tie

@@ -3,7 +3,7 @@ use mathlib.Core.Bool.{false, cond}
 use mathlib.Core.Path.{ap, ap₂, _∙_}
 use Prim.Native.Nat.{_+_, _%_, _^_}
 use lib.Dec.{eqb}
-use Rattle.layout.specs.Fmt.{pad}
+use Rattle.format.specs.Fmt.{pad}
 use Rattle.layout.specs.Reading.{ended}
 use borrow.Author.Needs.{needs}
 use Rattle.layout.proofs.walk.Walk.end.Statement.{statement}

@@ -1,0 +1,8 @@
+-- The definitions that contracts cite, and in `laws` what is proved of them for every layout.
+pub mod Fmt
+pub mod Words
+pub mod Message
+pub mod Promises
+pub mod Sealing
+pub mod Correcting
+pub mod laws

@@ -1,0 +1,23 @@
+-- What the calls of a family promise, over any layout: the answer, and what is left of the bytes s that they are lent. Assumes nothing.
+use mathlib.Core.Path.{_≡_}
+use mathlib.Core.List.{List}
+use Prim.Native.Nat.{ℕ}
+use Rattle.format.specs.Fmt.{Out, accepted, refused, also}
+use Rattle.format.specs.Message.{Layout, codeOf, leaves, into, readMessage, writeMessage, correctMessage}
+
+-- reading: the record of the message's values, or the refusal
+abbrev pub readRecord : {R : Type 0} → Layout → (List ℕ → R) → List ℕ → Out R
+readRecord l recordOf s = also recordOf (readMessage l s)
+
+-- a call's own type of answer: the good ones, and the refusals by their number
+abbrev pub answered : {R A : Type 0} → (R → A) → (ℕ → A) → Out R → A
+answered good bad (accepted r) = good r
+answered good bad (refused c p) = bad c
+
+-- writing the values vs: the code, and t left of s
+abbrev pub Writes : Layout → List ℕ → ℕ → List ℕ → List ℕ → Type 0
+Writes l s code t vs = (code ≡ codeOf (into s (writeMessage l vs))) × (t ≡ leaves (into s (writeMessage l vs)) s)
+
+-- correcting field number i to v: the code, and t left of s
+abbrev pub Corrects : Layout → List ℕ → ℕ → ℕ → ℕ → List ℕ → Type 0
+Corrects l s i v code t = (code ≡ codeOf (correctMessage l s i v)) × (t ≡ leaves (correctMessage l s i v) s)

@@ -1,0 +1,19 @@
+-- What is proved of every layout.
+pub mod Round
+pub mod Correct
+pub mod Whole
+pub mod Zero
+pub mod Tells
+pub mod Held
+pub mod Extent
+pub mod First
+pub mod Places
+pub mod Spots
+pub mod Lead
+pub mod Answers
+pub mod Putting
+pub mod Sealing
+pub mod Correcting
+pub mod Entries
+pub mod Family
+pub mod Corrections

@@ -1,0 +1,191 @@
+-- Demands 2 and 3 for a family, from the promises of its calls: what is proved of lists of values, said of records. Assumes nothing.
+use mathlib.Core.Path.{_≡_, refl, sym, ap, _∙_, subst}
+use mathlib.Core.Bool.{Bool, true, false, cond, _&&_}
+use mathlib.Core.List.{List, [], _++_}
+use Prim.Native.Nat.{ℕ, _≤_, _<_, _^_}
+use native.Mathlib.Omega.{arith}
+use borrow.Author.Tests.{le-leb, leb-true}
+use lib.Dec.{leb}
+use lib.ListN.{set, length, take, drop}
+use lib.Seq.{take-at}
+use Rattle.bits.specs.Bits.{Bytes, bitsOf, splice, putAt}
+use Rattle.bits.specs.laws.Fields.{length-put, bits-put}
+use Rattle.format.specs.Fmt.{Out, accepted, refused, orBad, check, also, spot, none, found}
+use Rattle.format.specs.Message.{Layout, Sound, body, codeOf, leaves, into, readMessage, writeMessage, correctMessage}
+use Rattle.format.specs.Promises.{readRecord, Writes, Corrects}
+use Rattle.format.specs.laws.Held.{Held, held}
+use Rattle.format.specs.laws.Round.{clash, also-inv, read-write}
+use Rattle.format.specs.laws.Whole.{was, body-sealed, made, write-read-message, read-write-message, correct-wide, Corrected, corrected, same-size}
+use Rattle.format.specs.laws.Zero.{Judged, Counted, no-zero-message, read-zero-message, correct-zero}
+
+-- What a family brings for its records of type R: those of them that a caller can lend, the values of a record, the record of values, and the record with one field changed.
+pub record Family (l : Layout) (R : Type 0) (Lent : R → Type 0) (valuesOf : R → List ℕ) (recordOf : List ℕ → R) (changed : ℕ → ℕ → R → R) : Type 0 where
+  pub sound : Sound l
+  pub judged : Judged (l .fmt)
+  pub counted : (r : R) → Lent r → Counted (l .fmt) 0 (valuesOf r)
+  pub same-record : (r : R) → Lent r → Held (l .fmt) [] (valuesOf r) → recordOf (valuesOf r) ≡ r
+  pub same-values : (vs : List ℕ) → Held (l .fmt) [] vs → valuesOf (recordOf vs) ≡ vs
+  pub can-lend : (vs : List ℕ) → Held (l .fmt) [] vs → Lent (recordOf vs)
+  pub changes : (r : R) (i v p w : ℕ) → Lent r → spot (l .fmt) [] (valuesOf r) i ≡ found p w → v < 2 ^ w
+      → (valuesOf (changed i v r) ≡ set (valuesOf r) i v) × Lent (changed i v r)
+
+-- ---- two answers that a promise allows are equal
+
+pub one-reading : {A : Type 0} (x a b : A) → a ≡ x → b ≡ x → a ≡ b
+one-reading x a b d e = d ∙ sym e
+
+pub one-writing : (l : Layout) (s vs : List ℕ) (c d : ℕ) (t u : List ℕ) → Writes l s c t vs → Writes l s d u vs → (c ≡ d) × (t ≡ u)
+one-writing l s vs c d t u x y = (x .0 ∙ sym (y .0), x .1 ∙ sym (y .1))
+
+pub one-correction : (l : Layout) (s : List ℕ) (i v c d : ℕ) (t u : List ℕ) → Corrects l s i v c t → Corrects l s i v d u → (c ≡ d) × (t ≡ u)
+one-correction l s i v c d t u x y = (x .0 ∙ sym (y .0), x .1 ∙ sym (y .1))
+
+-- a layout of one size makes messages of that size
+pub one-size : (l : Layout) (n : ℕ) → l .least ≡ n → l .most ≡ n → (vs m : List ℕ) → writeMessage l vs ≡ accepted m → length m ≡ n
+one-size l n least most vs m e = go (leb (l .least) (length m)) (leb (length m) (l .most)) refl refl (made l m vs e .fits)
+  where
+    go : (x y : Bool) → leb (l .least) (length m) ≡ x → leb (length m) (l .most) ≡ y → _≡_ {A = ℕ} (cond (x && y) 0 1) 0 → length m ≡ n
+    go true true ex ey z = let a = leb-true (l .least) (length m) ex in let b = leb-true (length m) (l .most) ey in omega (arith, a, b, least, most)
+    go true false ex ey z = absurd (omega (arith, z))
+    go false y ex ey z = absurd (omega (arith, z))
+
+-- ---- a refusal leaves every byte
+
+pub refused-stands : {A : Type 0} (o : Out A) (s t : A) (code : ℕ) → code ≡ codeOf o → t ≡ leaves o s → (code ≡ 0 → ⊥) → t ≡ s
+refused-stands (accepted u) s t code z x h = absurd (h z)
+refused-stands (refused c p) s t code z x h = x
+
+pub refused-writing : (l : Layout) (s vs : List ℕ) (code : ℕ) (t : List ℕ) → Writes l s code t vs → (code ≡ 0 → ⊥) → t ≡ s
+refused-writing l s vs code t (z, x) h = refused-stands (into s (writeMessage l vs)) s t code z x h
+
+pub refused-correction : (l : Layout) (s : List ℕ) (i v code : ℕ) (t : List ℕ) → Corrects l s i v code t → (code ≡ 0 → ⊥) → t ≡ s
+refused-correction l s i v code t (z, x) h = refused-stands (correctMessage l s i v) s t code z x h
+
+-- a message with room for it, in front of a lent buffer
+roomy : (u m : List ℕ) → length m ≤ length u → into u (accepted m) ≡ accepted (m ++ drop (length m) u)
+roomy u m h = rw (le-leb (length m) (length u) h) refl
+
+module _ {l : Layout} {R : Type 0} {Lent : R → Type 0} {valuesOf : R → List ℕ} {recordOf : List ℕ → R} {changed : ℕ → ℕ → R → R} (F : Family l R Lent valuesOf recordOf changed) where
+  -- The values that reading accepts are those of their record.
+  pub record-values : (s vs : List ℕ) → readMessage l s ≡ accepted vs → valuesOf (recordOf vs) ≡ vs
+  record-values s vs e = F .same-values vs (held (l .fmt) [] 0 vs _ (read-write (l .fmt) [] 0 vs _ (was l s vs e .walked)))
+
+  -- ---- no number 0 but for success
+
+  pub never-read : (s : List ℕ) (p : ℕ) → readRecord l recordOf s ≡ refused 0 p → ⊥
+  never-read s p e = go (readMessage l s) refl e
+    where
+      go : (o : Out (List ℕ)) → readMessage l s ≡ o → also recordOf o ≡ refused 0 p → ⊥
+      go (accepted vs) m e = clash (sym e)
+      go (refused c q) m e = let x : c ≡ 0 = cc in let y : q ≡ p = cc in read-zero-message l s p (F .judged) (rw (m, x, y) refl)
+
+  pub never-written : (r : R) (p : ℕ) → Lent r → writeMessage l (valuesOf r) ≡ refused 0 p → ⊥
+  never-written r p k e = no-zero-message l (valuesOf r) p (F .judged) (F .counted r k) e
+
+  -- ---- demand 2
+
+  -- A writing that answered 0: the message stands in front of what is left of s, and is read back as the same record.
+  pub record Wrote (r : R) (s t : List ℕ) : Type 0 where
+    pub message : List ℕ
+    pub made-so : writeMessage l (valuesOf r) ≡ accepted message
+    pub room : length message ≤ length s
+    pub front : t ≡ message ++ drop (length message) s
+    pub reads : readRecord l recordOf message ≡ accepted r
+
+  pub written-record : (r : R) (m : List ℕ) → Lent r → writeMessage l (valuesOf r) ≡ accepted m → readRecord l recordOf m ≡ accepted r
+  written-record r m k e =
+      ap (λ o. also recordOf o) (write-read-message l (F .sound) m (valuesOf r) e)
+      ∙ ap accepted (F .same-record r k (held (l .fmt) [] 0 (valuesOf r) _ (made l m (valuesOf r) e .wrote)))
+
+  pub written-read : (s : List ℕ) (r : R) (t : List ℕ) → Lent r → Writes l s 0 t (valuesOf r) → Wrote r s t
+  written-read s r t k (z, x) = go (writeMessage l (valuesOf r)) refl z x
+    where
+      fits : (m : List ℕ) → writeMessage l (valuesOf r) ≡ accepted m → (y : Bool) → leb (length m) (length s) ≡ y
+          → 0 ≡ codeOf (check (orBad y 6) 0 (accepted (m ++ drop (length m) s))) → t ≡ leaves (check (orBad y 6) 0 (accepted (m ++ drop (length m) s))) s → Wrote r s t
+      fits m e false h z x = absurd (omega (arith, z))
+      fits m e true h z x = record { message = m; made-so = e; room = leb-true (length m) (length s) h; front = x; reads = written-record r m k e }
+
+      go : (o : Out (List ℕ)) → writeMessage l (valuesOf r) ≡ o → 0 ≡ codeOf (into s o) → t ≡ leaves (into s o) s → Wrote r s t
+      go (accepted m) e z x = fits m e (leb (length m) (length s)) refl z x
+      go (refused c p) e z x = absurd (never-written r p k (e ∙ ap (λ c. refused c p) (sym z)))
+
+  -- a message of n bytes stands in the first n
+  pub written-front : (s : List ℕ) (r : R) (t : List ℕ) (n : ℕ) → Lent r → Writes l s 0 t (valuesOf r) → ((m : List ℕ) → writeMessage l (valuesOf r) ≡ accepted m → length m ≡ n)
+      → readRecord l recordOf (take n t) ≡ accepted r
+  written-front s r t n k w long =
+      let y = written-read s r t k w in
+      ap (λ m. readRecord l recordOf m) (ap (take n) (y .front) ∙ take-at (y .message) (drop (length (y .message)) s) n (long (y .message) (y .made-so))) ∙ y .reads
+
+  -- s is a message that reading accepts as r
+  module _ (s : List ℕ) (r : R) (fine : Bytes s) (good : readRecord l recordOf s ≡ accepted r) where
+    -- its values are the record's
+    pub read-values : (readMessage l s ≡ accepted (valuesOf r)) × Lent r
+    read-values =
+        let (vs, e, k) = also-inv recordOf (readMessage l s) good in
+        let m = read-write-message l (F .sound) s vs fine e in
+        let h = held (l .fmt) [] 0 vs _ (made l s vs m .wrote) in
+        (e ∙ ap accepted (sym (ap valuesOf (sym k) ∙ F .same-values vs h)), subst Lent k (F .can-lend vs h))
+
+    pub read-writes : writeMessage l (valuesOf r) ≡ accepted s
+    read-writes = read-write-message l (F .sound) s (valuesOf r) fine (read-values .0)
+
+    -- What is read is written back as the same bytes.
+    pub read-written : (u : List ℕ) (code : ℕ) (t : List ℕ) → length s ≤ length u → Writes l u code t (valuesOf r) → (code ≡ 0) × (t ≡ s ++ drop (length s) u)
+    read-written u code t h (z, x) =
+        let o = ap (into u) read-writes ∙ roomy u s h in
+        (z ∙ ap codeOf o, x ∙ ap (λ o. leaves o u) o)
+
+    -- ---- demand 3
+
+    -- A field that may be corrected, and a value that its bits can spell: what writing the changed record answers, its bytes or its refusal.
+    pub correction-writes : (i v p w : ℕ) → spot (l .fmt) [] (valuesOf r) i ≡ found p w → v < 2 ^ w → correctMessage l s i v ≡ writeMessage l (valuesOf (changed i v r))
+    unfolding correctMessage
+    correction-writes i v p w e n = rw (read-values .0, e) (ap (writeMessage l) (sym (F .changes r i v p w (read-values .1) e n .0)))
+
+    -- A value that they cannot spell is 4.
+    pub correction-wide : (i v p w : ℕ) → spot (l .fmt) [] (valuesOf r) i ≡ found p w → 2 ^ w ≤ v → correctMessage l s i v ≡ refused 4 p
+    correction-wide i v p w e n = correct-wide l (F .sound) s (valuesOf r) i v p w (read-values .0) e n
+
+    -- Any other field number is 10.
+    pub correction-none : (i v : ℕ) → spot (l .fmt) [] (valuesOf r) i ≡ none → correctMessage l s i v ≡ refused 10 0
+    unfolding correctMessage
+    correction-none i v e = rw (read-values .0, e) refl
+
+    -- From the promises of the two calls: where the field can spell the value, correcting answers as writing the changed record into a buffer with room does;
+    -- accepted, the message is what that writing put in front, and refused, no byte differs.
+    pub corrected-as-written : (i v p w : ℕ) → spot (l .fmt) [] (valuesOf r) i ≡ found p w → v < 2 ^ w → (code : ℕ) (t : List ℕ) → Corrects l s i v code t
+        → (u : List ℕ) → length s ≤ length u → (code′ : ℕ) (t′ : List ℕ) → Writes l u code′ t′ (valuesOf (changed i v r))
+        → (code ≡ code′) × (code ≡ 0 → t ≡ take (length s) t′) × ((code ≡ 0 → ⊥) → t ≡ s)
+    corrected-as-written i v p w e n code t (z, x) u room code′ t′ (z′, x′) = go (writeMessage l (valuesOf (changed i v r))) refl (correction-writes i v p w e n)
+      where
+        go : (o : Out (List ℕ)) → writeMessage l (valuesOf (changed i v r)) ≡ o → correctMessage l s i v ≡ writeMessage l (valuesOf (changed i v r))
+            → (code ≡ code′) × (code ≡ 0 → t ≡ take (length s) t′) × ((code ≡ 0 → ⊥) → t ≡ s)
+        go (refused c q) k h =
+            let a : code ≡ c = z ∙ ap codeOf (h ∙ k) in
+            let b : code′ ≡ c = z′ ∙ ap (λ o. codeOf (into u o)) k in
+            let never = never-written (changed i v r) q (F .changes r i v p w (read-values .1) e n .1) in
+            (a ∙ sym b, λ y. absurd (never (k ∙ ap (λ c. refused c q) (sym a ∙ y))), λ y. x ∙ ap (λ o. leaves o s) (h ∙ k))
+        go (accepted m) k h =
+            let long = same-size l (F .sound) s i v m (h ∙ k) in
+            let j = ap (into u) k ∙ roomy u m (omega arith) in
+            let a : code ≡ 0 = z ∙ ap codeOf (h ∙ k) in
+            let b : code′ ≡ 0 = z′ ∙ ap codeOf j in
+            let front : take (length s) t′ ≡ m = ap (take (length s)) (x′ ∙ ap (λ o. leaves o u) j) ∙ take-at m (drop (length m) u) (length s) long in
+            (a ∙ sym b, λ y. x ∙ ap (λ o. leaves o s) (h ∙ k) ∙ sym front, λ y. absurd (y a))
+
+  -- An accepted correction is what writing the changed record gives, and differs in the field's bits alone, and the seal.
+  pub accepted-correction : (s : List ℕ) (i v : ℕ) (t : List ℕ) → Corrects l s i v 0 t → Corrected l (F .sound) s i v t
+  accepted-correction s i v t (z, x) = go (correctMessage l s i v) refl z x
+    where
+      go : (o : Out (List ℕ)) → correctMessage l s i v ≡ o → 0 ≡ codeOf o → t ≡ leaves o s → Corrected l (F .sound) s i v t
+      go (accepted u) e z x = corrected l (F .sound) s i v t (e ∙ ap accepted (sym x))
+      go (refused c p) e z x = absurd (correct-zero l (F .sound) s i v p (F .judged) (e ∙ ap (λ c. refused c p) (sym z)))
+
+  -- Nothing outside the field and the seal differs: the body's bits are those before, with the field's made v, and the size is the same.
+  pub correction-bits : (s : List ℕ) (i v : ℕ) (t : List ℕ) (e : Corrects l s i v 0 t) → let c = accepted-correction s i v t e in
+      (bitsOf (body (l .seal) t) ≡ splice (c .place) (c .width) v (bitsOf (body (l .seal) s))) × (length (body (l .seal) t) ≡ length (body (l .seal) s))
+  correction-bits s i v t e =
+      let c = accepted-correction s i v t e in
+      let b = body (l .seal) s in
+      let is : body (l .seal) t ≡ putAt b (c .place) (c .width) v = ap (body (l .seal)) (c .changed) ∙ body-sealed (l .seal) (putAt b (c .place) (c .width) v) in
+      (ap bitsOf is ∙ bits-put b (c .place) (c .width) (c .within) v, ap length is ∙ length-put b (c .place) (c .width) v)

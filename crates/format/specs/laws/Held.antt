@@ -1,0 +1,53 @@
+-- What accepted values have, field by field. Assumes nothing.
+use mathlib.Core.Path.{_≡_, refl, sym, ap, _∙_}
+use mathlib.Core.Bool.{Bool, true, false, cond, _&&_}
+use mathlib.Core.List.{List, [], _∷_}
+use Prim.Native.Nat.{ℕ, zero, suc, _+_, _<_, _^_}
+use native.Mathlib.Omega.{arith}
+use lib.Dec.{leb}
+use borrow.Author.Tests.{lt-ltb}
+use Rattle.bits.specs.Bits.{digits}
+use Rattle.bits.specs.laws.Digits.{length-digits, value-digits}
+use Rattle.format.specs.Fmt.{accepted, Fault, good, Fmt, end, field, choice, bytes, write}
+use Rattle.format.specs.Words.{_‥_, only}
+use Rattle.format.specs.laws.Tells.{wrong-narrow, only-one, blamed, Tells}
+use Rattle.format.specs.laws.Round.{clash, written, sized-inv}
+
+-- as many values as fields, each narrow enough and judged good
+abbrev pub Held : Fmt → List ℕ → List ℕ → Type 0
+Held end h [] = Unit
+Held end h (v ∷ vs) = ⊥
+Held (field w j m f) h [] = ⊥
+Held (field w j m f) h (v ∷ vs) = (v < 2 ^ w) × (j h (digits w v) ≡ good) × Held f (v ∷ h) vs
+Held (choice w j f) h [] = ⊥
+Held (choice w j f) h (v ∷ vs) = (v < 2 ^ w) × (j h (digits w v) ≡ good) × Held (f v) (v ∷ h) vs
+Held (bytes f) h [] = ⊥
+Held (bytes f) h (n ∷ vs) = Held (f n) (n ∷ h) vs
+
+pub held : (f : Fmt) (h : List ℕ) (at : ℕ) (vs : List ℕ) (b : List Bool) → write f h at vs ≡ accepted b → Held f h vs
+unfolding write
+held end h at [] b e = tt
+held end h at (v ∷ vs) b e = clash e
+held (field w j m f) h at [] b e = clash e
+held (field w j m f) h at (v ∷ vs) b e = let y = written w j h at v _ b e in (y .narrow, y .fine, held f (v ∷ h) (at + w) vs (y .rest) (y .after))
+held (choice w j f) h at [] b e = clash e
+held (choice w j f) h at (v ∷ vs) b e = let y = written w j h at v _ b e in (y .narrow, y .fine, held (f v) (v ∷ h) (at + w) vs (y .rest) (y .after))
+held (bytes f) h at [] b e = clash e
+held (bytes f) h at (n ∷ vs) b e = held (f n) (n ∷ h) at vs b (sized-inv n at _ e .0)
+
+-- a field of one good value has it
+pub exactly : (w c n : ℕ) (h : List ℕ) (v : ℕ) → v < 2 ^ w → only w (suc c) (n ‥ n) h (digits w v) ≡ good → v ≡ n
+exactly w c n h v l e =
+    only-one n v c (go (leb n v && leb v n) (sym (wrong-narrow w c (n ‥ n) h v l) ∙ rw (lt-ltb v (2 ^ w) l) e))
+  where
+    go : (x : Bool) → blamed (cond x 0 (suc c)) 0 ≡ good → cond x 0 (suc c) ≡ 0
+    go true e = refl
+    go false e = let z : _≡_ {A = ℕ} 0 1 = cc in absurd (omega arith)
+
+-- a value that a judge found good has no fault by its number
+pub told-good : (w v : ℕ) (j : List Bool → Fault) {faultOf : ℕ → ℕ} → Tells w j faultOf → v < 2 ^ w → j (digits w v) ≡ good → faultOf v ≡ 0
+told-good w v j {faultOf} x l e = go (faultOf v) (ap (λ u. blamed (faultOf u) 0) (sym (value-digits w l)) ∙ sym (x .whole (digits w v) (length-digits w v)) ∙ e)
+  where
+    go : (c : ℕ) → blamed c 0 ≡ good → c ≡ 0
+    go zero e = refl
+    go (suc c) e = let z : _≡_ {A = ℕ} 0 1 = cc in absurd (omega arith)

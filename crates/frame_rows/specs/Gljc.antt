@@ -1,0 +1,27 @@
+-- The frame GLJC as numbers (paper 01, "Serial frames"). Assumes nothing.
+use Prim.Native.Nat.{ℕ}
+use mathlib.Core.List.{List, [], _∷_}
+use lib.IntN.{ℤ, pos}
+use Rattle.format.specs.Fmt.{Out, accepted, refused, also}
+use Rattle.format.specs.Promises.{readRecord}
+use Rattle.gljc.specs.Gljc.{gljcs, recordOf as framed}
+use Rattle.gljc.specs.declared.Gljc.{Gljc}
+use Rattle.gljc.specs.declared.Answer.{Answer}
+use Rattle.gljc.specs.declared.Answer.the-variants.{Good, Refused}
+
+-- a record's numbers, in the paper's order
+unfoldable pub rowOf : Gljc → List ℤ
+rowOf r = pos (r .address) ∷ pos (r .minutes) ∷ []
+
+-- the reading of the bytes s, as numbers
+abbrev pub numbersOf : List ℕ → Out (List ℤ)
+numbersOf s = also rowOf (readRecord gljcs framed s)
+
+-- an answer taken apart
+abbrev pub outOf : Answer → Out Gljc
+outOf (Good r) = accepted r
+outOf (Refused c) = refused c 0
+
+-- the record of the numbers that a writing call is given
+abbrev pub recordOf : ℕ → ℕ → Gljc
+recordOf address minutes = record { address = address; minutes = minutes }
