@@ -4,7 +4,7 @@ ghost use mathlib.Core.Path.{_≡_};
 ghost use lib.Dec.{eqb};
 ghost use lib.ListN.{getD};
 ghost use Rattle.bits.specs.Answers.{got};
-ghost use Rattle.format.specs.Correcting.{admitted, putIn};
+ghost use Rattle.format.specs.Correcting.{ofKind, admitted, putIn};
 
 // Where a field stands, and its width: 0 for none that may be corrected.
 pub struct Spot {
@@ -19,6 +19,35 @@ pub fn look_up(places: &[usize], widths: &[usize], field: usize) -> Spot
     let at = entry(places, field);
     let width = entry(widths, field);
     Spot { at, width }
+}
+
+// The same where some fields stand in messages of one kind alone: `kinds` has it, or 0 for a field of every message.
+pub fn look_up_of(
+    places: &[usize],
+    widths: &[usize],
+    kinds: &[usize],
+    field: usize,
+    kind: usize,
+) -> Spot
+    ensures { λ r. ⌜ (r .at ≡ getD (now (places .entry)) field 0) × (r .width ≡ ofKind kind (getD (now (kinds .entry)) field 0) (getD (now (widths .entry)) field 0)) ⌝ }
+{
+    let at = entry(places, field);
+    let width = entry(widths, field);
+    let of = entry(kinds, field);
+    Spot {
+        at,
+        width: held(of, kind, width),
+    }
+}
+
+// A field's width, where its message has that kind.
+fn held(of: usize, kind: usize, width: usize) -> usize
+    ensures { λ r. ⌜ r ≡ ofKind kind of width ⌝ }
+{
+    if of == 0 {
+        return width;
+    }
+    if of == kind { width } else { 0 }
 }
 
 // The entry of a table, 0 past its end.

@@ -12,6 +12,10 @@ use Rattle.format.specs.Fmt.{Spot, none, found}
 abbrev pub standing : ℕ → ℕ → Spot
 standing at width = cond (eqb width 0) none (found at width)
 
+-- the width of a field of messages of the kind `of`, 0 being any, in one of kind k
+abbrev pub ofKind : ℕ → ℕ → ℕ → ℕ
+ofKind k of width = cond (eqb of 0) width (cond (eqb of k) width 0)
+
 -- the message's own refusal, 10, then too wide
 abbrev pub admitted : ℕ → ℕ → ℕ → ℕ
 admitted code width v = cond (eqb code 0) (cond (eqb width 0) 10 (cond (ltb v (2 ^ width)) 0 4)) code

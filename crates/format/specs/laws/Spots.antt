@@ -8,7 +8,7 @@ use native.Mathlib.Omega.{arith}
 use borrow.Author.Tests.{eq-eqb, ne-eqb, leb-true}
 use lib.Dec.{eqb, leb}
 use lib.ListN.{length, getD, set}
-use Rattle.format.specs.Correcting.{standing}
+use Rattle.format.specs.Correcting.{standing, ofKind}
 use Rattle.format.specs.laws.Correct.{none-clash}
 use Rattle.format.specs.Fmt.{Fmt, end, field, choice, bytes, Spot, none, found, later, where?, spot}
 
@@ -111,3 +111,50 @@ module _ (ps ws : List ℕ) (i : ℕ) {p w : ℕ} (looked-up : (p ≡ getD ps i 
 
   pub table-slim : slim ws ≡ true → w ≤ 32
   table-slim e = rw (looked-up .1) (slim-at ws i e)
+
+-- ---- fields that have numbers of their own, which name them in every kind of message
+
+-- the spots of the fields is
+unfoldable pub picks : List Spot → List ℕ → List Spot
+picks l [] = []
+picks l (i ∷ is) = getD l i none ∷ picks l is
+
+-- a number that names no field is that of field 0, which may not be corrected
+pick-at : (l : List Spot) (is : List ℕ) (n : ℕ) → getD l 0 none ≡ none → getD (picks l is) n none ≡ getD l (getD is n 0) none
+unfolding picks
+pick-at l [] n e = sym e
+pick-at l (i ∷ is) zero e = refl
+pick-at l (i ∷ is) (suc n) e = pick-at l is n e
+
+-- the widths of a table in messages of kind k
+unfoldable pub ofKinds : ℕ → List ℕ → List ℕ → List ℕ
+ofKinds k os [] = []
+ofKinds k [] (w ∷ ws) = w ∷ ofKinds k [] ws
+ofKinds k (o ∷ os) (w ∷ ws) = ofKind k o w ∷ ofKinds k os ws
+
+kinds-at : (k : ℕ) (os ws : List ℕ) (n : ℕ) → ofKind k (getD os n 0) (getD ws n 0) ≡ getD (ofKinds k os ws) n 0
+unfolding ofKinds
+kinds-at k os [] n = none-wide (getD os n 0)
+  where
+    none-wide : (o : ℕ) → ofKind k o 0 ≡ 0
+    none-wide o = go (eqb o 0) (eqb o k)
+      where
+        go : (x y : Bool) → _≡_ {A = ℕ} (cond x 0 (cond y 0 0)) 0
+        go true y = refl
+        go false true = refl
+        go false false = refl
+kinds-at k [] (w ∷ ws) zero = refl
+kinds-at k [] (w ∷ ws) (suc n) = kinds-at k [] ws n
+kinds-at k (o ∷ os) (w ∷ ws) zero = refl
+kinds-at k (o ∷ os) (w ∷ ws) (suc n) = kinds-at k os ws n
+
+-- The field of number n looked up in the table of ps, ws and os, in a message of kind k: is says which field of the layout that is.
+module _ (is ps ws os : List ℕ) (k n : ℕ) {p w : ℕ} (looked-up : (p ≡ getD ps n 0) × (w ≡ ofKind k (getD os n 0) (getD ws n 0))) where
+  pub named-stands : (f : Fmt) (vs : List ℕ) → length ps ≡ length (ofKinds k os ws) → getD (spotsAlong f [] vs 0) 0 none ≡ none → picks (spotsAlong f [] vs 0) is ≡ rows ps (ofKinds k os ws)
+      → spot f [] vs (getD is n 0) ≡ standing p w
+  named-stands f vs long first e =
+      spot-along f vs (getD is n 0) ∙ sym (pick-at (spotsAlong f [] vs 0) is n first) ∙ ap (λ t. getD t n none) e ∙ sym (row-at ps (ofKinds k os ws) n long)
+      ∙ rw (← looked-up .0, ← kinds-at k os ws n, ← looked-up .1) refl
+
+  pub named-slim : slim (ofKinds k os ws) ≡ true → w ≤ 32
+  named-slim e = rw (looked-up .1, kinds-at k os ws n) (slim-at (ofKinds k os ws) n e)

@@ -1,0 +1,31 @@
+-- `look_up_of` is three entries and the test of the kind.
+use mathlib.Core.Path.{ap₂, _∙_}
+use Rattle.format.specs.Correcting.{ofKind}
+use borrow.Author.Needs.{needs}
+use Rattle.change.proofs.correcting.look_up_of.Statement.{statement}
+use Rattle.change.proofs.correcting.look_up_of.Tie as tie
+
+entry-requires : tie.Need-entry-requires
+entry-requires c κs = search needs
+
+entry-requires-2 : tie.Need-entry-requires-2
+entry-requires-2 c κs = search needs
+
+entry-requires-3 : tie.Need-entry-requires-3
+entry-requires-3 c κs = search needs
+
+held-requires : tie.Need-held-requires
+held-requires c κs = search needs
+
+returns : tie.Need-returns
+returns c =
+    let of = c .before in
+    let width = of .before in
+    let at = width .before in
+    let st = at .before .before .before .before in
+    let k = st .args .kind in
+    (at .entry .ensures, c .held .ensures ∙ ap₂ (λ o w. ofKind k o w) (of .entry3 .ensures) (width .entry2 .ensures))
+
+pub look-up-of-spec : {M : Type 1} → statement M
+look-up-of-spec =
+    tie.close (tie.spec entry-requires entry-requires-2 entry-requires-3 held-requires returns)
