@@ -13,7 +13,7 @@ use Rattle.layout.specs.laws.Reading.{step-num, step-fill, step-blank}
 use Rattle.layout.specs.laws.Step.{Reading}
 use Rattle.format.specs.laws.Zero.{Judged, only-numbered}
 use Rattle.layout.specs.declared.walk.Walk.{Walk}
-use Rattle.bodies.specs.Bodies.{Kind, cyclone, gale, waves, fog, surge, body, bodyKind, bodyValues}
+use Rattle.bodies.specs.Bodies.{Kind, cyclone, gale, waves, fog, surge, kindOf, typeOf, body, bodyKind, bodyValues}
 use Rattle.bodies.specs.Steps.{cycloneRead, galeRead, wavesRead, fogRead, surgeRead, bodyRead, bodyJudged, bodyPut}
 use Rattle.bodies.specs.declared.Body.{Body}
 use Rattle.bodies.specs.declared.Body.the-variants.{Cyclone, Gale, Waves, Fog, Surge}
@@ -26,6 +26,13 @@ backwards (Gale b) h = 0 ∷ b .direction ∷ b .greatest ∷ b .least ∷ b .ra
 backwards (Waves b) h = 0 ∷ b .period ∷ b .height ∷ b .radius ∷ h
 backwards (Fog b) h = 0 ∷ b .visibility ∷ b .radius ∷ h
 backwards (Surge b) h = 0 ∷ b .period ∷ b .tide ∷ b .rise ∷ b .radius ∷ h
+
+pub type-small : (t : Kind) → typeOf t ≤ 5
+type-small cyclone = lit≤ tt
+type-small gale = lit≤ tt
+type-small waves = lit≤ tt
+type-small fog = lit≤ tt
+type-small surge = lit≤ tt
 
 -- ---- read
 
@@ -66,9 +73,18 @@ module _ {o : Out (List ℕ)} {all : Fmt} {i : ℕ} {s : List ℕ} {h : List ℕ
           let r4 = step-num 13 (lit< tt) (lit≤ tt) (lit< tt) 0 8_191 r3 refl in
           step-fill 9 (lit≤ tt) (lit< tt) r4 refl
 
+-- it is a body of that type
+pub read-kind : (s : List ℕ) (t : Kind) (r : Walk) → bodyKind (bodyRead s t r .body) ≡ t
+unfolding cycloneRead galeRead wavesRead fogRead surgeRead
+read-kind s cyclone r = refl
+read-kind s gale r = refl
+read-kind s waves r = refl
+read-kind s fog r = refl
+read-kind s surge r = refl
+
 -- ---- judged
 
-pub body-judged : {o : Out (List Bool)} {f : Fmt} {h : List ℕ} {vs : List ℕ} {r g : Walk} (b : Body) → Judging o (body (bodyKind b) f) h 106 (bodyValues b vs) r → g ≡ bodyJudged b r
+pub body-judged : {o : Out (List Bool)} {f : Fmt} {h : List ℕ} {vs : List ℕ} {r g : Walk} (b : Body) → Judging o (body (kindOf (typeOf (bodyKind b))) f) h 106 (bodyValues b vs) r → g ≡ bodyJudged b r
     → Judging o f (backwards b h) 156 vs g
 body-judged (Cyclone b) e d =
     let r1 = judge-num 3 (lit< tt) 1 4 (lit< tt) e refl in
@@ -102,7 +118,7 @@ body-judged (Surge b) e d =
 
 -- ---- put
 
-pub body-put : {s t u : List ℕ} {b : List Bool} {f : Fmt} {vs : List ℕ} (x : Body) → Putting s b (body (bodyKind x) f) 106 (bodyValues x vs) t → u ≡ bodyPut x t → Putting s b f 156 vs u
+pub body-put : {s t u : List ℕ} {b : List Bool} {f : Fmt} {vs : List ℕ} (x : Body) → Putting s b (body (kindOf (typeOf (bodyKind x))) f) 106 (bodyValues x vs) t → u ≡ bodyPut x t → Putting s b f 156 vs u
 body-put (Cyclone x) e d =
     let p1 = put-number 3 (lit≤ tt) opens-field e refl in
     let p2 = put-number 9 (lit≤ tt) opens-field p1 refl in

@@ -156,5 +156,10 @@ module _ (is ps ws os : List ℕ) (k n : ℕ) {p w : ℕ} (looked-up : (p ≡ ge
       spot-along f vs (getD is n 0) ∙ sym (pick-at (spotsAlong f [] vs 0) is n first) ∙ ap (λ t. getD t n none) e ∙ sym (row-at ps (ofKinds k os ws) n long)
       ∙ rw (← looked-up .0, ← kinds-at k os ws n, ← looked-up .1) refl
 
-  pub named-slim : slim (ofKinds k os ws) ≡ true → w ≤ 32
-  named-slim e = rw (looked-up .1, kinds-at k os ws n) (slim-at (ofKinds k os ws) n e)
+  pub named-slim : slim ws ≡ true → w ≤ 32
+  named-slim e = rw (looked-up .1) (go (eqb (getD os n 0) 0) (eqb (getD os n 0) k))
+    where
+      go : (x y : Bool) → cond x (getD ws n 0) (cond y (getD ws n 0) 0) ≤ 32
+      go true y = slim-at ws n e
+      go false true = slim-at ws n e
+      go false false = omega arith
