@@ -55,7 +55,7 @@ fn list_log(input: &mut [u8], text: &mut [u8]) {
             finish(text, number, left);
             return;
         }
-        held = daylog::keep(input, used, have);
+        held = records::keep(input, used, have);
     }
 }
 
@@ -89,9 +89,9 @@ fn list_held(window: &[u8], number: u64, text: &mut [u8]) -> Seen
 }
 
 fn is_bad(rest: &[u8]) -> bool {
-    let next = daylog::first(rest);
+    let next = records::first(rest);
     match next {
-        daylog::Next::Bad => true,
+        records::Next::Bad => true,
         _ => false,
     }
 }

@@ -4,9 +4,9 @@ use Prim.Native.Nat.{_+_, _-_, _≤_}
 use native.Mathlib.Omega.{arith}
 use lib.ListN.{length, drop, length-set}
 use lib.Seq.{sets}
-use Rattle.daylog.specs.laws.Text.{sets-start, sets-turn, sets-end}
-use Rattle.daylog.proofs.text.Statement.{statement}
-use Rattle.daylog.proofs.text.Tie as tie
+use Rattle.lines.specs.laws.Text.{sets-start, sets-turn, sets-end}
+use Rattle.lines.proofs.text.Statement.{statement}
+use Rattle.lines.proofs.text.Tie as tie
 
 abbrev Inv-loop : tie.InvT-loop
 Inv-loop out₀ at bytes i₀ out i = (i ≤ length bytes) × (length out ≡ length out₀) × (sets out (at + i) (drop i bytes) ≡ sets out₀ at bytes)

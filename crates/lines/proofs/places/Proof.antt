@@ -3,10 +3,10 @@ use mathlib.Core.Path.{_≡_}
 use Prim.Native.Nat.{_+_, _≤_}
 use native.Mathlib.Omega.{arith}
 use lib.ListN.{length}
-use Rattle.daylog.specs.Text.{decimal}
-use Rattle.daylog.specs.laws.Text.{digits-small, digits-more}
-use Rattle.daylog.proofs.places.Statement.{statement}
-use Rattle.daylog.proofs.places.Tie as tie
+use Rattle.lines.specs.Text.{decimal}
+use Rattle.lines.specs.laws.Text.{digits-small, digits-more}
+use Rattle.lines.proofs.places.Statement.{statement}
+use Rattle.lines.proofs.places.Tie as tie
 
 abbrev Inv-loop : tie.InvT-loop
 Inv-loop number count₀ rest₀ count rest = (count + length (decimal rest) ≡ length (decimal number) + 1) × (count + rest ≤ number + 1)

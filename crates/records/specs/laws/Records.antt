@@ -8,9 +8,9 @@ use lib.Dec.{leb}
 use Rattle.format.specs.Message.{between}
 use lib.ListN.{length, take, drop, length-append, length-drop, List·getD-append}
 use borrow.Author.Tests.{le-leb, leb-true, leb-false}
-use Rattle.daylog.specs.Log.{pairAt, front, opened, recordsBy, records}
-use Rattle.daylog.specs.declared.Next.{Next}
-use Rattle.daylog.specs.declared.Next.the-variants.{Record, Bad, Short}
+use Rattle.records.specs.Records.{pairAt, front, opened, recordsBy, records}
+use Rattle.records.specs.declared.Next.{Next}
+use Rattle.records.specs.declared.Next.the-variants.{Record, Bad, Short}
 
 -- ---- what the bytes begin with
 

@@ -4,10 +4,10 @@ use Prim.Native.Nat.{_+_, _/_, _<_}
 use native.Mathlib.Omega.{arith}
 use lib.ListN.{length, length-set}
 use lib.Seq.{sets}
-use Rattle.daylog.specs.Text.{decimal}
-use Rattle.daylog.specs.laws.Text.{digits-some, digits-more, decimal-turn, decimal-end}
-use Rattle.daylog.proofs.decimal.Statement.{statement}
-use Rattle.daylog.proofs.decimal.Tie as tie
+use Rattle.lines.specs.Text.{decimal}
+use Rattle.lines.specs.laws.Text.{digits-some, digits-more, decimal-turn, decimal-end}
+use Rattle.lines.proofs.decimal.Statement.{statement}
+use Rattle.lines.proofs.decimal.Tie as tie
 
 abbrev Inv-loop : tie.InvT-loop
 Inv-loop out₀ at number end last₀ rest₀ out last rest =

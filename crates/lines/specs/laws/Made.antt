@@ -1,12 +1,12 @@
 -- A text at the front of a buffer, from the stores that made it. Assumes nothing.
-use mathlib.Core.Path.{_≡_, refl, ap, _∙_}
+use mathlib.Core.Path.{_≡_, refl, sym, ap, _∙_}
 use mathlib.Core.List.{List, [], _++_}
 use Prim.Native.Nat.{ℕ, _+_, _≤_}
 use native.Mathlib.Omega.{arith}
 use lib.ListN.{length, drop, length-append}
 use lib.Seq.{sets-eq}
-use Rattle.daylog.specs.laws.Text.{sets-append}
-use Rattle.daylog.specs.Promises.{Stores, Made}
+use Rattle.lines.specs.laws.Text.{sets-append}
+use Rattle.lines.specs.Stores.{Stores, Made}
 
 pub none : (out : List ℕ) → Made out [] 0 out
 none out = record { count = refl; leaves = refl }
@@ -22,3 +22,7 @@ then {out} {mid} {left} {t} {u} {at} {at′} x y = record {
   ends = omega (arith, length-append t u);
   leaves = y .leaves ∙ rw (x .leaves, x .ends, sets-append out at t u);
 }
+
+-- one text made, one answer
+pub one-text : {out t : List ℕ} {a b : ℕ} {x y : List ℕ} → Made out t a x → Made out t b y → (a ≡ b) × (x ≡ y)
+one-text p q = (p .count ∙ sym (q .count), p .leaves ∙ sym (q .leaves))

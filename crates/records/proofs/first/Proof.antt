@@ -3,10 +3,10 @@ use Prim.Native.Nat.{_≤_, _<_}
 use native.Mathlib.Omega.{arith}
 use lib.ListN.{length}
 use borrow.Author.Tests.{le-leb, lt-leb}
-use Rattle.daylog.specs.Log.{pairAt, front}
+use Rattle.records.specs.Records.{pairAt, front}
 use borrow.Author.Needs.{needs}
-use Rattle.daylog.proofs.first.Statement.{statement}
-use Rattle.daylog.proofs.first.Tie as tie
+use Rattle.records.proofs.first.Statement.{statement}
+use Rattle.records.proofs.first.Tie as tie
 
 returns : tie.Need-returns
 unfolding front

@@ -11,7 +11,7 @@ use lib.Dec.{ltb}
 use lib.ListN.{length, drop, getD, set, length-append, drop-of-length-le}
 use lib.Seq.{sets, set-comm, drop-cons}
 use borrow.Author.Tests.{lt-ltb, le-ltb, ltb-true, ltb-false}
-use Rattle.daylog.specs.Text.{digitsBy, decimal, line}
+use Rattle.lines.specs.Text.{digitsBy, decimal, line}
 
 either : (n m : ℕ) → (n < m) ⊎ (m ≤ n)
 either n m = go (ltb n m) refl

@@ -1,11 +1,11 @@
 -- `line` stores its columns one after the other: the parts' lengths make up the line's, so each has room.
 use native.Mathlib.Omega.{arith}
-use Rattle.daylog.specs.Text.{line}
-use Rattle.daylog.specs.laws.Text.{line-length}
-use Rattle.daylog.proofs.Made.{then}
+use Rattle.lines.specs.Text.{line}
+use Rattle.lines.specs.laws.Text.{line-length}
+use Rattle.lines.specs.laws.Made.{then}
 use borrow.Author.Needs.{needs}
-use Rattle.daylog.proofs.line.Statement.{statement}
-use Rattle.daylog.proofs.line.Tie as tie
+use Rattle.lines.proofs.line.Statement.{statement}
+use Rattle.lines.proofs.line.Tie as tie
 
 decimal-requires : tie.Need-decimal-requires
 decimal-requires c κs =

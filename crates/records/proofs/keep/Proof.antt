@@ -4,10 +4,10 @@ use Prim.Native.Nat.{_+_, _-_, _≤_, _<_}
 use native.Mathlib.Omega.{arith}
 use lib.ListN.{length, take, drop, length-set, length-take, length-drop}
 use borrow.Author.Tests.{le-leb, lt-leb}
-use Rattle.daylog.proofs.Made.{none}
-use Rattle.daylog.proofs.Moved.{moved, moved-read, moved-next}
-use Rattle.daylog.proofs.keep.Statement.{statement}
-use Rattle.daylog.proofs.keep.Tie as tie
+use Rattle.lines.specs.laws.Made.{none}
+use Rattle.records.proofs.Moved.{moved, moved-read, moved-next}
+use Rattle.records.proofs.keep.Statement.{statement}
+use Rattle.records.proofs.keep.Tie as tie
 
 abbrev Inv-loop : tie.InvT-loop
 Inv-loop s₀ from to i₀ s i = (i ≤ to - from) × (length s ≡ length s₀) × (s ≡ moved s₀ from i)
