@@ -4,9 +4,9 @@ use Prim.Native.Nat.{_-_, _≤_}
 use native.Mathlib.Omega.{arith}
 use borrow.Author.Needs.{needs}
 use lib.ListN.{length, length-set}
-use Rattle.bits.proofs.Sliding.{slid, slid-none, slid-turn}
-use Rattle.bits.proofs.slide.Statement.{statement}
-use Rattle.bits.proofs.slide.Tie as tie
+use Rattle.runs.proofs.Sliding.{slid, slid-none, slid-turn}
+use Rattle.runs.proofs.slide.Statement.{statement}
+use Rattle.runs.proofs.slide.Tie as tie
 
 abbrev Inv-loop : tie.InvT-loop
 Inv-loop s at n out₀ to high low spare i₀ out i = (i ≤ n) × (length out ≡ length out₀) × (out ≡ slid s at out₀ to i)

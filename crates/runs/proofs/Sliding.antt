@@ -7,13 +7,13 @@ use native.Mathlib.Omega.{arith}
 use lib.Arith.{digits-div}
 use lib.ListN.{length, take, drop, getD, set, length-append, take-append-drop}
 use lib.Seq.{set-at, drop-cons, drop-drop, length-take-le}
 use Rattle.bits.specs.Bits.{Bytes, valueOf, bitsOf, fieldAt, bytesAt}
 use Rattle.bits.specs.laws.Digits.{bytes-zero, bytes-suc}
 use Rattle.bits.specs.laws.Bytes.{bytes-add}
 use Rattle.bits.specs.laws.Fields.{field-byte}
 use Rattle.bits.specs.laws.Runs.{length-run}
-use Rattle.bits.proofs.Loops.{value-none, value-next}
-use Rattle.bits.proofs.Window.{field-window}
+use Rattle.bits.specs.laws.Loops.{value-none, value-next}
+use Rattle.bits.specs.laws.Window.{field-window}
 
 -- ---- a byte
 

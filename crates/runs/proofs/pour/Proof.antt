@@ -2,11 +2,11 @@
 use Prim.Native.Nat.{_-_, _%_}
 use native.Mathlib.Omega.{arith}
 use lib.ListN.{length, take, drop}
 use Rattle.bits.specs.laws.Fields.{field-lt}
-use Rattle.bits.proofs.Pouring.{poured}
+use Rattle.runs.proofs.Pouring.{poured}
 use borrow.Author.Needs.{needs}
-use Rattle.bits.proofs.pour.Statement.{statement}
-use Rattle.bits.proofs.pour.Tie as tie
+use Rattle.runs.proofs.pour.Statement.{statement}
+use Rattle.runs.proofs.pour.Tie as tie
 
 sub-first : tie.Need-sub-first
 sub-first c = search needs
