@@ -5,7 +5,7 @@ use mathlib.Core.List.{List, [], _∷_, _++_}
 use lib.Dec.{eqb}
 use lib.ListN.{length}
 use Rattle.format.specs.Message.{readMessage, codeOf as refusal}
-use Rattle.distress.specs.Report.{reports}
+use Rattle.distress_reading.specs.Report.{reports}
 use Rattle.serial.specs.Serial.{codeOf as serialCode}
 use Rattle.lines.specs.Text.{line}
 use Rattle.daylog.specs.Text.{head, serial, distress, unknown, broken}

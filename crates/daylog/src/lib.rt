@@ -6,11 +6,13 @@ ghost use Rattle.lines.specs.Stores.{Stores};
 ghost use Rattle.daylog.specs.Log.{codeOf, entryLine};
 ghost use Rattle.daylog.specs.Promises.{Lists, Ends, Heads};
 ghost use Rattle.format.specs.Message.{codeOf as Message·codeOf, readMessage};
-ghost use Rattle.distress.specs.Report.{reports};
+ghost use Rattle.distress_reading.specs.Report.{reports};
 use lines::line;
 use lines::text;
 use records::HEAD;
-use records::Next;
+pub use records::Next;
+pub use records::first;
+pub use records::keep;
 
 // No line is longer: two numbers of 20 digits, a word of 8, a code of 3, three spaces and the line feed.
 pub const ROOM: usize = 55;
@@ -31,7 +33,7 @@ pub fn list(s: &[u8], number: u64, out: &mut [u8]) -> Listed
     let mut n = number;
     while out.len() - made >= ROOM {
         let rest = &s[used..];
-        let found = records::first(rest);
+        let found = first(rest);
         let Next::Record(kind, size) = found else {
             return Listed {
                 used,

@@ -55,7 +55,7 @@ fn list_log(input: &mut [u8], text: &mut [u8]) {
             finish(text, number, left);
             return;
         }
-        held = records::keep(input, used, have);
+        held = daylog::keep(input, used, have);
     }
 }
 
@@ -89,9 +89,9 @@ fn list_held(window: &[u8], number: u64, text: &mut [u8]) -> Seen
 }
 
 fn is_bad(rest: &[u8]) -> bool {
-    let next = records::first(rest);
+    let next = daylog::first(rest);
     match next {
-        records::Next::Bad => true,
+        daylog::Next::Bad => true,
         _ => false,
     }
 }

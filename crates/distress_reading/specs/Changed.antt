@@ -6,7 +6,7 @@ use lib.Dec.{eqb}
 use lib.ListN.{getD}
 use Rattle.format.specs.Fmt.{Spot, none, found}
 use Rattle.field.specs.Sign.{intOf}
-use Rattle.distress.specs.declared.report.Report.{Report}
+use Rattle.distress_reading.specs.declared.report.Report.{Report}
 
 -- the fields in bit order: where each that may be corrected stands, and its width; the code and the fill may not be
 abbrev pub spots : List Spot

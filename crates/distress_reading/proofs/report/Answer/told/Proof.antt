@@ -1,8 +1,8 @@
 -- `told` goes by the code.
 use mathlib.Core.Path.{refl}
 use borrow.Author.Tests.{eq-eqb, ne-eqb}
-use Rattle.distress.proofs.report.Answer.told.Statement.{statement}
-use Rattle.distress.proofs.report.Answer.told.Tie as tie
+use Rattle.distress_reading.proofs.report.Answer.told.Statement.{statement}
+use Rattle.distress_reading.proofs.report.Answer.told.Tie as tie
 
 returns : tie.Need-returns
 returns c = rw (ne-eqb _ 0 (c .if1 .taken)) refl

@@ -13,12 +13,12 @@ use Rattle.format.specs.laws.Lead.{held-back}
 use Rattle.field.specs.laws.Sign.{spell-int}
 use mir.Syntax.{w32}
 use mir.ValLaws.{toZ-ofZ}
-use Rattle.distress.specs.Report.{report, valuesOf, reportOf, answerOf, again}
+use Rattle.distress_reading.specs.Report.{report, valuesOf, reportOf, answerOf, again}
 use Rattle.format.specs.laws.Answers.{told-so}
-use Rattle.distress.specs.declared.report.Answer.the-variants.{Good, Refused}
+use Rattle.distress_reading.specs.declared.report.Answer.the-variants.{Good, Refused}
 use borrow.Author.Needs.{needs}
-use Rattle.distress.proofs.report.fields.Statement.{statement}
-use Rattle.distress.proofs.report.fields.Tie as tie
+use Rattle.distress_reading.proofs.report.fields.Statement.{statement}
+use Rattle.distress_reading.proofs.report.fields.Tie as tie
 
 returns : tie.Need-returns
 returns c =

@@ -14,13 +14,13 @@ use Rattle.format.specs.laws.Family.{Family, one-size, written-front, accepted-
 use Rattle.format.specs.laws.Held.{Held, exactly}
 use Rattle.field.specs.laws.Sign.{spell-int}
 use Rattle.format.specs.laws.Zero.{Judged, only-numbered}
-use Rattle.distress.specs.Changed.{spotOf, changed}
-use Rattle.distress.specs.Promises.{Reads}
-use Rattle.distress.specs.Report.{report, reports, valuesOf, reportOf, answerOf, again}
-use Rattle.distress.specs.laws.Correction.{spotted, changed-values}
-use Rattle.distress.specs.laws.Sound.{sound}
-use Rattle.distress.specs.declared.report.Report.{Report}
-use Rattle.distress.specs.declared.report.Answer.the-variants.{Good}
+use Rattle.distress_reading.specs.Changed.{spotOf, changed}
+use Rattle.distress_reading.specs.Promises.{Reads}
+use Rattle.distress_reading.specs.Report.{report, reports, valuesOf, reportOf, answerOf, again}
+use Rattle.distress_reading.specs.laws.Correction.{spotted, changed-values}
+use Rattle.distress_reading.specs.laws.Sound.{sound}
+use Rattle.distress_reading.specs.declared.report.Report.{Report}
+use Rattle.distress_reading.specs.declared.report.Answer.the-variants.{Good}
 
 judged : Judged report
 unfolding report

@@ -11,7 +11,7 @@ use Rattle.bits.specs.Bits.{fieldAt}
 use Rattle.format.specs.Message.{Sound}
 use Rattle.format.specs.Words.{kept}
 use Rattle.format.specs.laws.First.{opens, bytes-long, led-between}
-use Rattle.distress.specs.Report.{report, reports, plain}
+use Rattle.distress_reading.specs.Report.{report, reports, plain}
 
 pub sound : Sound reports
 unfolding reports report

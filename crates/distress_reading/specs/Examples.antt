@@ -8,8 +8,8 @@ use Rattle.format.specs.Fmt.{accepted, refused, readField, read, writeField, wr
 use Rattle.format.specs.Message.{codeOf, readMessage, writeMessage}
 use Rattle.field.specs.Sign.{spellOf}
 use Rattle.format.specs.Words.{walk}
-use Rattle.distress.specs.Report.{report, reports, valuesOf}
-use Rattle.distress.specs.declared.report.Report.{Report}
+use Rattle.distress_reading.specs.Report.{report, reports, valuesOf}
+use Rattle.distress_reading.specs.declared.report.Report.{Report}
 
 -- `bdc1075bcd15385c8780d1ba258c8a16c0`
 abbrev message : List ℕ

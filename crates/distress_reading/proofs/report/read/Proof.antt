@@ -2,11 +2,11 @@
 use mathlib.Core.Path.{sym, ap, _∙_}
 use Rattle.format.specs.Fmt.{also, read}
 use Rattle.format.specs.laws.Lead.{read-first}
-use Rattle.distress.specs.laws.Sound.{sized}
-use Rattle.distress.specs.Report.{reports, reportOf, answerOf}
+use Rattle.distress_reading.specs.laws.Sound.{sized}
+use Rattle.distress_reading.specs.Report.{reports, reportOf, answerOf}
 use borrow.Author.Needs.{needs}
-use Rattle.distress.proofs.report.read.Statement.{statement}
-use Rattle.distress.proofs.report.read.Tie as tie
+use Rattle.distress_reading.proofs.report.read.Statement.{statement}
+use Rattle.distress_reading.proofs.report.read.Tie as tie
 
 lead-requires : tie.Need-lead-requires
 lead-requires c κs = search needs

@@ -11,9 +11,9 @@ use Rattle.format.specs.Fmt.{spot, none, found}
 use Rattle.field.specs.Sign.{intOf, spellOf}
 use Rattle.field.specs.laws.Sign.{spell-int}
 use Rattle.format.specs.laws.Spots.{spotsAlong, spot-along, rows, eachAt, set-each, kept-entry}
-use Rattle.distress.specs.Changed.{spotOf, changed}
-use Rattle.distress.specs.Report.{report, reports, valuesOf}
-use Rattle.distress.specs.declared.report.Report.{Report}
+use Rattle.distress_reading.specs.Changed.{spotOf, changed}
+use Rattle.distress_reading.specs.Report.{report, reports, valuesOf}
+use Rattle.distress_reading.specs.declared.report.Report.{Report}
 
 abbrev pub places : List ℕ
 places = 0 ∷ 16 ∷ 48 ∷ 73 ∷ 97 ∷ 102 ∷ 107 ∷ 113 ∷ 120 ∷ 129 ∷ 133 ∷ []

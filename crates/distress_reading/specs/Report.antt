@@ -13,10 +13,9 @@ use Rattle.field.specs.Sign.{intOf, spellOf}
 use Rattle.format.specs.Words.{_‥_, signed, _▹_, num, code, fill}
 use Rattle.format.specs.laws.Extent.{Plain, span}
 use Rattle.field.specs.laws.Sign.{int-spell}
-use Rattle.distress.specs.declared.report.Report.{Report}
-use Rattle.distress.specs.declared.report.making.Values.{Values}
-use Rattle.distress.specs.declared.report.Answer.{Answer}
-use Rattle.distress.specs.declared.report.Answer.the-variants.{Good, Refused}
+use Rattle.distress_reading.specs.declared.report.Report.{Report}
+use Rattle.distress_reading.specs.declared.report.Answer.{Answer}
+use Rattle.distress_reading.specs.declared.report.Answer.the-variants.{Good, Refused}
 
 unfoldable pub report : Fmt
 report =
@@ -59,10 +58,6 @@ valuesOf r =
     ∷ r .kind
     ∷ 0
     ∷ []
-
--- the same of the numbers that the code puts
-unfoldable pub listOf : Values → List ℕ
-listOf v = 0xBDC1 ∷ v .mmsi ∷ v .longitude ∷ v .latitude ∷ v .day ∷ v .hour ∷ v .minute ∷ v .speed ∷ v .course ∷ v .kind ∷ 0 ∷ []
 
 unfoldable pub reportOf : List ℕ → Report
 reportOf vs = record {
