@@ -90,7 +90,7 @@ pub fn code(kind: u16, body: &[u8]) -> u8
 fn report(body: &[u8]) -> u8
     ensures { λ r. ⌜ r ≡ Message·codeOf (readMessage reports (now (body .entry))) ⌝ }
 {
-    let answer = distress::report::read(body);
+    let answer = distress_reading::report::read(body);
     answer.refusal()
 }
 
