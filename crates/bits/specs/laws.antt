@@ -5,3 +5,5 @@ pub mod Fields
 pub mod Runs
 pub mod Xor
 pub mod Answers
+pub mod Loops
+pub mod Window

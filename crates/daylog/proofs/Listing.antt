@@ -6,14 +6,16 @@ use native.Mathlib.Omega.{arith}
 use lib.ListN.{length, take, drop, length-append, length-drop}
 use lib.Seq.{sets, drop-drop, length-sets, take-all}
 use borrow.Author.Tests.{le-leb, lt-leb}
-use Rattle.daylog.specs.Log.{Entry, front, records, sizeOf, after, after-all, entryLine, lines}
-use Rattle.daylog.specs.Promises.{Stores, listed, chosen, Lists}
-use Rattle.daylog.specs.laws.Text.{sets-append}
-use Rattle.daylog.specs.laws.Records.{front-size, records-open}
+use Rattle.records.specs.Records.{Entry, front, records, sizeOf}
+use Rattle.daylog.specs.Log.{after, after-all, entryLine, lines}
+use Rattle.lines.specs.Stores.{Stores}
+use Rattle.daylog.specs.Promises.{listed, chosen, Lists}
+use Rattle.lines.specs.laws.Text.{sets-append}
+use Rattle.records.specs.laws.Records.{front-size, records-open}
 use Rattle.daylog.specs.laws.Windows.{entryAt, records-next, body-size}
-use Rattle.daylog.specs.declared.Next.{Next}
-use Rattle.daylog.specs.declared.Next.the-variants.{Record, Bad, Short}
-use Rattle.daylog.proofs.Made.{stored}
+use Rattle.records.specs.declared.Next.{Next}
+use Rattle.records.specs.declared.Next.the-variants.{Record, Bad, Short}
+use Rattle.lines.specs.laws.Made.{stored}
 
 -- the records that are left to list
 abbrev pub ahead : List ℕ → List ℕ → ℕ → ℕ → ℕ → List Entry

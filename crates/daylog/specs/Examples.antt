@@ -5,13 +5,15 @@ use Prim.Native.Nat.{ℕ}
 use Rattle.bits.specs.Bits.{bit, valueOf, digits, bitsOf, fieldAt}
 use Rattle.bits.specs.Xor.{xorOf}
 use Rattle.frame.specs.Frame.{leads}
-use Rattle.gljc.specs.Gljc.{gljc, gljcs}
+use Rattle.gljc_reading.specs.Gljc.{gljc, gljcs}
 use Rattle.format.specs.Fmt.{readField, read}
 use Rattle.format.specs.Message.{readMessage}
 use Rattle.format.specs.Words.{walk}
 use Rattle.serial.specs.Serial.{codeAs, codeOf as serialCode}
-use Rattle.daylog.specs.Text.{digitsBy, decimal, line, head, serial, unknown, broken}
-use Rattle.daylog.specs.Log.{word, codeOf, front, recordsBy, records, sizeOf, after-all, entryLine, lines, listingFrom, listing}
+use Rattle.lines.specs.Text.{digitsBy, decimal, line}
+use Rattle.daylog.specs.Text.{head, serial, unknown, broken}
+use Rattle.daylog.specs.Log.{word, codeOf, after-all, entryLine, lines, listingFrom, listing}
+use Rattle.records.specs.Records.{front, recordsBy, records, sizeOf}
 
 tens : decimal 210 ≡ 0x32 ∷ 0x31 ∷ 0x30 ∷ []
 unfolding decimal digitsBy

@@ -1,28 +1,15 @@
 -- What each public call promises of the bytes that it is lent: its answer, and the bytes that it leaves. Assumes nothing.
 use mathlib.Core.Path.{_≡_}
-use mathlib.Core.Bool.{cond, _&&_}
-use mathlib.Core.List.{List, [], _∷_, _++_}
-use Prim.Native.Nat.{ℕ, _+_, _-_}
+use mathlib.Core.Bool.{cond}
+use mathlib.Core.List.{List, [], _∷_}
+use Prim.Native.Nat.{ℕ, _-_}
 use lib.Dec.{leb}
-use lib.ListN.{length, take, drop}
-use lib.Seq.{sets}
+use lib.ListN.{length}
 use Rattle.daylog.specs.Text.{head}
-use Rattle.daylog.specs.Log.{Entry, records, sizeOf, after, after-all, entryLine, lines, endingOf}
+use Rattle.records.specs.Records.{Entry, records, sizeOf}
+use Rattle.daylog.specs.Log.{after, after-all, entryLine, lines, endingOf}
 use Rattle.daylog.specs.declared.Listed.{Listed}
-
--- the text t stored at place `at` of `out`, and the place after it
-pub record Stores (out : List ℕ) (at : ℕ) (t : List ℕ) (end : ℕ) (left : List ℕ) : Type 0 where
-  pub ends : end ≡ at + length t
-  pub leaves : left ≡ sets out at t
-
--- the text t at the front of a lent buffer; the bytes past it stay
-abbrev pub into : List ℕ → List ℕ → List ℕ
-into out t = t ++ drop (length t) out
-
--- the call that writes t into `out`: it answers how many bytes t has
-pub record Made (out t : List ℕ) (made : ℕ) (left : List ℕ) : Type 0 where
-  pub count : made ≡ length t
-  pub leaves : left ≡ into out t
+use Rattle.lines.specs.Stores.{Made}
 
 -- 55 bytes are room for any line
 abbrev pub roomed : List ℕ → List ℕ → List ℕ
@@ -47,10 +34,3 @@ Ends out n bytes made left = Made out (roomed out (endingOf n bytes)) made left
 
 abbrev pub Heads : List ℕ → ℕ → List ℕ → Type 0
 Heads out made left = Made out (roomed out head) made left
-
--- the bytes of s from place a up to place e, none where these are no places of it
-abbrev pub span : List ℕ → ℕ → ℕ → List ℕ
-span s a e = cond (leb e (length s) && leb a e) (take (e - a) (drop a s)) []
-
-abbrev pub Keeps : List ℕ → ℕ → ℕ → ℕ → List ℕ → Type 0
-Keeps s a e count left = Made s (span s a e) count left

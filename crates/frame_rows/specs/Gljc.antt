@@ -4,10 +4,10 @@ use mathlib.Core.List.{List, [], _∷_}
 use lib.IntN.{ℤ, pos}
 use Rattle.format.specs.Fmt.{Out, accepted, refused, also}
 use Rattle.format.specs.Promises.{readRecord}
-use Rattle.gljc.specs.Gljc.{gljcs, recordOf as framed}
-use Rattle.gljc.specs.declared.Gljc.{Gljc}
-use Rattle.gljc.specs.declared.Answer.{Answer}
-use Rattle.gljc.specs.declared.Answer.the-variants.{Good, Refused}
+use Rattle.gljc_reading.specs.Gljc.{gljcs, recordOf as framed}
+use Rattle.gljc_reading.specs.declared.Gljc.{Gljc}
+use Rattle.gljc_reading.specs.declared.Answer.{Answer}
+use Rattle.gljc_reading.specs.declared.Answer.the-variants.{Good, Refused}
 
 -- a record's numbers, in the paper's order
 unfoldable pub rowOf : Gljc → List ℤ

@@ -8,11 +8,11 @@ use lib.ListN.{length, getD}
 use Rattle.format.specs.Fmt.{Out, accepted, refused, orBad, check, also}
 use Rattle.format.specs.Message.{codeOf, leaves, into, writeMessage}
 use Rattle.format.specs.Promises.{readRecord}
-use Rattle.txhz.specs.Txhz.{txhzs, valuesOf, recordOf as framed}
-use Rattle.txhz.specs.declared.Receipt.{Receipt}
-use Rattle.txhz.specs.declared.Txhz.{Txhz}
-use Rattle.txhz.specs.declared.Answer.{Answer}
-use Rattle.txhz.specs.declared.Answer.the-variants.{Good, Refused}
+use Rattle.txhz_reading.specs.Txhz.{txhzs, valuesOf, recordOf as framed}
+use Rattle.txhz_reading.specs.declared.Receipt.{Receipt}
+use Rattle.txhz_reading.specs.declared.Txhz.{Txhz}
+use Rattle.txhz_reading.specs.declared.Answer.{Answer}
+use Rattle.txhz_reading.specs.declared.Answer.the-variants.{Good, Refused}
 
 -- a receipt's numbers before those that follow
 abbrev pub times : Receipt → List ℤ → List ℤ

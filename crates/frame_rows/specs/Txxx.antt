@@ -5,10 +5,10 @@ use lib.IntN.{ℤ, pos}
 use Rattle.frame.specs.Frame.{bytesFor}
 use Rattle.format.specs.Fmt.{Out, accepted, refused, also}
 use Rattle.format.specs.Promises.{readRecord}
-use Rattle.txxx.specs.Txxx.{txxxs, recordOf as framed}
-use Rattle.txxx.specs.declared.Txxx.{Txxx}
-use Rattle.txxx.specs.declared.Answer.{Answer}
-use Rattle.txxx.specs.declared.Answer.the-variants.{Good, Refused}
+use Rattle.txxx_reading.specs.Txxx.{txxxs, recordOf as framed}
+use Rattle.txxx_reading.specs.declared.Txxx.{Txxx}
+use Rattle.txxx_reading.specs.declared.Answer.{Answer}
+use Rattle.txxx_reading.specs.declared.Answer.the-variants.{Good, Refused}
 
 -- a record's numbers, in the paper's order; then the byte where the content begins, and its bytes
 unfoldable pub rowOf : Txxx → List ℤ

@@ -1,7 +1,7 @@
 // The distress report's calls.
 ghost use Rattle.rows.specs.Row.{Fills};
 ghost use Rattle.report_rows.specs.Report.{numbersOf, recordOf};
-ghost use Rattle.distress.specs.Report.{reports, valuesOf};
+ghost use Rattle.distress_reading.specs.Report.{reports, valuesOf};
 ghost use Rattle.format.specs.Promises.{Writes, Corrects};
 use distress::report::Report;
 

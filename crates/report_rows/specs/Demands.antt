@@ -8,9 +8,9 @@ use Rattle.format.specs.Fmt.{Out, accepted, refused, also}
 use Rattle.format.specs.Message.{codeOf, into, leaves}
 use Rattle.format.specs.laws.Family.{refused-stands}
 use Rattle.sentence.specs.laws.Demands.{no-zero-heard}
-use Rattle.distress.specs.Promises.{Reads}
-use Rattle.distress.specs.declared.report.Report.{Report}
-use Rattle.distress.specs.declared.report.Answer.the-variants.{Good, Refused}
+use Rattle.distress_reading.specs.Promises.{Reads}
+use Rattle.distress_reading.specs.declared.report.Report.{Report}
+use Rattle.distress_reading.specs.declared.report.Answer.the-variants.{Good, Refused}
 use Rattle.sentence.specs.Sentence.{laidOver, Hears}
 use Rattle.sentence.specs.declared.Heard.the-variants.{Good as Heard, Refused as Unheard}
 use Rattle.rows.specs.Row.{Fills}

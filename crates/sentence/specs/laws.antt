@@ -1,9 +1,3 @@
--- What is proved of the sentence: its digits, the turns of its loops, its tests and parts, what the calls' steps say, the demands.
-pub mod Digits
-pub mod Hex
-pub mod Turns
-pub mod Tests
-pub mod Parts
-pub mod Front
+-- What the calls' steps say, and the demands.
 pub mod Calls
 pub mod Demands

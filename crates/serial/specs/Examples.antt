@@ -5,7 +5,7 @@ use Prim.Native.Nat.{ℕ}
 use Rattle.bits.specs.Bits.{bit, valueOf, digits, bitsOf, fieldAt}
 use Rattle.frame.specs.Frame.{leads}
 use Rattle.format.specs.Message.{readMessage}
-use Rattle.txhz.specs.Txhz.{txhzs}
+use Rattle.txhz_reading.specs.Txhz.{txhzs}
 use Rattle.serial.specs.Serial.{codeAs, codeOf}
 
 nothing : codeOf [] ≡ 1

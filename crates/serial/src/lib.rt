@@ -18,17 +18,17 @@ pub fn code(s: &[u8]) -> u8
 fn code_as(letters: u64, s: &[u8]) -> u8
     ensures { λ r. ⌜ r ≡ codeAs letters (now (s .entry)) ⌝ }
 {
-    if letters == gljc::LETTERS {
-        return gljc::read(s).refusal();
+    if letters == gljc_reading::LETTERS {
+        return gljc_reading::read(s).refusal();
     }
-    if letters == txsq::LETTERS {
-        return txsq::read(s).refusal();
+    if letters == txsq_reading::LETTERS {
+        return txsq_reading::read(s).refusal();
     }
-    if letters == txxx::LETTERS {
-        return txxx::read(s).refusal();
+    if letters == txxx_reading::LETTERS {
+        return txxx_reading::read(s).refusal();
     }
-    if letters == txhz::LETTERS {
-        return txhz::read(s).refusal();
+    if letters == txhz_reading::LETTERS {
+        return txhz_reading::read(s).refusal();
     }
     format::KIND
 }

@@ -1,12 +1,14 @@
 // Writing a TXSQ, step by step: its fields judged, then put.
-use crate::CLASS;
-use crate::LETTERS;
-use crate::Txsq;
+use txsq_reading::CLASS;
+use txsq_reading::LETTERS;
+use txsq_reading::Txsq;
+use txsq_reading::allowed;
+use txsq_reading::limit;
 ghost use mathlib.Core.List.{[]};
 ghost use Rattle.format.specs.Fmt.{write};
 ghost use Rattle.layout.specs.laws.Judging.{Judged};
 ghost use Rattle.format.specs.laws.Putting.{Puts};
-ghost use Rattle.txsq.specs.Txsq.{txsq, valuesOf};
+ghost use Rattle.txsq_reading.specs.Txsq.{txsq, valuesOf};
 
 pub(crate) fn judged(r: Txsq, content: &[u8]) -> layout::walk::Walk
     ensures { λ w. ⌜ Judged (write txsq [] 0 (valuesOf (r, now (content .entry)))) w ⌝ }
@@ -17,16 +19,16 @@ pub(crate) fn judged(r: Txsq, content: &[u8]) -> layout::walk::Walk
     let w = w.fixed(4, CLASS);
     let w = w.value(2, r.category as u64, 0, 1);
     let w = w.value(1, r.mode as u64, 0, 1);
-    let w = w.value(1, r.password as u64, 0, crate::allowed(r.category, 1));
+    let w = w.value(1, r.password as u64, 0, allowed(r.category, 1));
     let w = w.value(24, r.receiver as u64, 0, frame::ADDRESS);
     let w = w.on(
         16,
         false,
         size,
-        crate::limit(r.category, r.mode, r.password, length, size),
+        limit(r.category, r.mode, r.password, length, size),
         0,
     );
-    let w = w.value(8, r.answer as u64, 0, crate::allowed(r.password, 255));
+    let w = w.value(8, r.answer as u64, 0, allowed(r.password, 255));
     let w = w.wide(r.size as usize, 0);
     let spare = frame::spare(r.size);
     w.fill_value(spare, bits::get(content, r.size as usize, spare))
@@ -48,5 +50,5 @@ pub(crate) fn put(buf: &mut [u8], r: Txsq, content: &[u8])
     bits::put(buf, 88, 24, r.receiver as u64);
     bits::put(buf, 112, 16, r.size as u64);
     bits::put(buf, 128, 8, r.answer as u64);
-    bits::put_bytes(buf, 136, content);
+    runs::put_bytes(buf, 136, content);
 }

@@ -1,11 +1,12 @@
 // Writing a TXXX, step by step: its fields judged, then put.
-use crate::LETTERS;
-use crate::Txxx;
+use txxx_reading::LETTERS;
+use txxx_reading::Txxx;
+use txxx_reading::limit;
 ghost use mathlib.Core.List.{[]};
 ghost use Rattle.format.specs.Fmt.{write};
 ghost use Rattle.layout.specs.laws.Judging.{Judged};
 ghost use Rattle.format.specs.laws.Putting.{Puts};
-ghost use Rattle.txxx.specs.Txxx.{txxx, valuesOf};
+ghost use Rattle.txxx_reading.specs.Txxx.{txxx, valuesOf};
 
 pub(crate) fn judged(r: Txxx, content: &[u8]) -> layout::walk::Walk
     ensures { λ w. ⌜ Judged (write txxx [] 0 (valuesOf (r, now (content .entry)))) w ⌝ }
@@ -17,7 +18,7 @@ pub(crate) fn judged(r: Txxx, content: &[u8]) -> layout::walk::Walk
     let w = w.value(24, r.sender as u64, 0, frame::ADDRESS);
     let w = w.value(8, r.hour as u64, 0, frame::HOUR);
     let w = w.value(8, r.minute as u64, 0, frame::MINUTE);
-    let w = w.on(16, false, size, crate::limit(length, size), 0);
+    let w = w.on(16, false, size, limit(length, size), 0);
     let w = w.wide(r.size as usize, 0);
     let spare = frame::spare(r.size);
     let w = w.fill_value(spare, bits::get(content, r.size as usize, spare));
@@ -38,7 +39,7 @@ pub(crate) fn put(buf: &mut [u8], r: Txxx, content: &[u8])
     bits::put(buf, 112, 8, r.hour as u64);
     bits::put(buf, 120, 8, r.minute as u64);
     bits::put(buf, 128, 16, r.size as u64);
-    bits::put_bytes(buf, 144, content);
+    runs::put_bytes(buf, 144, content);
     let size = r.size as usize;
     bits::put(buf, 144 + (size + 7) / 8 * 8, 8, r.mark as u64);
 }

@@ -5,10 +5,11 @@ use native.Mathlib.Omega.{arith}
 use lib.Dec.{lit<, lit≤}
 use lib.ListN.{length}
 use borrow.Author.Tests.{le-leb, lt-leb}
-use Rattle.daylog.specs.Text.{line, broken}
+use Rattle.lines.specs.Text.{line}
+use Rattle.daylog.specs.Text.{broken}
 use Rattle.daylog.specs.Log.{endingOf}
-use Rattle.daylog.specs.laws.Text.{line-few}
-use Rattle.daylog.proofs.Made.{none, stored}
+use Rattle.lines.specs.laws.Text.{line-few}
+use Rattle.lines.specs.laws.Made.{none, stored}
 use borrow.Author.Needs.{needs}
 use Rattle.daylog.proofs.ending.Statement.{statement}
 use Rattle.daylog.proofs.ending.Tie as tie

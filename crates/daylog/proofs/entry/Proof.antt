@@ -7,9 +7,10 @@ use lib.Dec.{lit≤}
 use lib.ListN.{length}
 use borrow.Author.Tests.{ne-eqb}
 use Rattle.daylog.specs.Log.{word, codeOf, entryLine}
-use Rattle.daylog.specs.Promises.{Stores}
-use Rattle.daylog.specs.Text.{line, serial, distress, unknown}
-use Rattle.daylog.specs.laws.Text.{line-few}
+use Rattle.lines.specs.Stores.{Stores}
+use Rattle.lines.specs.Text.{line}
+use Rattle.daylog.specs.Text.{serial, distress, unknown}
+use Rattle.lines.specs.laws.Text.{line-few}
 use borrow.Author.Needs.{needs}
 use Rattle.daylog.proofs.entry.Statement.{statement}
 use Rattle.daylog.proofs.entry.Tie as tie

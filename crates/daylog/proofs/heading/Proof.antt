@@ -2,7 +2,7 @@
 use native.Mathlib.Omega.{arith}
 use lib.ListN.{length}
 use borrow.Author.Tests.{le-leb, lt-leb}
-use Rattle.daylog.proofs.Made.{none, stored}
+use Rattle.lines.specs.laws.Made.{none, stored}
 use borrow.Author.Needs.{needs}
 use Rattle.daylog.proofs.heading.Statement.{statement}
 use Rattle.daylog.proofs.heading.Tie as tie

@@ -2,17 +2,10 @@
 use mathlib.Core.Path.{_≡_, sym, _∙_}
 use mathlib.Core.List.{List}
 use Prim.Native.Nat.{ℕ}
-use Rattle.daylog.specs.Log.{front, codeOf}
-use Rattle.daylog.specs.Promises.{Made, Lists, Ends, Heads, Keeps}
+use Rattle.daylog.specs.Log.{codeOf}
+use Rattle.daylog.specs.Promises.{Lists, Ends, Heads}
 use Rattle.daylog.specs.declared.Listed.{Listed}
-use Rattle.daylog.specs.declared.Next.{Next}
-
--- one text made, one answer: what the heading, the ending and the kept bytes have in common
-one-text : {out t : List ℕ} {a b : ℕ} {x y : List ℕ} → Made out t a x → Made out t b y → (a ≡ b) × (x ≡ y)
-one-text p q = (p .count ∙ sym (q .count), p .leaves ∙ sym (q .leaves))
-
-pub one-first : (s : List ℕ) (a b : Next) → a ≡ front s → b ≡ front s → a ≡ b
-one-first s a b p q = p ∙ sym q
+use Rattle.lines.specs.laws.Made.{one-text}
 
 pub one-code : (k : ℕ) (body : List ℕ) (a b : ℕ) → a ≡ codeOf k body → b ≡ codeOf k body → a ≡ b
 one-code k body a b p q = p ∙ sym q
@@ -29,6 +22,3 @@ one-ending out n bytes a b x y p q = one-text p q
 
 pub one-heading : (out : List ℕ) (a b : ℕ) (x y : List ℕ) → Heads out a x → Heads out b y → (a ≡ b) × (x ≡ y)
 one-heading out a b x y p q = one-text p q
-
-pub one-keeping : (s : List ℕ) (from to a b : ℕ) (x y : List ℕ) → Keeps s from to a x → Keeps s from to b y → (a ≡ b) × (x ≡ y)
-one-keeping s from to a b x y p q = one-text p q

@@ -9,10 +9,10 @@ use Rattle.format.specs.laws.Answers.{numbered}
 use Rattle.format.specs.laws.Correcting.{admitted-clean}
 use Rattle.format.specs.laws.Corrections.{family-early, family-late}
 use Rattle.format.specs.laws.Spots.{slim, table-stands, table-slim}
-use Rattle.gljc.specs.Gljc.{letters, gljc, gljcs, valuesOf, recordOf, answerOf, numberOf}
-use Rattle.gljc.specs.laws.Correction.{places, widths, along}
-use Rattle.gljc.specs.laws.Demands.{family}
-use Rattle.gljc.specs.declared.Answer.the-variants.{Good, Refused}
+use Rattle.gljc_reading.specs.Gljc.{letters, gljc, gljcs, valuesOf, recordOf, answerOf, numberOf}
+use Rattle.gljc_reading.specs.laws.Correction.{places, widths, along}
+use Rattle.gljc_reading.specs.laws.Demands.{family}
+use Rattle.gljc_reading.specs.declared.Answer.the-variants.{Good, Refused}
 use borrow.Author.Needs.{needs}
 use Rattle.gljc.proofs.correct.Statement.{statement}
 use Rattle.gljc.proofs.correct.Tie as tie

@@ -4,7 +4,7 @@ use lib.Dec.{lit≤}
 use Rattle.bits.specs.Bits.{Bytes}
 use Rattle.frame.specs.laws.Head.{head-put}
 use Rattle.format.specs.laws.Putting.{put-start, put-step, put-end}
-use Rattle.gljc.specs.Gljc.{letters, gljc, valuesOf}
+use Rattle.gljc_reading.specs.Gljc.{letters, gljc, valuesOf}
 use borrow.Author.Needs.{needs}
 use Rattle.gljc.proofs.put.Statement.{statement}
 use Rattle.gljc.proofs.put.Tie as tie

@@ -1,7 +1,7 @@
 // The frame GLJC's calls.
 ghost use Rattle.rows.specs.Row.{Fills};
 ghost use Rattle.frame_rows.specs.Gljc.{numbersOf, recordOf};
-ghost use Rattle.gljc.specs.Gljc.{gljcs, valuesOf};
+ghost use Rattle.gljc_reading.specs.Gljc.{gljcs, valuesOf};
 ghost use Rattle.format.specs.Promises.{Writes, Corrects};
 use gljc::Gljc;
 

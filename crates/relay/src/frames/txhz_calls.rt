@@ -1,7 +1,7 @@
 // The frame TXHZ's calls.
 ghost use Rattle.rows.specs.Row.{Fills};
 ghost use Rattle.frame_rows.specs.Txhz.{numbersOf, TxhzWrites};
-ghost use Rattle.txhz.specs.Txhz.{txhzs};
+ghost use Rattle.txhz_reading.specs.Txhz.{txhzs};
 ghost use Rattle.format.specs.Promises.{Corrects};
 
 // Reads the frame into a row of 23: address, receiver, count, then each receipt's sent hour, sent minute, receipt hour, receipt minute.

@@ -1,7 +1,7 @@
 // The frame TXSQ's calls.
 ghost use Rattle.rows.specs.Row.{Fills};
 ghost use Rattle.frame_rows.specs.Txsq.{numbersOf, recordOf};
-ghost use Rattle.txsq.specs.Txsq.{txsqs, valuesOf};
+ghost use Rattle.txsq_reading.specs.Txsq.{txsqs, valuesOf};
 ghost use Rattle.format.specs.Promises.{Writes, Corrects};
 use txsq::Txsq;
 

@@ -1,7 +1,7 @@
 // The frame TXXX's calls.
 ghost use Rattle.rows.specs.Row.{Fills};
 ghost use Rattle.frame_rows.specs.Txxx.{numbersOf, recordOf};
-ghost use Rattle.txxx.specs.Txxx.{txxxs, valuesOf};
+ghost use Rattle.txxx_reading.specs.Txxx.{txxxs, valuesOf};
 ghost use Rattle.format.specs.Promises.{Writes, Corrects};
 use txxx::Txxx;
 

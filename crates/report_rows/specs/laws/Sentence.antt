@@ -8,7 +8,7 @@ use lib.ListN.{length}
 use Rattle.format.specs.Fmt.{Out, accepted, refused, also}
 use Rattle.format.specs.Message.{codeOf, leaves}
 use Rattle.sentence.specs.Sentence.{readSentence, heardOf, sentOf, Hears, Sends}
-use Rattle.distress.specs.declared.report.Report.{Report}
+use Rattle.distress_reading.specs.declared.report.Report.{Report}
 use Rattle.sentence.specs.declared.Heard.the-variants.{Good, Refused}
 use Rattle.sentence.specs.declared.Sent.{Sent}
 use Rattle.sentence.specs.declared.Sent.the-variants.{Bytes, Refused as Unsent}

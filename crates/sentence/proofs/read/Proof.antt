@@ -4,10 +4,10 @@ use mathlib.Core.Path.{sym, ap, _∙_}
 use native.Mathlib.Omega.{arith}
 use Prim.Native.Nat.{_-_}
 use lib.ListN.{length}
-use Rattle.sentence.specs.Sentence.{refusalOf}
+use Rattle.pattern.specs.Pattern.{refusalOf}
 use Rattle.format.specs.Fmt.{accepted}
 use Rattle.sentence.specs.declared.Heard.the-variants.{Refused}
-use Rattle.sentence.specs.laws.Parts.{length-part}
+use Rattle.pattern.specs.laws.Parts.{length-part}
 use Rattle.sentence.specs.laws.Calls.{heard-refused, Taken, taken, heardAs, heard-inside}
 use Rattle.sentence.proofs.read.Statement.{statement}
 use Rattle.sentence.proofs.read.Tie as tie

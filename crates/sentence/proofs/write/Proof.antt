@@ -8,7 +8,8 @@ use lib.Dec.{leb}
 use lib.ListN.{length, drop, replicate, length-drop}
 use lib.Seq.{take-all}
 use borrow.Author.Tests.{le-leb, lt-leb}
-use Rattle.sentence.specs.Sentence.{addressGood, decimal}
+use Rattle.pattern.specs.Pattern.{addressGood}
+use Rattle.spelling.specs.Spelling.{decimal}
 use Rattle.sentence.specs.laws.Calls.{Reported, reported, bad-address, bad-report, no-room, sentence-size, sent-laid}
 use Rattle.sentence.proofs.write.Statement.{statement}
 use Rattle.sentence.proofs.write.Tie as tie

@@ -8,10 +8,10 @@ use Rattle.format.specs.Message.{readMessage}
 use Rattle.format.specs.laws.Answers.{numbered}
 use Rattle.format.specs.laws.Correcting.{admitted-clean}
 use Rattle.format.specs.laws.Corrections.{family-early, family-late}
-use Rattle.txhz.specs.Txhz.{letters, txhz, txhzs, recordOf, answerOf, numberOf}
-use Rattle.txhz.specs.laws.Correction.{looked-stands, looked-slim}
-use Rattle.txhz.specs.laws.Demands.{family}
-use Rattle.txhz.specs.declared.Answer.the-variants.{Good, Refused}
+use Rattle.txhz_reading.specs.Txhz.{letters, txhz, txhzs, recordOf, answerOf, numberOf}
+use Rattle.txhz_reading.specs.laws.Correction.{looked-stands, looked-slim}
+use Rattle.txhz_reading.specs.laws.Demands.{family}
+use Rattle.txhz_reading.specs.declared.Answer.the-variants.{Good, Refused}
 use borrow.Author.Needs.{needs}
 use Rattle.txhz.proofs.correct.Statement.{statement}
 use Rattle.txhz.proofs.correct.Tie as tie

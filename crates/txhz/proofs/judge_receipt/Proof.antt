@@ -1,6 +1,6 @@
 -- `judge_receipt` is four steps of the walk.
 use mathlib.Core.Path.{ap, _∙_}
-use Rattle.txhz.specs.Steps.{slotJudged}
+use Rattle.txhz_reading.specs.Steps.{slotJudged}
 use borrow.Author.Needs.{needs}
 use Rattle.txhz.proofs.judge_receipt.Statement.{statement}
 use Rattle.txhz.proofs.judge_receipt.Tie as tie

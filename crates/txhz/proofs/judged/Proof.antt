@@ -5,8 +5,8 @@ use Prim.Native.Nat.{_<_}
 use lib.Dec.{lit<, lit≤}
 use Rattle.frame.specs.laws.Head.{head-judged}
 use Rattle.layout.specs.laws.Judging.{judge-num, judge-end}
-use Rattle.txhz.specs.Txhz.{letters, txhz, times, valuesOf}
-use Rattle.txhz.specs.laws.Receipts.{receipt-judged}
+use Rattle.txhz_reading.specs.Txhz.{letters, txhz, times, valuesOf}
+use Rattle.txhz_reading.specs.laws.Receipts.{receipt-judged}
 use borrow.Author.Needs.{needs}
 use Rattle.txhz.proofs.judged.Statement.{statement}
 use Rattle.txhz.proofs.judged.Tie as tie

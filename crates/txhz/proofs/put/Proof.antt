@@ -4,8 +4,8 @@ use lib.Dec.{lit≤}
 use Rattle.bits.specs.Bits.{Bytes}
 use Rattle.frame.specs.laws.Head.{head-put}
 use Rattle.format.specs.laws.Putting.{put-start, put-step, put-end}
-use Rattle.txhz.specs.Txhz.{letters, txhz, valuesOf}
-use Rattle.txhz.specs.laws.Receipts.{receipt-put}
+use Rattle.txhz_reading.specs.Txhz.{letters, txhz, valuesOf}
+use Rattle.txhz_reading.specs.laws.Receipts.{receipt-put}
 use borrow.Author.Needs.{needs}
 use Rattle.txhz.proofs.put.Statement.{statement}
 use Rattle.txhz.proofs.put.Tie as tie

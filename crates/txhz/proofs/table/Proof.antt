@@ -1,6 +1,6 @@
 -- `table` is the list of its entries.
 use mathlib.Core.List.{[], _∷_}
-use Rattle.txhz.specs.Steps.{tableOf}
+use Rattle.txhz_reading.specs.Steps.{tableOf}
 use borrow.Author.Needs.{needs}
 use Rattle.txhz.proofs.table.Statement.{statement}
 use Rattle.txhz.proofs.table.Tie as tie

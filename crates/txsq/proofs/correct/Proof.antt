@@ -6,12 +6,12 @@ use Rattle.bits.specs.Bits.{bitsOf}
 use Rattle.format.specs.Fmt.{also, read}
 use Rattle.format.specs.laws.Corrections.{family-early, family-late}
 use Rattle.format.specs.laws.Spots.{slim, table-stands, table-slim}
-use Rattle.txsq.specs.Txsq.{txsq, txsqs, valuesOf, recordOf, answerOf, numberOf}
-use Rattle.txsq.specs.laws.Correction.{places, widths, along}
-use Rattle.txsq.specs.laws.Demands.{family}
-use Rattle.txsq.specs.declared.Txsq.{Txsq}
-use Rattle.txsq.specs.declared.Answer.{Answer}
-use Rattle.txsq.specs.declared.Answer.the-variants.{Good, Refused}
+use Rattle.txsq_reading.specs.Txsq.{txsq, txsqs, valuesOf, recordOf, answerOf, numberOf}
+use Rattle.txsq_reading.specs.laws.Correction.{places, widths, along}
+use Rattle.txsq_reading.specs.laws.Demands.{family}
+use Rattle.txsq_reading.specs.declared.Txsq.{Txsq}
+use Rattle.txsq_reading.specs.declared.Answer.{Answer}
+use Rattle.txsq_reading.specs.declared.Answer.the-variants.{Good, Refused}
 use borrow.Author.Needs.{needs}
 use Rattle.txsq.proofs.correct.Statement.{statement}
 use Rattle.txsq.proofs.correct.Tie as tie

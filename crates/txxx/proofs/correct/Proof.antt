@@ -6,13 +6,13 @@ use Rattle.bits.specs.Bits.{bitsOf}
 use Rattle.format.specs.Fmt.{also, read}
 use Rattle.format.specs.laws.Corrections.{family-early, family-late}
 use Rattle.format.specs.laws.Spots.{rows, slim, table-stands, table-slim}
-use Rattle.txxx.specs.Txxx.{txxx, txxxs, valuesOf, recordOf, answerOf, numberOf}
-use Rattle.txxx.specs.laws.Correction.{places, widths, along}
-use Rattle.txxx.specs.laws.Demands.{family}
-use Rattle.txxx.specs.laws.Shown.{mark-stands}
-use Rattle.txxx.specs.declared.Txxx.{Txxx}
-use Rattle.txxx.specs.declared.Answer.{Answer}
-use Rattle.txxx.specs.declared.Answer.the-variants.{Good, Refused}
+use Rattle.txxx_reading.specs.Txxx.{txxx, txxxs, valuesOf, recordOf, answerOf, numberOf}
+use Rattle.txxx_reading.specs.laws.Correction.{places, widths, along}
+use Rattle.txxx_reading.specs.laws.Demands.{family}
+use Rattle.txxx_reading.specs.laws.Shown.{mark-stands}
+use Rattle.txxx_reading.specs.declared.Txxx.{Txxx}
+use Rattle.txxx_reading.specs.declared.Answer.{Answer}
+use Rattle.txxx_reading.specs.declared.Answer.the-variants.{Good, Refused}
 use borrow.Author.Needs.{needs}
 use Rattle.txxx.proofs.correct.Statement.{statement}
 use Rattle.txxx.proofs.correct.Tie as tie

@@ -2,7 +2,7 @@
 use mathlib.Core.Path.{subst}
 use Rattle.format.specs.Promises.{Writes}
 use Rattle.layout.specs.laws.Flat.{write-fails, write-cramped, write-flat}
-use Rattle.distress.specs.Report.{reports, plain}
+use Rattle.distress_reading.specs.Report.{reports, plain}
 use borrow.Author.Needs.{needs}
 use Rattle.distress.proofs.report.write.Statement.{statement}
 use Rattle.distress.proofs.report.write.Tie as tie

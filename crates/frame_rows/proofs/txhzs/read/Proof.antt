@@ -2,8 +2,8 @@
 use mathlib.Core.Path.{refl}
 use Rattle.format.specs.Promises.{readRecord}
 use Rattle.rows.specs.laws.Row.{fills-good, fills-refused}
-use Rattle.txhz.specs.Txhz.{txhzs, recordOf as framed}
-use Rattle.txhz.specs.declared.Answer.the-variants.{Good, Refused}
+use Rattle.txhz_reading.specs.Txhz.{txhzs, recordOf as framed}
+use Rattle.txhz_reading.specs.declared.Answer.the-variants.{Good, Refused}
 use Rattle.frame_rows.specs.Txhz.{rowOf, outOf}
 use borrow.Author.Needs.{needs}
 use Rattle.frame_rows.proofs.txhzs.read.Statement.{statement}

@@ -3,8 +3,8 @@ use mathlib.Core.Path.{refl, subst}
 use lib.ListN.{length}
 use borrow.Author.Tests.{eq-eqb, ne-eqb}
 use Rattle.format.specs.Promises.{Writes}
-use Rattle.txhz.specs.Txhz.{txhzs, valuesOf}
-use Rattle.txhz.specs.declared.Txhz.{Txhz}
+use Rattle.txhz_reading.specs.Txhz.{txhzs, valuesOf}
+use Rattle.txhz_reading.specs.declared.Txhz.{Txhz}
 use borrow.Author.Needs.{needs}
 use Rattle.frame_rows.proofs.txhzs.write.Statement.{statement}
 use Rattle.frame_rows.proofs.txhzs.write.Tie as tie

@@ -18,8 +18,8 @@ use Rattle.format.specs.Words.{any, _‥_, ago}
 use Rattle.format.specs.laws.Extent.{opens-field, opens-choice}
 use Rattle.layout.specs.laws.Judging.{judge-fixed, judge-num, judge-limits, judge-tells, judge-end}
 use Rattle.format.specs.laws.Tells.{only-tells, twice-tells}
-use Rattle.txsq.specs.Txsq.{letters, body, allowed, bounded, limits, filling, txsq, valuesOf}
-use Rattle.txsq.specs.laws.Demands.{allowed-below}
+use Rattle.txsq_reading.specs.Txsq.{letters, body, allowed, bounded, limits, filling, txsq, valuesOf}
+use Rattle.txsq_reading.specs.laws.Demands.{allowed-below}
 use borrow.Author.Needs.{needs}
 use Rattle.txsq.proofs.making.judged.Statement.{statement}
 use Rattle.txsq.proofs.making.judged.Tie as tie

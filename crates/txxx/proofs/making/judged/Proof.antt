@@ -18,7 +18,7 @@ use Rattle.format.specs.Words.{any, _‥_}
 use Rattle.format.specs.laws.Extent.{opens-field, opens-choice}
 use Rattle.layout.specs.laws.Judging.{judge-num, judge-tells, judge-end}
 use Rattle.format.specs.laws.Tells.{only-tells, twice-tells}
-use Rattle.txxx.specs.Txxx.{letters, body, bounded, limits, filling, txxx, valuesOf}
+use Rattle.txxx_reading.specs.Txxx.{letters, body, bounded, limits, filling, txxx, valuesOf}
 use borrow.Author.Needs.{needs}
 use Rattle.txxx.proofs.making.judged.Statement.{statement}
 use Rattle.txxx.proofs.making.judged.Tie as tie

@@ -13,8 +13,8 @@ use Rattle.format.specs.Fmt.{pad}
 use Rattle.format.specs.laws.Extent.{opens-field}
 use Rattle.format.specs.laws.Held.{held}
 use Rattle.format.specs.laws.Putting.{put-start, put-step, put-choice, put-number, begins, begins-then, put-run, put-end}
-use Rattle.txxx.specs.Txxx.{letters, body, txxx, valuesOf}
-use Rattle.txxx.specs.laws.Demands.{content-size}
+use Rattle.txxx_reading.specs.Txxx.{letters, body, txxx, valuesOf}
+use Rattle.txxx_reading.specs.laws.Demands.{content-size}
 use borrow.Author.Needs.{needs}
 use Rattle.txxx.proofs.making.put.Statement.{statement}
 use Rattle.txxx.proofs.making.put.Tie as tie

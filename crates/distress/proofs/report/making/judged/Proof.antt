@@ -2,7 +2,8 @@
 use mathlib.Core.Path.{refl}
 use lib.Dec.{lit<}
 use Rattle.layout.specs.laws.Judging.{judge-start, judge-fixed, judge-num, judge-signed, judge-end}
-use Rattle.distress.specs.Report.{report, listOf}
+use Rattle.distress_reading.specs.Report.{report}
+use Rattle.distress.specs.Values.{listOf}
 use borrow.Author.Needs.{needs}
 use Rattle.distress.proofs.report.making.judged.Statement.{statement}
 use Rattle.distress.proofs.report.making.judged.Tie as tie

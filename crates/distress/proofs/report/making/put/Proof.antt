@@ -3,7 +3,8 @@ use mathlib.Core.Path.{refl, _∙_}
 use lib.Dec.{lit≤}
 use Rattle.bits.specs.Bits.{Bytes}
 use Rattle.format.specs.laws.Putting.{put-start, put-step, put-end}
-use Rattle.distress.specs.Report.{report, listOf}
+use Rattle.distress_reading.specs.Report.{report}
+use Rattle.distress.specs.Values.{listOf}
 use borrow.Author.Needs.{needs}
 use Rattle.distress.proofs.report.making.put.Statement.{statement}
 use Rattle.distress.proofs.report.making.put.Tie as tie

@@ -5,7 +5,8 @@ use mathlib.Core.List.{[], _∷_}
 use mathlib.Core.Path.{ap, _∙_}
 use Prim.Native.Nat.{_^_}
 use Rattle.field.specs.Sign.{spellOf}
-use Rattle.distress.specs.Report.{listOf, valuesOf}
+use Rattle.distress_reading.specs.Report.{valuesOf}
+use Rattle.distress.specs.Values.{listOf}
 use borrow.Author.Needs.{needs}
 use Rattle.distress.proofs.report.making.spelled.Statement.{statement}
 use Rattle.distress.proofs.report.making.spelled.Tie as tie

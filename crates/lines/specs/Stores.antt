@@ -1,0 +1,20 @@
+-- A text in a lent buffer: at a place of it, or at its front. Assumes nothing.
+use mathlib.Core.Path.{_≡_}
+use mathlib.Core.List.{List, _++_}
+use Prim.Native.Nat.{ℕ, _+_}
+use lib.ListN.{length, drop}
+use lib.Seq.{sets}
+
+-- the text t stored at place `at` of `out`, and the place after it
+pub record Stores (out : List ℕ) (at : ℕ) (t : List ℕ) (end : ℕ) (left : List ℕ) : Type 0 where
+  pub ends : end ≡ at + length t
+  pub leaves : left ≡ sets out at t
+
+-- the text t at the front of a lent buffer; the bytes past it stay
+abbrev pub into : List ℕ → List ℕ → List ℕ
+into out t = t ++ drop (length t) out
+
+-- the call that writes t into `out`: it answers how many bytes t has
+pub record Made (out t : List ℕ) (made : ℕ) (left : List ℕ) : Type 0 where
+  pub count : made ≡ length t
+  pub leaves : left ≡ into out t

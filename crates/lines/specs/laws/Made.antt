@@ -1,0 +1,28 @@
+-- A text at the front of a buffer, from the stores that made it. Assumes nothing.
+use mathlib.Core.Path.{_≡_, refl, sym, ap, _∙_}
+use mathlib.Core.List.{List, [], _++_}
+use Prim.Native.Nat.{ℕ, _+_, _≤_}
+use native.Mathlib.Omega.{arith}
+use lib.ListN.{length, drop, length-append}
+use lib.Seq.{sets-eq}
+use Rattle.lines.specs.laws.Text.{sets-append}
+use Rattle.lines.specs.Stores.{Stores, Made}
+
+pub none : (out : List ℕ) → Made out [] 0 out
+none out = record { count = refl; leaves = refl }
+
+pub stored : {out t : List ℕ} {made : ℕ} {left : List ℕ} → length t ≤ length out → Stores out 0 t made left → Made out t made left
+stored {out} {t} h s =
+    let z : 0 + length t ≡ length t = omega arith in
+    record { count = omega arith; leaves = s .leaves ∙ sets-eq t out 0 (omega arith) ∙ ap (λ k. t ++ drop k out) z }
+
+-- one text after the other
+pub then : {out mid left t u : List ℕ} {at at′ end : ℕ} → Stores out at t at′ mid → Stores mid at′ u end left → Stores out at (t ++ u) end left
+then {out} {mid} {left} {t} {u} {at} {at′} x y = record {
+  ends = omega (arith, length-append t u);
+  leaves = y .leaves ∙ rw (x .leaves, x .ends, sets-append out at t u);
+}
+
+-- one text made, one answer
+pub one-text : {out t : List ℕ} {a b : ℕ} {x y : List ℕ} → Made out t a x → Made out t b y → (a ≡ b) × (x ≡ y)
+one-text p q = (p .count ∙ sym (q .count), p .leaves ∙ sym (q .leaves))

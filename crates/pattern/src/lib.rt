@@ -1,0 +1,154 @@
+// The distress sentence around a report (001, A.2): `$CCTXA,` address `,2,2,A4` report `*` sum CR LF. Its parts, tested and laid down.
+ghost use mathlib.Core.Path.{_≡_};
+ghost use mathlib.Core.Bool.{cond, true};
+ghost use Prim.Native.Nat.{_+_, _<_, _≤_};
+ghost use lib.Dec.{leb};
+ghost use lib.ListN.{length};
+ghost use lib.Seq.{paste};
+ghost use Rattle.spelling.specs.Spelling.{spelt};
+ghost use Rattle.pattern.specs.Pattern.{Front, opening, summedUp, sameBytes, addressLike, leadOf, aroundSo, aroundOf, refusalOf};
+
+// Its bytes.
+pub const LEAST: usize = 54;
+
+pub const GREATEST: usize = 60;
+
+// The receiver's address; no leading zero.
+pub const LEAST_ADDRESS: u32 = 1;
+
+pub const GREATEST_ADDRESS: u32 = 2_097_151;
+
+// The sentence around a report, by its address.
+pub enum Around {
+    Accepted(u32),
+    Refused(u8),
+}
+
+impl Around {
+    // Its number: 0 for an accepted one.
+    pub fn refusal(self) -> u8
+        ensures { λ r. ⌜ r ≡ refusalOf self ⌝ }
+    {
+        match self {
+            Around::Accepted(_) => 0,
+            Around::Refused(code) => code,
+        }
+    }
+}
+
+fn same(a: &[u8], b: &[u8]) -> bool
+    ensures { λ r. ⌜ r ≡ sameBytes (now (a .entry)) (now (b .entry)) ⌝ }
+{
+    if a.len() != b.len() {
+        return false;
+    }
+    let mut i = 0;
+    while i < a.len() {
+        if a[i] != b[i] {
+            return false;
+        }
+        i += 1;
+    }
+    true
+}
+
+// The address that the digits are, with no leading zero: 0 where they are none.
+fn address(part: &[u8]) -> u32
+    requires { ⌜ 0 < length (now part) ⌝ }
+    ensures { λ r. ⌜ r ≡ cond (addressLike (now (part .entry))) (spelt 0 (now (part .entry))) 0 ⌝ }
+{
+    if part[0] == b'0' {
+        return 0;
+    }
+    if spelling::all_digits(part, 10) {
+        return number(part);
+    }
+    0
+}
+
+// The number that decimal digits spell: 0 where it is above every address.
+fn number(part: &[u8]) -> u32
+    ensures { λ r. ⌜ r ≡ cond (leb (spelt 0 (now (part .entry))) 2_097_151) (spelt 0 (now (part .entry))) 0 ⌝ }
+{
+    let mut all: u32 = 0;
+    let mut i = 0;
+    while i < part.len() {
+        all = all * 10 + spelling::digit_value(part[i]) as u32;
+        if all > GREATEST_ADDRESS {
+            return 0;
+        }
+        i += 1;
+    }
+    all
+}
+
+// The first tests: size, start, last five bytes and sum.
+fn lead(s: &[u8]) -> u8
+    ensures { λ r. ⌜ r ≡ leadOf (now (s .entry)) ⌝ }
+{
+    let n = s.len();
+    if n < LEAST {
+        return format::SIZE;
+    }
+    if n > GREATEST {
+        return format::SIZE;
+    }
+    if !same(&s[0..7], b"$CCTXA,") {
+        return format::KIND;
+    }
+    let last = spelling::closing(bits::xor(&s[1..n - 5]));
+    if !same(&s[n - 5..], &last) {
+        return format::CHECKSUM;
+    }
+    0
+}
+
+// The sentence around a report: the first tests, then all else that is unlike the pattern.
+pub fn accept(s: &[u8]) -> Around
+    ensures { λ r. ⌜ r ≡ aroundOf (aroundSo (now (s .entry))) ⌝ }
+{
+    let code = lead(s);
+    if code != 0 {
+        return Around::Refused(code);
+    }
+    let n = s.len();
+    if !same(&s[n - 46..n - 39], b",2,2,A4") {
+        return Around::Refused(format::RANGE);
+    }
+    if !spelling::all_digits(&s[n - 39..n - 5], 16) {
+        return Around::Refused(format::RANGE);
+    }
+    let to = address(&s[7..n - 46]);
+    if to == 0 {
+        return Around::Refused(format::RANGE);
+    }
+    Around::Accepted(to)
+}
+
+// Puts the bytes of a part at a place of the buffer.
+fn put(buf: &mut [u8], at: usize, part: &[u8])
+    requires { ⌜ at + length (now part) ≤ length (now buf) ⌝ }
+    ensures { λ _. ⌜ now (buf .exit) ≡ paste (now (buf .entry)) at (now (part .entry)) (length (now (part .entry))) ⌝ }
+{
+    let mut i = 0;
+    while i < part.len() {
+        buf[at + i] = part[i];
+        i += 1;
+    }
+}
+
+// Lays the sentence of an address's digits and of the report's 17 bytes over the buffer's front.
+pub fn lay(buf: &mut [u8], digits: &[u8], bytes: &[u8])
+    requires { ⌜ (length (now bytes) ≡ 17) × (53 + length (now digits) ≤ length (now buf)) ⌝ }
+    ensures { λ _. ⌜ Front (summedUp (opening (now (digits .entry)) (now (bytes .entry)))) (now (buf .entry)) (now (buf .exit)) ⌝ }
+{
+    let inside = spelling::hex(bytes);
+    let mark = 7 + digits.len();
+    let star = mark + 41;
+    put(buf, 0, b"$CCTXA,");
+    put(buf, 7, digits);
+    put(buf, mark, b",2,2,A4");
+    put(buf, mark + 7, &inside);
+    let last = spelling::closing(bits::xor(&buf[1..star]));
+    put(buf, star, &last);
+}

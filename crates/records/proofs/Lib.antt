@@ -1,0 +1,2 @@
+-- What the proof of `keep` cites.
+mod Moved

@@ -1,0 +1,3 @@
+-- What is proved of them.
+pub mod Records
+pub mod Answers

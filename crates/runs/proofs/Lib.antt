@@ -1,0 +1,3 @@
+-- What the proofs of `slide` and `pour` cite.
+mod Sliding
+mod Pouring

@@ -1,0 +1,41 @@
+-- `bits::put_bytes` meets its contract: where there is nothing to put, every byte stays.
+use mathlib.Core.Path.{refl, sym, _∙_}
+use Prim.Native.Nat.{_+_, _*_}
+use native.Mathlib.Omega.{arith}
+use borrow.Author.Tests.{leb-true}
+use lib.ListN.{length}
+use borrow.Author.Needs.{needs}
+use Rattle.runs.proofs.Pouring.{poured-none}
+use Rattle.runs.proofs.put_bytes.Statement.{statement}
+use Rattle.runs.proofs.put_bytes.Tie as tie
+
+spans-requires : tie.Need-spans-requires
+spans-requires c κs = search needs
+
+pour-requires : tie.Need-pour-requires
+pour-requires c κs =
+    let p = c .before .before .before in
+    let a = p .before .before .before .args in
+    (omega arith, leb-true (a .at + length (a .t .now) * 8) (length (a .buf .now) * 8) (sym (p .spans .ensures) ∙ c .before .before .if1 .taken))
+
+same-length : tie.Need-same-length
+same-length c = search needs
+
+returns : tie.Need-returns
+returns c =
+    let i = c .before .before .before .before .before in
+    (sym (i .if1 .taken) ∙ i .before .spans .ensures, c .before .before .pour .ensures)
+
+returns-2 : tie.Need-returns-2
+returns-2 c =
+    let a = c .before .before .before .before .before .args in
+    let held = sym (c .before .if1 .taken) ∙ c .before .before .spans .ensures in
+    let fits = leb-true (a .at + length (a .t .now) * 8) (length (a .buf .now) * 8) (sym held) in
+    (held, poured-none (a .buf .now) (a .at) (a .t .now) (λ i. c .before .before .before .before .slice-known .given i .fits) (omega arith) fits)
+
+returns-3 : tie.Need-returns-3
+returns-3 c = (sym (c .if1 .left) ∙ c .before .spans .ensures, refl)
+
+pub put-bytes-spec : {M : Type 1} → statement M
+put-bytes-spec =
+    tie.close (tie.spec spans-requires pour-requires same-length returns returns-2 returns-3)

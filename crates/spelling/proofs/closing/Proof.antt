@@ -1,0 +1,18 @@
+-- `closing` makes the five bytes that the definition lists.
+use borrow.Author.Needs.{needs}
+use Rattle.spelling.specs.Spelling.{closingOf}
+use Rattle.spelling.proofs.closing.Statement.{statement}
+use Rattle.spelling.proofs.closing.Tie as tie
+
+figure-requires : tie.Need-figure-requires
+figure-requires c κs = search needs
+
+figure-requires-2 : tie.Need-figure-requires-2
+figure-requires-2 c κs = search needs
+
+returns : tie.Need-returns
+unfolding closingOf
+returns c = cc
+
+pub closing-spec : {M : Type 1} → statement M
+closing-spec = tie.close (tie.spec figure-requires figure-requires-2 returns)

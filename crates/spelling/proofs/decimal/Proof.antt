@@ -1,0 +1,64 @@
+-- `decimal` stores the digits last to first: those of the rest, then those that stand, are the whole.
+use borrow.Author.Needs.{needs}
+use mathlib.Core.Path.{_≡_, refl, sym, ap, _∙_}
+use mathlib.Core.List.{_++_, append-nil}
+use Prim.Native.Nat.{_≤_, _<_, _^_}
+use native.Mathlib.Omega.{arith}
+use lib.ListN.{length, drop, length-set}
+use Rattle.spelling.specs.Spelling.{decimal}
+use Rattle.spelling.specs.laws.Digits.{decimal-none}
+use Rattle.spelling.specs.laws.Turns.{place-left, decimal-turn}
+use Rattle.spelling.proofs.decimal.Statement.{statement}
+use Rattle.spelling.proofs.decimal.Tie as tie
+
+abbrev Inv-loop : tie.InvT-loop
+Inv-loop n places₀ from₀ rest₀ places from rest = (from ≤ 7) × (rest < 10 ^ from) × (length places ≡ 7) × (decimal from rest ++ drop from places ≡ decimal 7 n)
+
+abbrev μ-loop : tie.MeasureT-loop
+μ-loop n places₀ from₀ rest₀ places from rest = rest
+
+loop-holds : tie.Need-loop-holds Inv-loop μ-loop
+loop-holds c = (omega arith, c .pre, refl, append-nil (decimal 7 (c .args .n)))
+
+sub-from : tie.Need-sub-from Inv-loop μ-loop
+sub-from c = place-left (c .before .loop .from) (c .before .loop .rest) (c .loop-test .taken) (c .before .loop .inv .1)
+
+cast-figure : tie.Need-cast-figure Inv-loop μ-loop
+cast-figure c = search needs
+
+figure-requires : tie.Need-figure-requires Inv-loop μ-loop
+figure-requires c κs = search needs
+
+array-write-places : tie.Need-array-write-places Inv-loop μ-loop
+array-write-places c = let l = c .before .before in omega (arith, place-left (l .loop .from) (l .loop .rest) (c .before .loop-test .taken) (l .loop .inv .1))
+
+loop-less : tie.Need-loop-less Inv-loop μ-loop
+loop-less c = search needs
+
+loop-again : tie.Need-loop-again Inv-loop μ-loop
+loop-again c =
+    let l = c .before .before in
+    let t = decimal-turn (l .loop .from) (l .loop .rest) (l .loop .places) (decimal 7 (l .before .args .n)) (c .before .loop-test .taken) (l .loop .inv .1) (omega arith) (l .loop .inv .3) in
+    (omega arith, t .0, simp length-set (l .loop .inv .2), rw (c .figure .ensures) (t .1))
+
+returns : tie.Need-returns Inv-loop μ-loop
+returns c =
+    let l = c .before in
+    let e : l .loop .rest ≡ 0 = omega arith in
+    let p = drop (l .loop .from) (l .loop .places) in
+    (l .loop .inv .0, l .loop .inv .2, ap (λ x. x ++ p) (sym (ap (decimal (l .loop .from)) e ∙ decimal-none (l .loop .from))) ∙ l .loop .inv .3)
+
+pub decimal-spec : {M : Type 1} → statement M
+decimal-spec =
+    tie.close
+    (tie.spec
+    Inv-loop
+    μ-loop
+    loop-holds
+    sub-from
+    cast-figure
+    figure-requires
+    array-write-places
+    loop-less
+    loop-again
+    returns)
