@@ -224,6 +224,7 @@ fn fields(s: &[u8], lead: u8) -> Answer
     let kind = w.v as u8;
     let w = w.number(s, 2, false, 1, 2, format::KIND);
     let passed = shapes::read(s, w.v, w);
+    let shape = passed.shape;
     let w = time::read(s, passed.walk);
     let time = time::Time::of(w.v);
     let w = time::read_short(s, w);
@@ -238,7 +239,7 @@ fn fields(s: &[u8], lead: u8) -> Answer
         destination,
         resent,
         kind,
-        shape: passed.shape,
+        shape,
         time,
         second_time,
         advice,

@@ -10,7 +10,8 @@ use crate::Area;
 pub(crate) fn judged(r: Area, time: u64, second: u64) -> layout::walk::Walk
     ensures { λ w. ⌜ Judged (Fmt·write area [] 0 (valuesAs r time second)) w ⌝ }
 {
-    let shape = r.shape.kind();
+    let shape = r.shape;
+    let kind = shape.kind();
     let w = layout::walk::Walk::begin(0, 0).fixed(6, crate::MESSAGE);
     let w = w.value(2, r.repeat as u64, 0, 3);
     let w = w.value(30, r.source as u64, 0, 999_999_999);
@@ -21,8 +22,8 @@ pub(crate) fn judged(r: Area, time: u64, second: u64) -> layout::walk::Walk
         .fixed(10, crate::AUTHORITY)
         .fixed(6, crate::APPLICATION);
     let w = w.value(4, r.kind as u64, 1, 14);
-    let w = w.fixed(2, shape as u64);
-    let w = crate::shapes::judged(w, r.shape);
+    let w = w.fixed(2, kind as u64);
+    let w = crate::shapes::judged(w, shape);
     let w = time::judged(w, time);
     let w = time::judged_short(w, second);
     w.value(4, r.advice as u64, 1, 6).fixed(6, 0)
@@ -31,7 +32,8 @@ pub(crate) fn judged(r: Area, time: u64, second: u64) -> layout::walk::Walk
 pub(crate) fn put(buf: &mut [u8], r: Area, time: u64, second: u64)
     ensures { λ _. ⌜ Puts area (valuesAs r time second) (now (buf .entry)) (now (buf .exit)) ⌝ }
 {
-    let shape = r.shape.kind();
+    let shape = r.shape;
+    let kind = shape.kind();
     bits::put(buf, 0, 6, crate::MESSAGE);
     bits::put(buf, 6, 2, r.repeat as u64);
     bits::put(buf, 8, 30, r.source as u64);
@@ -42,8 +44,8 @@ pub(crate) fn put(buf: &mut [u8], r: Area, time: u64, second: u64)
     bits::put(buf, 72, 10, crate::AUTHORITY);
     bits::put(buf, 82, 6, crate::APPLICATION);
     bits::put(buf, 88, 4, r.kind as u64);
-    bits::put(buf, 92, 2, shape as u64);
-    crate::shapes::put(buf, r.shape);
+    bits::put(buf, 92, 2, kind as u64);
+    crate::shapes::put(buf, shape);
     bits::put(buf, 204, 20, time);
     bits::put(buf, 224, 14, second);
     bits::put(buf, 238, 4, r.advice as u64);

@@ -92,6 +92,7 @@ fn read_rectangle(s: &[u8], w: Walk) -> Passed
 {
     let first = read_point(s, w);
     let second = read_point(s, first.walk);
+    let w = second.walk;
     let longitude = field::sign::int(first.longitude, EAST);
     let latitude = field::sign::int(first.latitude, NORTH);
     let second_longitude = field::sign::int(second.longitude, EAST);
@@ -103,7 +104,7 @@ fn read_rectangle(s: &[u8], w: Walk) -> Passed
         second_latitude,
     };
     Passed {
-        walk: second.walk,
+        walk: w,
         shape: Shape::Rectangle(rectangle),
     }
 }
