@@ -1,10 +1,9 @@
+-- `judged` goes by the shape's variant.
+use mathlib.Core.Path.{sym, ap, _∙_}
+use Rattle.area.specs.Steps.{shapeJudged}
 use borrow.Author.Needs.{needs}
 use Rattle.area.proofs.shapes.judged.Statement.{statement}
 use Rattle.area.proofs.shapes.judged.Tie as tie
-use Rattle.area.proofs.shapes.judged.Reads as reads
-use Rattle.area.proofs.shapes.judged.Lts as lts
-use Rattle.area.proofs.shapes.judged_circle.Reads as judged-circle-reads
-use Rattle.area.proofs.shapes.judged_rectangle.Reads as judged-rectangle-reads
 
 enum-known-shape : tie.Need-enum-known-shape
 enum-known-shape c = search needs
@@ -19,11 +18,15 @@ judged-rectangle-requires : tie.Need-judged-rectangle-requires
 judged-rectangle-requires c κs = search needs
 
 returns : tie.Need-returns
-returns c = ?
-
+returns c =
+    let m = c .before .before in
+    let st = m .before .before in
+    c .judged-circle .ensures ∙ ap (λ b. shapeJudged b (st .args .w)) (sym (m .shape .given .1))
 returns-2 : tie.Need-returns-2
-returns-2 c = ?
-
+returns-2 c =
+    let m = c .before .before in
+    let st = m .before .before in
+    c .judged-rectangle .ensures ∙ ap (λ b. shapeJudged b (st .args .w)) (sym (m .shape2 .given .1))
 pub judged-spec : {M : Type 1} → statement M
 judged-spec =
     tie.close

@@ -1,10 +1,9 @@
+-- `put` goes by the shape's variant.
+use mathlib.Core.Path.{sym, ap, _∙_}
+use Rattle.area.specs.Steps.{shapePut}
 use borrow.Author.Needs.{needs}
 use Rattle.area.proofs.shapes.put.Statement.{statement}
 use Rattle.area.proofs.shapes.put.Tie as tie
-use Rattle.area.proofs.shapes.put.Reads as reads
-use Rattle.area.proofs.shapes.put.Lts as lts
-use Rattle.area.proofs.shapes.put_circle.Reads as put-circle-reads
-use Rattle.area.proofs.shapes.put_rectangle.Reads as put-rectangle-reads
 
 enum-known-shape : tie.Need-enum-known-shape
 enum-known-shape c = search needs
@@ -22,14 +21,20 @@ same-length : tie.Need-same-length
 same-length c = search needs
 
 returns : tie.Need-returns
-returns c = ?
-
+returns c =
+    let p = c .before .before in
+    let m = p .before .before .before in
+    let st = m .before .before .before in
+    p .put-circle .ensures ∙ ap (λ b. shapePut b (st .args .buf .now)) (sym (m .shape .given .1))
 same-length-2 : tie.Need-same-length-2
 same-length-2 c = search needs
 
 returns-2 : tie.Need-returns-2
-returns-2 c = ?
-
+returns-2 c =
+    let p = c .before .before in
+    let m = p .before .before .before in
+    let st = m .before .before .before in
+    p .put-rectangle .ensures ∙ ap (λ b. shapePut b (st .args .buf .now)) (sym (m .shape2 .given .1))
 pub put-spec : {M : Type 1} → statement M
 put-spec =
     tie.close
