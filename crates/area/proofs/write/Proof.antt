@@ -1,11 +1,11 @@
+-- `write` answers as the walk over the values, the size made and the room decide.
+use mathlib.Core.Path.{refl, sym, ap₂, subst}
+use Rattle.format.specs.Promises.{Writes}
+use Rattle.layout.specs.laws.Making.{write-refused, write-bare}
+use Rattle.area.specs.Area.{areas, valuesAs}
 use borrow.Author.Needs.{needs}
 use Rattle.area.proofs.write.Statement.{statement}
 use Rattle.area.proofs.write.Tie as tie
-use Rattle.area.proofs.write.Reads as reads
-use Rattle.area.proofs.write.Lts as lts
-use Rattle.area.proofs.making.judged.Reads as judged-reads
-use Rattle.area.proofs.making.put.Reads as put-reads
-use Rattle.layout.proofs.walk.Walk.closes.Reads as closes-reads
 use Rattle.time.proofs.ShortTime.spelled.Reads as ShortTime-spelled-reads
 use Rattle.time.proofs.Time.spelled.Reads as Time-spelled-reads
 
@@ -22,7 +22,16 @@ closes-requires : tie.Need-closes-requires
 closes-requires c κs = search needs
 
 returns : tie.Need-returns
-returns c = ?
+unfolding areas
+returns c =
+    let closes = c .before in
+    let j = closes .before in
+    let y = j .before in
+    let x = y .before in
+    let st = x .before .before in
+    let a = st .args in
+    subst (Writes areas (a .buf .now) _ (a .buf .now)) (ap₂ (valuesAs (a .r)) (x .spelled .ensures) (y .spelled2 .ensures))
+    (write-refused areas _ (a .buf .now) (j .judged .ensures) (closes .closes .ensures) (c .if1 .taken))
 
 put-requires : tie.Need-put-requires
 put-requires c κs = search needs
@@ -31,7 +40,18 @@ same-length : tie.Need-same-length
 same-length c = search needs
 
 returns-2 : tie.Need-returns-2
-returns-2 c = ?
+unfolding areas
+returns-2 c =
+    let p = c .before .before in
+    let test = p .before .before in
+    let closes = test .before in
+    let j = closes .before in
+    let y = j .before in
+    let x = y .before in
+    let st = x .before .before in
+    let a = st .args in
+    subst (Writes areas (a .buf .now) 0 _) (ap₂ (valuesAs (a .r)) (x .spelled .ensures) (y .spelled2 .ensures))
+    (write-bare areas _ (a .buf .now) (j .judged .ensures) refl (closes .closes .ensures) (test .if1 .left) (p .put .ensures))
 
 pub write-spec : {M : Type 1} → statement M
 write-spec =

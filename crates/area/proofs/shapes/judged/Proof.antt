@@ -22,11 +22,13 @@ returns c =
     let m = c .before .before in
     let st = m .before .before in
     c .judged-circle .ensures ∙ ap (λ b. shapeJudged b (st .args .w)) (sym (m .shape .given .1))
+
 returns-2 : tie.Need-returns-2
 returns-2 c =
     let m = c .before .before in
     let st = m .before .before in
     c .judged-rectangle .ensures ∙ ap (λ b. shapeJudged b (st .args .w)) (sym (m .shape2 .given .1))
+
 pub judged-spec : {M : Type 1} → statement M
 judged-spec =
     tie.close

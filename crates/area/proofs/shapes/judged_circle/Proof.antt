@@ -34,6 +34,7 @@ returns c =
     let e0 = p .judged-point .ensures ∙ ap₂ (λ x y. pointJudged x y (st .args .w)) east north in
     let e1 = n1 .value .ensures ∙ ap (valued 7 (b .radius) 0 127) e0 in
     c .fixed .ensures ∙ ap (onward 48 false 0 0 0) e1
+
 pub judged-circle-spec : {M : Type 1} → statement M
 judged-circle-spec =
     tie.close (tie.spec judged-point-requires cast-value value-requires fixed-requires returns)

@@ -32,6 +32,7 @@ returns c =
     let north = y .spelled2 .ensures ∙ ap spellNorth (toZ-ofZ w32 (a .latitude) (st .fits .latitude)) in
     let e1 = n1 .signed-value .ensures ∙ ap (λ v. signedlyValued 28 v (2 ^ 28) 108_000_000 160_435_456 108_600_000 (a .w)) east in
     c .signed-value2 .ensures ∙ ap₂ (λ v r. signedlyValued 27 v (2 ^ 27) 54_000_000 80_217_728 54_600_000 r) north e1
+
 pub judged-point-spec : {M : Type 1} → statement M
 judged-point-spec =
     tie.close

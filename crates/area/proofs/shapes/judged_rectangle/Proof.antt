@@ -26,5 +26,6 @@ returns c =
     let north2 = toZ-ofZ w32 (b .«second_latitude») (record { sfits = known .1 .1 .1 .0 .1 }) in
     let e0 = p .judged-point .ensures ∙ ap₂ (λ x y. pointJudged x y (st .args .w)) east north in
     c .judged-point2 .ensures ∙ (λ i. pointJudged (east2 i) (north2 i) (e0 i))
+
 pub judged-rectangle-spec : {M : Type 1} → statement M
 judged-rectangle-spec = tie.close (tie.spec judged-point-requires judged-point-requires-2 returns)

@@ -26,6 +26,7 @@ returns c =
     let m = p .before .before .before in
     let st = m .before .before .before in
     p .put-circle .ensures ∙ ap (λ b. shapePut b (st .args .buf .now)) (sym (m .shape .given .1))
+
 same-length-2 : tie.Need-same-length-2
 same-length-2 c = search needs
 
@@ -35,6 +36,7 @@ returns-2 c =
     let m = p .before .before .before in
     let st = m .before .before .before in
     p .put-rectangle .ensures ∙ ap (λ b. shapePut b (st .args .buf .now)) (sym (m .shape2 .given .1))
+
 pub put-spec : {M : Type 1} → statement M
 put-spec =
     tie.close

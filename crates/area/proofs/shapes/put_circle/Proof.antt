@@ -56,6 +56,7 @@ returns c =
     let e3 = put-in _ 149 7 (b .radius) (p3 .put3 .ensures) ∙ ap (λ t. putIn t 149 7 (b .radius)) e2 in
     let e4 = put-in _ 156 32 0 (p4 .put4 .ensures) ∙ ap (λ t. putIn t 156 32 0) e3 in
     put-in _ 188 16 0 (p5 .put5 .ensures) ∙ ap (λ t. putIn t 188 16 0) e4
+
 pub put-circle-spec : {M : Type 1} → statement M
 put-circle-spec =
     tie.close

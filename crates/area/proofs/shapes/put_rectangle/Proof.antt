@@ -58,6 +58,7 @@ returns c =
     let e2 = put-in _ 122 27 _ (p2 .put2 .ensures) ∙ ap₂ (λ t v. putIn t 122 27 v) e1 north in
     let e3 = put-in _ 149 28 _ (p3 .put3 .ensures) ∙ ap₂ (λ t v. putIn t 149 28 v) e2 east2 in
     put-in _ 177 27 _ (p4 .put4 .ensures) ∙ ap₂ (λ t v. putIn t 177 27 v) e3 north2
+
 pub put-rectangle-spec : {M : Type 1} → statement M
 put-rectangle-spec =
     tie.close

@@ -12,6 +12,7 @@ returns c =
     let f = c .before in
     let st = f .before .before in
     rw (eq-eqb (st .args .kind) 1 (f .if1 .taken)) (c .read-circle .ensures)
+
 read-rectangle-requires : tie.Need-read-rectangle-requires
 read-rectangle-requires c κs = search needs
 
@@ -20,5 +21,6 @@ returns-2 c =
     let f = c .before in
     let st = f .before .before in
     rw (ne-eqb (st .args .kind) 1 (f .if1 .left)) (c .read-rectangle .ensures)
+
 pub read-spec : {M : Type 1} → statement M
 read-spec = tie.close (tie.spec read-circle-requires returns read-rectangle-requires returns-2)

@@ -44,6 +44,7 @@ returns c =
     let east = toZ-ofZ w32 (n3 .int .result) (record { sfits = n3 .int .ok }) ∙ n3 .int .ensures ∙ ap (λ p. eastOf (p .longitude)) e0 in
     let north = toZ-ofZ w32 (c .int2 .result) (record { sfits = c .int2 .ok }) ∙ c .int2 .ensures ∙ ap (λ p. northOf (p .latitude)) e0 in
     λ i. record { walk = e2 i; shape = IsCircle (record { longitude = east i; latitude = north i; radius = e1 i .v }) }
+
 pub read-circle-spec : {M : Type 1} → statement M
 read-circle-spec =
     tie.close

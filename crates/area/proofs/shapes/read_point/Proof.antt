@@ -20,5 +20,6 @@ returns c =
     let e1 = n1 .signed .ensures .0 in
     let e2 = c .signed2 .ensures .0 ∙ ap (northRead s) e1 in
     λ i. record { walk = e2 i; longitude = e1 i .v; latitude = e2 i .v }
+
 pub read-point-spec : {M : Type 1} → statement M
 read-point-spec = tie.close (tie.spec signed-requires signed-requires-2 returns)

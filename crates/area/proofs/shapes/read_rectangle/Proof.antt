@@ -44,6 +44,7 @@ returns c =
     let east2 = toZ-ofZ w32 (n3 .int3 .result) (record { sfits = n3 .int3 .ok }) ∙ n3 .int3 .ensures ∙ ap (λ p. eastOf (p .longitude)) e1 in
     let north2 = toZ-ofZ w32 (c .int4 .result) (record { sfits = c .int4 .ok }) ∙ c .int4 .ensures ∙ ap (λ p. northOf (p .latitude)) e1 in
     λ i. record { walk = e1 i .walk; shape = IsRectangle (record { longitude = east i; latitude = north i; «second_longitude» = east2 i; «second_latitude» = north2 i }) }
+
 pub read-rectangle-spec : {M : Type 1} → statement M
 read-rectangle-spec =
     tie.close
