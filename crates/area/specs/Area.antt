@@ -10,7 +10,7 @@ use Rattle.format.specs.Message.{Layout, led, between}
 use Rattle.format.specs.Promises.{answered}
 use Rattle.format.specs.Words.{_‥_, only, _▹_, num, code, fill}
 use Rattle.time.specs.Time.{time, shortTime, spellTime, timeOf, spellShort, shortOf}
-use Rattle.area.specs.Shapes.{Kind, kindOf, typeOf, shape, shapeKind, shapeValues, shapeOf}
+use Rattle.area.specs.Shapes.{kindOf, typeOf, shape, shapeKind, shapeValues, shapeOf}
 use Rattle.area.specs.declared.Area.{Area}
 use Rattle.area.specs.declared.Answer.{Answer}
 use Rattle.area.specs.declared.Answer.the-variants.{Good, Refused}

@@ -1,7 +1,7 @@
 -- The two shapes of an area, 110 bits (paper 01, "AIS"; 003, tables 39 and 40). Assumes nothing.
 use Prim.Native.Nat.{ℕ, _^_}
 use mathlib.Core.Bool.{cond}
-use mathlib.Core.List.{List, [], _∷_}
+use mathlib.Core.List.{List, _∷_}
 use lib.Dec.{eqb}
 use lib.IntN.{ℤ}
 use lib.ListN.{getD}

@@ -1,5 +1,5 @@
 -- `write` answers as the walk over the values, the size made and the room decide.
-use mathlib.Core.Path.{refl, sym, ap₂, subst}
+use mathlib.Core.Path.{refl, ap₂, subst}
 use Rattle.format.specs.Promises.{Writes}
 use Rattle.layout.specs.laws.Making.{write-refused, write-bare}
 use Rattle.area.specs.Area.{areas, valuesAs}

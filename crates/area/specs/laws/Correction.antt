@@ -16,7 +16,7 @@ use Rattle.time.specs.Time.{spellTime, timeOf, spellShort, shortOf}
 use Rattle.time.specs.laws.Spelling.{spell-time, spell-short}
 use Rattle.area.specs.Area.{area, areas, headed, valuesAs, valuesOf}
 use Rattle.area.specs.Changed.{spots, spotOf, fields, changedShape, changed}
-use Rattle.area.specs.Shapes.{Kind, circle, rectangle, kindOf, typeOf, spellEast, spellNorth, eastOf, northOf, shapeKind, shapeValues}
+use Rattle.area.specs.Shapes.{Kind, circle, rectangle, typeOf, spellEast, spellNorth, eastOf, northOf, shapeKind, shapeValues}
 use Rattle.area.specs.declared.Area.{Area}
 use Rattle.area.specs.declared.shapes.Shape.{Shape}
 use Rattle.area.specs.declared.shapes.Shape.the-variants.{Circle, Rectangle}

@@ -1,5 +1,5 @@
 -- An area is a family of format/specs/laws/Family, whose theorems are demands 2 and 3; said here of its own promises. Assumes nothing.
-use mathlib.Core.Path.{_≡_, refl, sym, ap, _∙_, subst, subst⁻¹}
+use mathlib.Core.Path.{_≡_, refl, sym, ap, _∙_, subst}
 use mathlib.Core.Bool.{Bool, true, false, cond}
 use mathlib.Core.List.{List, [], _∷_, _++_}
 use Prim.Native.Nat.{ℕ, _≤_, _<_, _^_}
@@ -7,10 +7,12 @@ use native.Mathlib.Omega.{arith}
 use lib.Dec.{eqb, lit≤}
 use lib.ListN.{length, getD, take, drop}
 use borrow.Author.Tests.{eqb-true, eqb-false}
-use Rattle.bits.specs.Bits.{Bytes, bitsOf, fieldAt}
+use Rattle.bits.specs.Answers.{got}
+use Rattle.bits.specs.Bits.{Bytes, fieldAt}
+use Rattle.bits.specs.laws.Answers.{got-fits}
 use Rattle.field.specs.laws.Sign.{spell-int}
-use Rattle.format.specs.Fmt.{Out, accepted, refused, end, found}
-use Rattle.format.specs.Message.{readMessage}
+use Rattle.format.specs.Correcting.{standing, ofKind}
+use Rattle.format.specs.Fmt.{Out, accepted, refused, end, found, spot}
 use Rattle.format.specs.Promises.{readRecord, Writes, Corrects}
 use Rattle.format.specs.Words.{_‥_, num, fill, wide}
 use Rattle.format.specs.laws.Entries.{entries}
@@ -21,13 +23,13 @@ use Rattle.format.specs.laws.Zero.{Judged, Counted, only-numbered}
 use Rattle.time.specs.Time.{shortTime, spellTime, timeOf, spellShort, shortOf}
 use Rattle.time.specs.laws.Spelling.{time-spell, spell-time, short-spell, spell-short}
 use Rattle.time.specs.laws.Walking.{time-numbered, short-numbered}
-use Rattle.area.specs.Area.{tail, area, areas, headed, valuesAs, valuesOf, recordOf, answerOf}
+use Rattle.area.specs.Area.{tail, area, areas, valuesAs, valuesOf, recordOf, answerOf}
 use Rattle.area.specs.Changed.{spotOf, fields, fieldOf, changed}
 use Rattle.area.specs.Promises.{Reads}
 use Rattle.area.specs.Shapes.{Kind, circle, rectangle, kindOf, typeOf, shape, shapeKind, shapeValues, shapeOf}
-use Rattle.area.specs.laws.Correction.{spotted, changed-values}
-use Rattle.area.specs.laws.Sound.{Front, front, sound, shape-at}
-use Rattle.area.specs.laws.Told.{laid, made, recorded, kind-type}
+use Rattle.area.specs.laws.Correction.{places, widths, kinds, stands, spotted, changed-values}
+use Rattle.area.specs.laws.Sound.{front, bytes, shape-at, sound}
+use Rattle.area.specs.laws.Told.{recorded, kind-type}
 use Rattle.area.specs.laws.Walking.{Narrow, shape-numbered}
 use Rattle.area.specs.declared.Area.{Area}
 use Rattle.area.specs.declared.shapes.Shape.{Shape}
@@ -179,6 +181,16 @@ read-writes-back s r fine a = read-written family s r fine (good s r a)
 pub shape-read : (s : List ℕ) (r : Area) → Bytes s → readRecord areas recordOf s ≡ accepted r → fieldAt s 92 2 ≡ typeOf (shapeKind (r .shape))
 unfolding areas valuesAs
 shape-read s r fine e = let m = read-values family s r fine e .0 in shape-at s (valuesOf r) (was areas s (valuesOf r) m .walked)
+
+-- the field of number n, looked up by the shape's number k that the code found there, stands where the table says
+pub looked-stands : (s : List ℕ) (n : ℕ) {k p w : ℕ} → Bytes s → k ≡ got s 92 2 → (p ≡ getD places n 0) × (w ≡ ofKind k (getD kinds n 0) (getD widths n 0))
+    → (r : Area) → readRecord areas recordOf s ≡ accepted r → spot (areas .fmt) [] (valuesOf r) (fieldOf (fieldAt s 92 2) n) ≡ standing p w
+unfolding areas
+looked-stands s n {k} fine is l r e =
+    let m = was areas s (valuesOf r) (read-values family s r fine e .0) .walked in
+    let type = shape-read s r fine e in
+    let found-so = is ∙ got-fits s 92 2 (lit≤ tt) (omega (arith, bytes s (valuesOf r) m)) ∙ type in
+    ap (λ i. spot (areas .fmt) [] (valuesOf r) i) (ap (λ t. fieldOf t n) type ∙ ap (λ k. getD (fields k) n 0) (kind-type (shapeKind (r .shape)))) ∙ stands k n l r found-so
 
 -- Demand 3: correcting an area, where the field of that number can spell the value, is writing the area with that field changed; else nothing differs.
 pub corrected : (s : List ℕ) (r : Area) → Bytes s → Reads s (Good r) → (n v p w : ℕ) → let t = shapeKind (r .shape) in let i = getD (fields t) n 0 in

@@ -1,8 +1,8 @@
 -- An area's layout is sound: what its fields accept leaves nothing to the first tests. Assumes nothing.
 use mathlib.Core.Path.{_≡_, refl, sym, ap, _∙_, subst}
 use mathlib.Core.Bool.{Bool, true, false, cond, _&&_, false≢true}
-use mathlib.Core.List.{List, [], _∷_}
-use Prim.Native.Nat.{ℕ, _+_, _*_, _≤_}
+use mathlib.Core.List.{List, []}
+use Prim.Native.Nat.{ℕ, _+_, _≤_}
 use native.Mathlib.Omega.{arith}
 use lib.Dec.{leb, eqb}
 use lib.ListN.{length, getD, drop}
@@ -87,7 +87,7 @@ module _ (s vs : List ℕ) (e : read area [] 0 (bitsOf s) ≡ accepted vs) where
   abbrev begins : Front vs
   begins = front vs (held area [] 0 vs (bitsOf s) (read-write area [] 0 vs (bitsOf s) e))
 
-  bytes : length s ≡ 31
+  pub bytes : length s ≡ 31
   bytes =
       let n = extent-laid area [] 0 vs (bitsOf s) (read-write area [] 0 vs (bitsOf s) e) ∙ extent-area vs in
       omega (arith, n, length-bits s)

@@ -1,11 +1,10 @@
 -- A shape read, judged and put: where the code stands behind it, whichever it is. Assumes nothing.
-use mathlib.Core.Path.{_≡_, refl, sym, ap, _∙_, subst, subst⁻¹}
+use mathlib.Core.Path.{_≡_, refl, subst⁻¹}
 use mathlib.Core.Bool.{Bool, false}
 use mathlib.Core.List.{List, _∷_}
 use Prim.Native.Nat.{ℕ, _+_, _<_, _^_}
 use lib.Dec.{lit<, lit≤}
 use lib.IntN.{ℤ}
-use Rattle.bits.specs.Bits.{bitsOf}
 use Rattle.field.specs.laws.Sign.{spell-int}
 use Rattle.format.specs.Fmt.{Out, Fmt, choice}
 use Rattle.format.specs.Words.{_‥_, only}
@@ -19,7 +18,7 @@ use Rattle.layout.specs.laws.Reading.{step-num, step-signed, step-blank, got-lt
 use Rattle.layout.specs.laws.Step.{Reading}
 use Rattle.layout.specs.declared.walk.Walk.{Walk}
 use Rattle.area.specs.Shapes.{Kind, circle, rectangle, kindOf, typeOf, point, shape, spellEast, spellNorth, eastOf, northOf, shapeKind, shapeValues}
-use Rattle.area.specs.Steps.{eastRead, northRead, pointRead, circleRead, rectangleRead, shapeRead, pointJudged, shapeJudged, shapePut}
+use Rattle.area.specs.Steps.{eastRead, pointRead, circleRead, rectangleRead, shapeRead, pointJudged, shapeJudged, shapePut}
 use Rattle.area.specs.declared.shapes.Passed.{Passed}
 use Rattle.area.specs.declared.shapes.Shape.{Shape}
 use Rattle.area.specs.declared.shapes.Shape.the-variants.{Circle, Rectangle}
@@ -102,7 +101,7 @@ point-judged x y reach near e =
     let r1 = judge-signed 28 near 108_000_000 108_600_000 (2 ^ 28) refl e refl in
     judge-signed 27 reach 54_000_000 54_600_000 (2 ^ 27) refl r1 refl
 
-pub shape-judged : {o : Out (List Bool)} {f : Fmt} {h : List ℕ} {vs : List ℕ} {r g : Walk} (b : Shape) → Judging o (shape (shapeKind b) f) h 94 (shapeValues b vs) r → g ≡ shapeJudged b r
+pub shape-judged : {o : Out (List Bool)} {f : Fmt} {h : List ℕ} {vs : List ℕ} {r g : Walk} (b : Shape) → Judging o (shape (kindOf (typeOf (shapeKind b))) f) h 94 (shapeValues b vs) r → g ≡ shapeJudged b r
     → Judging o f (backwards b h) 204 vs g
 shape-judged {o} {f} {h} {vs} (Circle b) e d =
     let r1 = point-judged (b .longitude) (b .latitude) (lit< tt) (lit< tt) e in
@@ -114,7 +113,7 @@ shape-judged {o} {f} {h} {vs} (Rectangle b) e d =
 
 -- ---- put
 
-pub shape-put : {s t u : List ℕ} {b : List Bool} {f : Fmt} {vs : List ℕ} (x : Shape) → Putting s b (shape (shapeKind x) f) 94 (shapeValues x vs) t → u ≡ shapePut x t → Putting s b f 204 vs u
+pub shape-put : {s t u : List ℕ} {b : List Bool} {f : Fmt} {vs : List ℕ} (x : Shape) → Putting s b (shape (kindOf (typeOf (shapeKind x))) f) 94 (shapeValues x vs) t → u ≡ shapePut x t → Putting s b f 204 vs u
 shape-put (Circle x) e d =
     let p1 = put-number 28 (lit≤ tt) opens-field e refl in
     let p2 = put-number 27 (lit≤ tt) opens-field p1 refl in

@@ -1,7 +1,7 @@
 -- `judged_rectangle` is one position behind the other.
 use mir.Syntax.{w32}
 use mir.ValLaws.{toZ-ofZ}
-use mathlib.Core.Path.{_≡_, ap₂, _∙_}
+use mathlib.Core.Path.{ap₂, _∙_}
 use Rattle.area.specs.Steps.{pointJudged}
 use borrow.Author.Needs.{needs}
 use Rattle.area.proofs.shapes.judged_rectangle.Statement.{statement}
