@@ -57,11 +57,17 @@ impl Field {
     }
 }
 
+impl AsRef<Field> for Field {
+    fn as_ref(&self) -> &Field {
+        self
+    }
+}
+
 /// Puts none, one or a few of the fields' numbers at an edge.
-pub fn put_at_edges(random: &mut Random, fields: &[Field], numbers: &mut [i64]) {
+pub fn put_at_edges(random: &mut Random, fields: &[impl AsRef<Field>], numbers: &mut [i64]) {
     for _ in 0..random.pick(&[0, 0, 0, 1, 1, 3]) {
         let at = random.below(numbers.len());
-        numbers[at] = fields[at].edge(random);
+        numbers[at] = fields[at].as_ref().edge(random);
     }
 }
 
