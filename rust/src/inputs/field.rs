@@ -16,6 +16,19 @@ pub const fn field(width: u32, least: i64, most: i64, notes: &'static [i64]) -> 
 }
 
 impl Field {
+    pub fn width(&self) -> usize {
+        self.width as usize
+    }
+
+    pub fn least(&self) -> i64 {
+        self.least
+    }
+
+    /// Whether every value of its bits is good.
+    pub fn is_full(&self) -> bool {
+        self.most - self.least == (1 << self.width) - 1
+    }
+
     pub fn good(&self, random: &mut Random) -> i64 {
         match random.below(8) {
             0 => self.least,
