@@ -18,6 +18,7 @@ impl Kind for Area {
 
     /// The 110 bits of the place stand over twelve bits of the time in the bytes from 11 on, and their last twenty again
     /// over the whole time in the last eight bytes.
+    #[inline]
     fn unpack(message: &[u8]) -> (Area, [u64; 3]) {
         let head = u64::from_be_bytes(bytes_at(message, 1));
         let place = u128::from_be_bytes(bytes_at(message, 11)) >> 12;
@@ -45,6 +46,7 @@ impl Kind for Area {
         (area, [head & 1, place_fill, field(end, 0, 6)])
     }
 
+    #[inline]
     fn good(&self) -> [bool; 3] {
         [
             (self.repeat <= 3)
@@ -57,6 +59,7 @@ impl Kind for Area {
         ]
     }
 
+    #[inline]
     fn pack(&self, message: &mut [u8]) {
         let head = u64::from(self.source) << 34
             | u64::from(self.sequence) << 32
@@ -103,6 +106,7 @@ impl Kind for Area {
 
 impl Shape {
     /// The 55 bits after the position.
+    #[inline]
     fn bits(&self) -> u64 {
         match *self {
             Shape::Circle { radius } => u64::from(radius) << 48,
@@ -110,6 +114,7 @@ impl Shape {
         }
     }
 
+    #[inline]
     fn good(&self) -> bool {
         match *self {
             Shape::Circle { radius } => radius < 1 << 7,

@@ -16,6 +16,7 @@ impl Kind for Warning {
     }
 
     /// The last sixteen bytes hold all from the warning type on.
+    #[inline]
     fn unpack(message: &[u8]) -> (Warning, [u64; 3]) {
         let source = u32::from_be_bytes(bytes_at(message, 1));
         let rest = u128::from_be_bytes(bytes_at(message, 7));
@@ -33,6 +34,7 @@ impl Kind for Warning {
         (warning, [u64::from(source & 3), body_fill, low & 3])
     }
 
+    #[inline]
     fn good(&self) -> [bool; 3] {
         [
             (self.repeat <= 3) & (self.source <= LARGEST_MMSI),
@@ -41,6 +43,7 @@ impl Kind for Warning {
         ]
     }
 
+    #[inline]
     fn pack(&self, message: &mut [u8]) {
         let rest = u128::from(self.body.kind()) << 124
             | u128::from(self.longitude) << 101
@@ -75,6 +78,7 @@ impl Kind for Warning {
 
 impl Body {
     /// The body of a warning type, whose fifty bits follow the position, and the bits of its fill.
+    #[inline]
     fn of_bits(kind: u8, bits: u64) -> (Body, u64) {
         let field = |below: u32, width: u32| field(bits, below, width);
         match kind {
@@ -121,6 +125,7 @@ impl Body {
     }
 
     /// The fifty bits of a good body.
+    #[inline]
     fn bits(&self) -> u64 {
         match *self {
             Body::Cyclone { kind, gale_radius, storm_radius, speed, direction, force, pressure } => {
@@ -149,6 +154,7 @@ impl Body {
     }
 
     /// What is carried need only fit its bits.
+    #[inline]
     fn good(&self) -> bool {
         match *self {
             Body::Cyclone { kind, gale_radius, storm_radius, speed, direction, force, pressure } => {
