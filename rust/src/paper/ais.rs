@@ -6,8 +6,10 @@ mod warning;
 use super::{narrow, need, signed, within};
 use crate::record::{Ais, Area, Refusal, Time, Until, Warning};
 
-/// What a message has of its own. Both have three fills, and all fields before the first, between two of them, and so
-/// on are refused by 4: their order within such a group does not show, so they are judged together.
+/// What a message has of its own. Both have three fills. The fields up to a fill are all refused by 4, so that their
+/// order does not show, and they are judged together.
+///
+/// The steps of reading and writing are inlined, so that the compiler asks once for the warning type or shape.
 pub trait Kind: Ais {
     /// Message number, application, and warning type or shape.
     fn handled(start: &[u8; SMALLEST]) -> bool;
@@ -15,7 +17,7 @@ pub trait Kind: Ais {
     /// The record of a message of its size, and the bits of its fills.
     fn unpack(message: &[u8]) -> (Self, [u64; 3]);
 
-    /// Whether the fields before each fill stand in their ranges.
+    /// Whether the fields up to each fill stand in their ranges.
     fn good(&self) -> [bool; 3];
 
     /// Makes the message of a good record.

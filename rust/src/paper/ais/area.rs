@@ -16,8 +16,8 @@ impl Kind for Area {
         start[0] >> 2 == MESSAGE && start[9..11] == APPLICATION && (1..=2).contains(&(start[11] >> 2 & 3))
     }
 
-    /// The 110 bits of the place stand over twelve bits of the time in the bytes from 11 on, and their last twenty again
-    /// over the whole time in the last eight bytes.
+    /// The sixteen bytes from 11 on hold kind, shape, the two halves of the place, and twelve bits of the time; the last
+    /// eight, which overlap them, all from the time on.
     #[inline]
     fn unpack(message: &[u8]) -> (Area, [u64; 3]) {
         let head = u64::from_be_bytes(bytes_at(message, 1));
