@@ -359,6 +359,248 @@ uint8_t bellnewt_txhz_write(uint8_t *buf, size_t len, const uint8_t *receipts, s
  */
 uint8_t bellnewt_txhz_correct(uint8_t *frame, size_t len, size_t field, uint64_t value);
 
+/*
+ * AIS messages: message 8 with application 412/03, a weather warning to all, 23 bytes; message 6 with application
+ * 412/11, an area that one station is told of, 31 bytes. A record of them has no fill, which is written as zero.
+ *
+ * A warning has one of five types and an area one of two shapes. Reading tells which; each has its own call to write.
+ */
+enum bellnewt_ais_size {
+    BELLNEWT_WARNING_BYTES = 23,
+    BELLNEWT_WARNING_ROW = 17,
+    BELLNEWT_AREA_BYTES = 31,
+    BELLNEWT_AREA_ROW = 19
+};
+
+enum bellnewt_warning_type {
+    BELLNEWT_CYCLONE = 1,
+    BELLNEWT_GALE = 2,
+    BELLNEWT_WAVES = 3,
+    BELLNEWT_FOG = 4,
+    BELLNEWT_SURGE = 5
+};
+
+enum bellnewt_area_shape { BELLNEWT_CIRCLE = 1, BELLNEWT_RECTANGLE = 2 };
+
+/*
+ * What stands in the row of a warning. From BODY on it has the numbers of its type, in the order of
+ * bellnewt_warning_field; entries before MONTH that the type has no number for are 0.
+ */
+enum bellnewt_warning_entry {
+    BELLNEWT_WARNING_ENTRY_REPEAT = 0,
+    BELLNEWT_WARNING_ENTRY_SOURCE = 1,
+    BELLNEWT_WARNING_ENTRY_TYPE = 2, /* one of bellnewt_warning_type */
+    BELLNEWT_WARNING_ENTRY_LONGITUDE = 3,
+    BELLNEWT_WARNING_ENTRY_LATITUDE = 4,
+    BELLNEWT_WARNING_ENTRY_BODY = 5,
+    BELLNEWT_WARNING_ENTRY_MONTH = 12,
+    BELLNEWT_WARNING_ENTRY_DAY = 13,
+    BELLNEWT_WARNING_ENTRY_HOUR = 14,
+    BELLNEWT_WARNING_ENTRY_MINUTE = 15,
+    BELLNEWT_WARNING_ENTRY_HOURS = 16
+};
+
+/* What stands in the row of an area. */
+enum bellnewt_area_entry {
+    BELLNEWT_AREA_ENTRY_REPEAT = 0,
+    BELLNEWT_AREA_ENTRY_SOURCE = 1,
+    BELLNEWT_AREA_ENTRY_SEQUENCE = 2,
+    BELLNEWT_AREA_ENTRY_DESTINATION = 3,
+    BELLNEWT_AREA_ENTRY_RESENT = 4,
+    BELLNEWT_AREA_ENTRY_KIND = 5,
+    BELLNEWT_AREA_ENTRY_SHAPE = 6, /* one of bellnewt_area_shape */
+    BELLNEWT_AREA_ENTRY_LONGITUDE = 7,
+    BELLNEWT_AREA_ENTRY_LATITUDE = 8,
+    BELLNEWT_AREA_ENTRY_RADIUS = 9,           /* of a circle */
+    BELLNEWT_AREA_ENTRY_SECOND_LONGITUDE = 9, /* of a rectangle */
+    BELLNEWT_AREA_ENTRY_SECOND_LATITUDE = 10, /* of a rectangle; 0 for a circle */
+    BELLNEWT_AREA_ENTRY_MONTH = 11,
+    BELLNEWT_AREA_ENTRY_DAY = 12,
+    BELLNEWT_AREA_ENTRY_HOUR = 13,
+    BELLNEWT_AREA_ENTRY_MINUTE = 14,
+    BELLNEWT_AREA_ENTRY_UNTIL_MONTH = 15,
+    BELLNEWT_AREA_ENTRY_UNTIL_DAY = 16,
+    BELLNEWT_AREA_ENTRY_UNTIL_HOUR = 17,
+    BELLNEWT_AREA_ENTRY_ADVICE = 18
+};
+
+/*
+ * The numbers of the fields of a warning that can be corrected. Those of a body are fields of its type alone. A body's
+ * number for which no range stands here may be any that its bits spell; outside of the range that 003 prints it means
+ * none.
+ */
+enum bellnewt_warning_field {
+    BELLNEWT_WARNING_REPEAT = 1,       /* 2 bits */
+    BELLNEWT_WARNING_SOURCE = 2,       /* 30 bits, MMSI, 0 to 999,999,999 */
+    BELLNEWT_WARNING_LONGITUDE = 3,    /* 23 bits, thousandths of a minute from 60 degrees E on, 0 to 7,200,000 */
+    BELLNEWT_WARNING_LATITUDE = 4,     /* 23 bits, thousandths of a minute from 50 degrees S on, 0 to 7,200,000 */
+    BELLNEWT_WARNING_TIME = 5,         /* 20 bits: month 4, day 5, hour 5, minute 6 */
+    BELLNEWT_WARNING_HOURS = 6,        /* 6 bits, 0 to 48 */
+    BELLNEWT_CYCLONE_KIND = 7,         /* 3 bits, 1 to 4 */
+    BELLNEWT_CYCLONE_GALE_RADIUS = 8,  /* 9 bits, kilometres */
+    BELLNEWT_CYCLONE_STORM_RADIUS = 9, /* 9 bits, kilometres */
+    BELLNEWT_CYCLONE_SPEED = 10,       /* 6 bits, kilometres an hour */
+    BELLNEWT_CYCLONE_DIRECTION = 11,   /* 9 bits, degrees */
+    BELLNEWT_CYCLONE_FORCE = 12,       /* 5 bits */
+    BELLNEWT_CYCLONE_PRESSURE = 13,    /* 9 bits, hectopascals from 800 on */
+    BELLNEWT_GALE_RADIUS = 14,         /* 8 bits, nautical miles */
+    BELLNEWT_GALE_LEAST = 15,          /* 5 bits, force */
+    BELLNEWT_GALE_GREATEST = 16,       /* 5 bits, force */
+    BELLNEWT_GALE_DIRECTION = 17,      /* 4 bits, 1 to 8 */
+    BELLNEWT_WAVES_RADIUS = 18,        /* 8 bits, kilometres */
+    BELLNEWT_WAVES_HEIGHT = 19,        /* 5 bits, metres */
+    BELLNEWT_WAVES_PERIOD = 20,        /* 13 bits, seconds */
+    BELLNEWT_FOG_RADIUS = 21,          /* 9 bits, kilometres */
+    BELLNEWT_FOG_VISIBILITY = 22,      /* 8 bits, tenths of a nautical mile, 0 to 250 */
+    BELLNEWT_SURGE_RADIUS = 23,        /* 9 bits, nautical miles */
+    BELLNEWT_SURGE_RISE = 24,          /* 9 bits, centimetres */
+    BELLNEWT_SURGE_TIDE = 25,          /* 10 bits, centimetres */
+    BELLNEWT_SURGE_PERIOD = 26         /* 13 bits, seconds */
+};
+
+/*
+ * The numbers of the fields of an area that can be corrected. The last three are fields of their shape alone.
+ * Longitudes are ten-thousandths of a minute, +-108,000,000, or 108,600,000 for none; latitudes +-54,000,000, or
+ * 54,600,000 for none.
+ */
+enum bellnewt_area_field {
+    BELLNEWT_AREA_REPEAT = 1,          /* 2 bits */
+    BELLNEWT_AREA_SOURCE = 2,          /* 30 bits, MMSI, 0 to 999,999,999 */
+    BELLNEWT_AREA_SEQUENCE = 3,        /* 2 bits */
+    BELLNEWT_AREA_DESTINATION = 4,     /* 30 bits, MMSI, 0 to 999,999,999 */
+    BELLNEWT_AREA_RESENT = 5,          /* 1 bit */
+    BELLNEWT_AREA_KIND = 6,            /* 4 bits, 1 to 14 */
+    BELLNEWT_AREA_LONGITUDE = 7,       /* 28 bits */
+    BELLNEWT_AREA_LATITUDE = 8,        /* 27 bits */
+    BELLNEWT_AREA_TIME = 9,            /* 20 bits: month 4, day 5, hour 5, minute 6 */
+    BELLNEWT_AREA_UNTIL = 10,          /* 14 bits: month 4, day 5, hour 5 */
+    BELLNEWT_AREA_ADVICE = 11,         /* 4 bits, 1 to 6 */
+    BELLNEWT_CIRCLE_RADIUS = 12,       /* 7 bits, tenths of a nautical mile */
+    BELLNEWT_RECTANGLE_LONGITUDE = 13, /* 28 bits, of the other corner */
+    BELLNEWT_RECTANGLE_LATITUDE = 14   /* 27 bits, of the other corner */
+};
+
+/*
+ * Reads a warning into the first 17 entries of a row; entries past them stay.
+ *
+ * 1  fewer than 23 bytes
+ * 2  the message is not 8, the application not 412/03, or the warning type not 1 to 5
+ * 1  more than 23 bytes
+ * 4  the source is above 999,999,999
+ * 5  one of the two bits after it isn't zero
+ * 4  longitude or latitude is above 7,200,000; a cyclone's kind is not 1 to 4, a gale's direction not 1 to 8, the
+ *    visibility above 250
+ * 5  one of the body's last bits isn't zero: 28 of a gale, 24 of waves, 33 of fog, 9 of a surge
+ * 4  the month is above 12, the hour above 23, the minute above 59, the hours above 48
+ * 5  one of the last two bits isn't zero
+ * 6  the row has fewer than 17 entries
+ *
+ * A refusal leaves the row as it was.
+ */
+uint8_t bellnewt_warning_read(const uint8_t *s, size_t len, int64_t *row, size_t row_len);
+
+/*
+ * Write a warning, each of its type, into the first 23 bytes of a buffer; bytes past them stay.
+ *
+ * 4  a value outside its field's range, or wider than the field
+ * 6  the buffer has fewer than 23 bytes
+ *
+ * A refusal leaves the buffer as it was.
+ */
+uint8_t bellnewt_cyclone_write(uint8_t *buf, size_t len, uint8_t repeat, uint32_t source, uint32_t longitude,
+                               uint32_t latitude, uint8_t kind, uint16_t gale_radius, uint16_t storm_radius,
+                               uint8_t speed, uint16_t direction, uint8_t force, uint16_t pressure, uint8_t month,
+                               uint8_t day, uint8_t hour, uint8_t minute, uint8_t hours);
+
+uint8_t bellnewt_gale_write(uint8_t *buf, size_t len, uint8_t repeat, uint32_t source, uint32_t longitude,
+                            uint32_t latitude, uint8_t radius, uint8_t least, uint8_t greatest, uint8_t direction,
+                            uint8_t month, uint8_t day, uint8_t hour, uint8_t minute, uint8_t hours);
+
+uint8_t bellnewt_waves_write(uint8_t *buf, size_t len, uint8_t repeat, uint32_t source, uint32_t longitude,
+                             uint32_t latitude, uint8_t radius, uint8_t height, uint16_t period, uint8_t month,
+                             uint8_t day, uint8_t hour, uint8_t minute, uint8_t hours);
+
+uint8_t bellnewt_fog_write(uint8_t *buf, size_t len, uint8_t repeat, uint32_t source, uint32_t longitude,
+                           uint32_t latitude, uint16_t radius, uint8_t visibility, uint8_t month, uint8_t day,
+                           uint8_t hour, uint8_t minute, uint8_t hours);
+
+uint8_t bellnewt_surge_write(uint8_t *buf, size_t len, uint8_t repeat, uint32_t source, uint32_t longitude,
+                             uint32_t latitude, uint16_t radius, uint16_t rise, uint16_t tide, uint16_t period,
+                             uint8_t month, uint8_t day, uint8_t hour, uint8_t minute, uint8_t hours);
+
+/*
+ * Corrects one field of a warning where it stands. The new value is the plain number that the field's bits shall spell,
+ * of a time all its 20 bits. The buffer is the message alone, so there is no 6.
+ *
+ * 1, 2, 4, 5  the message itself is refused, in the order of bellnewt_warning_read
+ * 10  the number is none of bellnewt_warning_field, or that of another warning type
+ * 4   the value is wider than the field, or outside its range
+ *
+ * A refusal leaves the message as it was; otherwise only that field's bits change.
+ */
+uint8_t bellnewt_warning_correct(uint8_t *s, size_t len, size_t field, uint64_t value);
+
+/*
+ * Reads an area into the first 19 entries of a row; entries past them stay.
+ *
+ * 1  fewer than 23 bytes
+ * 2  the message is not 6, the application not 412/11, or the shape not 1 or 2
+ * 1  not 31 bytes
+ * 4  source or destination is above 999,999,999
+ * 5  the bit before the application isn't zero
+ * 4  the area kind is not 1 to 14; a longitude or latitude is outside its range
+ * 5  one of the 48 bits after a circle's radius isn't zero
+ * 4  a month is above 12, an hour above 23, the minute above 59, the advice not 1 to 6
+ * 5  one of the last six bits isn't zero
+ * 6  the row has fewer than 19 entries
+ *
+ * A refusal leaves the row as it was.
+ */
+uint8_t bellnewt_area_read(const uint8_t *s, size_t len, int64_t *row, size_t row_len);
+
+/*
+ * Write an area, each of its shape, into the first 31 bytes of a buffer; bytes past them stay.
+ *
+ * 4  a value outside its field's range, or wider than the field
+ * 6  the buffer has fewer than 31 bytes
+ *
+ * A refusal leaves the buffer as it was.
+ */
+uint8_t bellnewt_circle_write(uint8_t *buf, size_t len, uint8_t repeat, uint32_t source, uint8_t sequence,
+                              uint32_t destination, uint8_t resent, uint8_t kind, int32_t longitude,
+                              int32_t latitude, uint8_t radius, uint8_t month, uint8_t day, uint8_t hour,
+                              uint8_t minute, uint8_t until_month, uint8_t until_day, uint8_t until_hour,
+                              uint8_t advice);
+
+uint8_t bellnewt_rectangle_write(uint8_t *buf, size_t len, uint8_t repeat, uint32_t source, uint8_t sequence,
+                                 uint32_t destination, uint8_t resent, uint8_t kind, int32_t longitude,
+                                 int32_t latitude, int32_t second_longitude, int32_t second_latitude, uint8_t month,
+                                 uint8_t day, uint8_t hour, uint8_t minute, uint8_t until_month, uint8_t until_day,
+                                 uint8_t until_hour, uint8_t advice);
+
+/*
+ * Corrects one field of an area where it stands. The new value is the plain number that the field's bits shall spell:
+ * -1 in a 28-bit longitude is given as 2^28 - 1. The buffer is the message alone, so there is no 6.
+ *
+ * 1, 2, 4, 5  the message itself is refused, in the order of bellnewt_area_read
+ * 10  the number is none of bellnewt_area_field, or that of the other shape
+ * 4   the value is wider than the field, or outside its range
+ *
+ * A refusal leaves the message as it was; otherwise only that field's bits change.
+ */
+uint8_t bellnewt_area_correct(uint8_t *s, size_t len, size_t field, uint64_t value);
+
+/*
+ * Puts how many slots, 1 to 5, so many data bytes need into *slots. The data are all bytes of a message from its
+ * application on: up to 8, 36, 64, 92 and 117 of message 6, up to 12, 40, 68, 96 and 121 of message 8.
+ *
+ * 2  the message is neither 6 nor 8
+ * 1  no bytes, or more than the last of these
+ *
+ * A refusal leaves *slots as it was.
+ */
+uint8_t bellnewt_slots(uint8_t message, size_t bytes, uint8_t *slots);
+
 #ifdef __cplusplus
 }
 #endif

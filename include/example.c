@@ -1,5 +1,5 @@
 /*
- * Reads, writes and corrects a message of each kind. Build:
+ * Reads, writes and corrects a message of each kind, and counts slots. Build:
  *   cc -Wall -Wextra -Werror -I include include/example.c target/staticlib/librelay.a -o example
  */
 #include <inttypes.h>
@@ -149,6 +149,72 @@ static void txhz(void)
         show_receipts(row);
 }
 
+/* A typhoon at 122.5 degrees E, 30 degrees N, and a fog that can't be. */
+static void warning(void)
+{
+    static const char *const names[] = {"repeat", "source", "type",  "longitude", "latitude", "kind",
+                                        "gale",   "storm",  "speed", "direction", "force",    "pressure",
+                                        "month",  "day",    "hour",  "minute",    "hours"};
+    uint8_t message[BELLNEWT_WARNING_BYTES];
+    int64_t row[BELLNEWT_WARNING_ROW];
+
+    printf("warning\n");
+    printf("write a cyclone: %d\n",
+           bellnewt_cyclone_write(message, sizeof message, 0, 4122100, 3750000, 4800000, 4, 300, 120, 20, 315, 14, 150,
+                                  8, 27, 6, 30, 24));
+    show_bytes("message", message, sizeof message);
+    printf("correct the pressure to 160: %d\n",
+           bellnewt_warning_correct(message, sizeof message, BELLNEWT_CYCLONE_PRESSURE, 160));
+    printf("correct the time to 27 August, 18:00: %d\n",
+           bellnewt_warning_correct(message, sizeof message, BELLNEWT_WARNING_TIME, 8 << 16 | 27 << 11 | 18 << 6));
+    printf("correct the hours to 49: %d\n",
+           bellnewt_warning_correct(message, sizeof message, BELLNEWT_WARNING_HOURS, 49));
+    printf("correct the visibility, which no cyclone has: %d\n",
+           bellnewt_warning_correct(message, sizeof message, BELLNEWT_FOG_VISIBILITY, 5));
+    show(bellnewt_warning_read(message, sizeof message, row, BELLNEWT_WARNING_ROW), names, row, BELLNEWT_WARNING_ROW);
+    printf("write fog with a visibility of 251: %d\n",
+           bellnewt_fog_write(message, sizeof message, 0, 4122100, 3750000, 4800000, 200, 251, 8, 27, 6, 30, 24));
+}
+
+/* A rectangle between 75 and 74 degrees W, 10.5 and 9.5 degrees S. */
+static void area(void)
+{
+    static const char *const names[] = {"repeat",   "source", "sequence",  "receiver", "resent",
+                                        "kind",     "shape",  "longitude", "latitude", "longitude",
+                                        "latitude", "month",  "day",       "hour",     "minute",
+                                        "month",    "day",    "hour",      "advice"};
+    uint8_t message[BELLNEWT_AREA_BYTES];
+    int64_t row[BELLNEWT_AREA_ROW];
+
+    printf("area\n");
+    printf("write a circle into 30 bytes: %d\n",
+           bellnewt_circle_write(message, 30, 0, 4122100, 1, 413456789, 0, 1, 73500000, 18150000, 25, 8, 27, 6, 30, 8,
+                                 28, 18, 2));
+    printf("write a rectangle: %d\n",
+           bellnewt_rectangle_write(message, sizeof message, 0, 4122100, 3, 413456789, 1, 6, -45000000, -6300000,
+                                    -44400000, -5700000, 8, 27, 6, 30, 8, 28, 18, 5));
+    show_bytes("message", message, sizeof message);
+    printf("correct the second longitude to none: %d\n",
+           bellnewt_area_correct(message, sizeof message, BELLNEWT_RECTANGLE_LONGITUDE, 108600000));
+    printf("correct the latitude to -1: %d\n",
+           bellnewt_area_correct(message, sizeof message, BELLNEWT_AREA_LATITUDE, (1 << 27) - 1));
+    printf("correct the radius, which no rectangle has: %d\n",
+           bellnewt_area_correct(message, sizeof message, BELLNEWT_CIRCLE_RADIUS, 25));
+    show(bellnewt_area_read(message, sizeof message, row, BELLNEWT_AREA_ROW), names, row, BELLNEWT_AREA_ROW);
+}
+
+static void slots(void)
+{
+    static const size_t bytes[] = {12, 13, 121, 122};
+
+    printf("slots of message 8\n");
+    for (size_t i = 0; i < sizeof bytes / sizeof bytes[0]; i++) {
+        uint8_t count = 0;
+        uint8_t code = bellnewt_slots(8, bytes[i], &count);
+        printf("  %zu bytes: %d, slots %d\n", bytes[i], code, count);
+    }
+}
+
 int main(void)
 {
     distress();
@@ -156,5 +222,8 @@ int main(void)
     txsq();
     txxx();
     txhz();
+    warning();
+    area();
+    slots();
     return 0;
 }

@@ -1,5 +1,6 @@
 //! What the benchmark measures: for each call one row, which both programs work through on the same messages.
 
+pub mod ais;
 pub mod distress;
 pub mod serial;
 
@@ -61,11 +62,16 @@ pub fn row<T: Clone + 'static>(
     paper: impl Fn(&mut T, &mut Scratch) -> u8 + 'static,
 ) -> Row {
     let rounds = move || {
-        let random = &mut Random::new(1, name, 0);
-        let messages: Vec<T> = (0..MESSAGES).map(|_| message(random)).collect();
+        let messages = messages(name, message);
         Rounds { proved: round(messages.clone(), proved), paper: round(messages, paper) }
     };
     Row { name, rounds: Box::new(rounds) }
+}
+
+/// The messages of the row of that name.
+fn messages<T>(name: &str, message: fn(&mut Random) -> T) -> Vec<T> {
+    let random = &mut Random::new(1, name, 0);
+    (0..MESSAGES).map(|_| message(random)).collect()
 }
 
 /// A round is compiled for its call, so that nothing but the call stands between two messages.
@@ -81,5 +87,5 @@ fn round<T: 'static>(mut messages: Vec<T>, call: impl Fn(&mut T, &mut Scratch) -
 
 /// The rows of every family.
 pub fn rows() -> Vec<Row> {
-    distress::rows().into_iter().chain(serial::rows()).collect()
+    distress::rows().into_iter().chain(serial::rows()).chain(ais::rows()).collect()
 }

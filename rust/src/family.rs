@@ -1,6 +1,7 @@
 //! The families that are compared. A new one is a module here, with one each in `record`, `relay`, `paper`, `inputs`,
 //! `numbers` and `bench`.
 
+pub mod ais;
 pub mod distress;
 pub mod serial;
 
@@ -17,4 +18,5 @@ pub fn run(options: &Options, tally: &mut Tally) {
     harness::print_head();
     harness::run::<distress::Distress>(options, tally);
     serial::run(options, tally);
+    ais::run(options, tally);
 }

@@ -1,5 +1,6 @@
 //! Inputs for both programs, from a seed: good ones, and ones damaged in every way that a refusal answers.
 
+pub mod ais;
 pub mod daylog;
 pub mod distress;
 mod field;

@@ -1,5 +1,6 @@
 //! The numbers of 01, "Numbers to stand by", asked of both programs and of the wrapper.
 
+pub mod ais;
 pub mod distress;
 pub mod serial;
 
@@ -8,4 +9,5 @@ use crate::harness::Tally;
 pub fn run(tally: &mut Tally) {
     serial::run(tally);
     distress::run(tally);
+    ais::run(tally);
 }

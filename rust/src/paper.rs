@@ -1,6 +1,7 @@
 //! The independent program: what the papers ask for, in plain Rust, written from them and not from the proved code.
 //! It is the judge of the comparison and the measure of the benchmark.
 
+pub mod ais;
 pub mod daylog;
 pub mod distress;
 pub mod serial;
@@ -9,12 +10,29 @@ use crate::record::Refusal;
 
 const LARGEST_ADDRESS: u32 = 2_097_151;
 
+fn need(holds: bool, refusal: Refusal) -> Result<(), Refusal> {
+    if holds {
+        Ok(())
+    } else {
+        Err(refusal)
+    }
+}
+
 /// A corrected field's new value, if its bits can spell it.
 fn narrow(value: u64, width: u32) -> Result<u64, Refusal> {
-    if value >> width != 0 {
-        return Err(Refusal::RANGE);
-    }
+    need(value >> width == 0, Refusal::RANGE)?;
     Ok(value)
+}
+
+/// The number that `width` bits spell in two's complement.
+fn signed(bits: u64, width: u32) -> i32 {
+    let unused = 32 - width;
+    (bits as i32) << unused >> unused
+}
+
+/// A longitude or latitude in its range, or none.
+fn within(position: i32, bound: u32, none: i32) -> bool {
+    (position.unsigned_abs() <= bound) | (position == none)
 }
 
 /// The checksum of serial frames and sentences.

@@ -1,8 +1,10 @@
 //! What every call speaks of: refusal numbers and records.
 
+mod ais;
 mod distress;
 mod serial;
 
+pub use ais::{Ais, Area, Body, Shape, Time, Until, Warning};
 pub use distress::Report;
 pub use serial::{Frame, Gljc, Txhz, Txsq, Txxx};
 

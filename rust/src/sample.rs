@@ -1,6 +1,7 @@
 //! The sample day log, samples/day.log. `cargo run --release --offline --bin sample` writes it and its listing.
 
-use crate::inputs::daylog::{record, DISTRESS, SERIAL};
+use crate::inputs::daylog::{record, AIS, DISTRESS, SERIAL};
+use crate::numbers::ais::{with_bytes, AREAS, WARNINGS};
 use crate::numbers::distress::{example_with_longitude, EXAMPLE};
 use crate::numbers::serial::{CHECK, CHECK_AS_PRINTED, REQUEST};
 use crate::paper::serial::Kind;
@@ -101,15 +102,44 @@ fn reports() -> [Vec<u8>; 9] {
     ]
 }
 
-/// Serial frames, distress reports, records of other kinds, and a cut record at the end.
+/// AIS messages of every type, shape and answer.
+fn messages() -> [Vec<u8>; 16] {
+    let [cyclone, gale, waves, fog, surge] = WARNINGS.map(|(_, bytes)| bytes.to_vec());
+    let [circle, rectangle] = AREAS.map(|(_, bytes)| bytes.to_vec());
+    let type_6 = with_bytes(&gale, &[(7, 0x67)]);
+    let message_1 = with_bytes(&gale, &[(0, 0x04)]);
+    let gale_fill = with_bytes(&gale, &[(16, 0x01)]);
+    let shape_3 = with_bytes(&circle, &[(11, 0x1D)]);
+    let area_kind_15 = with_bytes(&circle, &[(11, 0xF5)]);
+    [
+        cyclone,
+        gale.clone(),
+        waves,
+        fog,
+        surge,
+        circle.clone(),
+        rectangle,
+        gale[..22].to_vec(),
+        [&gale[..], &[0]].concat(),
+        circle[..30].to_vec(),
+        type_6,
+        message_1,
+        shape_3[..23].to_vec(),
+        area_kind_15,
+        gale_fill,
+        Vec::new(),
+    ]
+}
+
+/// Serial frames, distress reports, AIS messages, records of other kinds, and a cut record at the end.
 pub fn day_log() -> Vec<u8> {
     let others = [
         record(2, &[0xE1, 0x20, 0x70, 0x40, 0x20]),
-        record(4, &[0x20; 23]),
         record(0x0103, &EXAMPLE),
         record(DISTRESS, &EXAMPLE)[..10].to_vec(),
     ];
     let frames = frames().map(|body| record(SERIAL, &body));
     let reports = reports().map(|body| record(DISTRESS, &body));
-    [frames.concat(), reports.concat(), others.concat()].concat()
+    let messages = messages().map(|body| record(AIS, &body));
+    [frames.concat(), reports.concat(), messages.concat(), others.concat()].concat()
 }

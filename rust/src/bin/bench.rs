@@ -3,11 +3,16 @@
 //! `bench count ROW proved|paper ROUNDS` works through one row and prints nothing: the benchmark runs itself so, under
 //! valgrind, once for some rounds and once for more. The difference is what the rounds cost, whatever came before.
 
-use bellnewt::bench::{rows, Rounds, MESSAGES};
+use bellnewt::bench::{ais, rows, Rounds, MESSAGES};
+use bellnewt::gpsd;
+use std::collections::HashMap;
+use std::io;
 use std::process::Command;
 use std::time::Instant;
 
 const TIMED_ROUNDS: usize = 200;
+/// How often gpsd's decoder is run on all messages of a row.
+const DECODER_RUNS: usize = 5;
 const COUNTED_ROUNDS: [usize; 2] = [1, 3];
 
 fn main() {
@@ -32,11 +37,14 @@ fn table() {
     print!("{:<20}", "call");
     heads.iter().chain(&heads).for_each(|head| print!("{head:>10}"));
     println!();
+    let mut proved = HashMap::new();
     for row in rows() {
+        let pair = times((row.rounds)());
         print!("{:<20}", row.name);
-        print_pair(Some(times((row.rounds)())));
+        print_pair(Some(pair));
         print_pair(instructions(row.name));
         println!();
+        proved.insert(row.name, pair[0]);
     }
     println!("{MESSAGES} good messages a row; ns: best of {TIMED_ROUNDS} rounds, the two programs in turn.");
     println!("instructions: by valgrind; '-' where it is missing.");
@@ -44,6 +52,40 @@ fn table() {
     if cfg!(not(target_arch = "x86_64")) {
         println!("This machine is no x86-64: both were compiled for it, the library as rust/native says.");
     }
+    decoder_rows(&proved);
+}
+
+/// The rows that read AIS messages, beside gpsd's decoder where it is installed.
+fn decoder_rows(proved: &HashMap<&str, f64>) {
+    let rows = [(ais::WARNING_READ, ais::warnings()), (ais::AREA_READ, ais::areas())];
+    let times: io::Result<Vec<f64>> = rows.iter().map(|(_, messages)| decoder_time(messages)).collect();
+    match times {
+        Ok(times) => {
+            println!("{:<20}{:>10}{:>10}{:>10}", "ns a message", "proved", "gpsd", "ratio");
+            for ((name, _), gpsd) in rows.iter().zip(times) {
+                let proved = proved[name];
+                println!("{name:<20}{proved:>10.1}{gpsd:>10.1}{:>10.4}", proved / gpsd);
+            }
+            println!("gpsd: gpsdecode -j on the same messages, best of {DECODER_RUNS} runs without its start; it also");
+            println!("takes them out of AIVDM sentences, and prints them.");
+        }
+        Err(error) if error.kind() == io::ErrorKind::NotFound => println!("gpsd: {}.", gpsd::MISSING),
+        Err(error) => println!("gpsd: {error}."),
+    }
+}
+
+/// Nanoseconds a message by gpsd's decoder: those of a run, less those of a run on nothing.
+fn decoder_time(messages: &[Vec<u8>]) -> io::Result<f64> {
+    let sentences = gpsd::sentences(messages);
+    let mut best = [f64::INFINITY; 2];
+    for _ in 0..DECODER_RUNS {
+        for (best, sentences) in best.iter_mut().zip(["", &sentences]) {
+            let start = Instant::now();
+            gpsd::decode(sentences)?;
+            *best = best.min(start.elapsed().as_nanos() as f64);
+        }
+    }
+    Ok((best[1] - best[0]) / messages.len() as f64)
 }
 
 fn print_pair(pair: Option<[f64; 2]>) {

@@ -1,7 +1,7 @@
 //! Holds the proved code to the independent program: `check [--seed N] [--inputs N]`.
 
 use bellnewt::harness::{Options, Tally};
-use bellnewt::{family, listing, numbers};
+use bellnewt::{family, gpsd, listing, numbers};
 use std::process::ExitCode;
 
 /// The options of the command line, or what is wrong with it.
@@ -30,6 +30,7 @@ fn main() -> ExitCode {
     let mut tally = Tally::default();
     println!("seed {}, {} inputs a family", options.seed, options.inputs);
     numbers::run(&mut tally);
+    gpsd::run(&mut tally);
     family::run(&options, &mut tally);
     listing::run(&options, &mut tally);
     println!("rust: {} passed, {} failed", tally.passed, tally.failed);

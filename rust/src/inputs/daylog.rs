@@ -1,9 +1,10 @@
 //! Day logs, good and damaged.
 
-use super::{distress, serial, Random};
+use super::{ais, distress, serial, Random};
 
 pub const SERIAL: u16 = 1;
 pub const DISTRESS: u16 = 3;
+pub const AIS: u16 = 4;
 
 const GREATEST: usize = 256;
 const HEAD: usize = 4;
@@ -16,9 +17,10 @@ pub fn record(kind: u16, body: &[u8]) -> Vec<u8> {
 
 /// A record whose length is good: a body of its kind, or any bytes.
 fn good_record(random: &mut Random) -> Vec<u8> {
-    let (own, body) = match random.below(2) {
+    let (own, body) = match random.below(3) {
         0 => (SERIAL, serial::any_frame(random)),
-        _ => (DISTRESS, distress::message(random)),
+        1 => (DISTRESS, distress::message(random)),
+        _ => (AIS, ais::any_message(random)),
     };
     let kind = match random.below(8) {
         0 => random.word() as u16,
@@ -61,7 +63,7 @@ pub fn log(random: &mut Random) -> Vec<u8> {
             let left = 1 + random.below(3);
             log.extend(random.bytes(left));
         }
-        3 => log.extend(record(random.pick(&[SERIAL, DISTRESS]), &[0; GREATEST - HEAD])),
+        3 => log.extend(record(random.pick(&[SERIAL, DISTRESS, AIS]), &[0; GREATEST - HEAD])),
         _ => (),
     }
     log

@@ -16,6 +16,19 @@ pub const fn field(width: u32, least: i64, most: i64, notes: &'static [i64]) -> 
 }
 
 impl Field {
+    pub fn width(&self) -> usize {
+        self.width as usize
+    }
+
+    pub fn least(&self) -> i64 {
+        self.least
+    }
+
+    /// Whether every value of its bits is good.
+    pub fn is_full(&self) -> bool {
+        self.most - self.least == (1 << self.width) - 1
+    }
+
     pub fn good(&self, random: &mut Random) -> i64 {
         match random.below(8) {
             0 => self.least,
@@ -57,11 +70,17 @@ impl Field {
     }
 }
 
+impl AsRef<Field> for Field {
+    fn as_ref(&self) -> &Field {
+        self
+    }
+}
+
 /// Puts none, one or a few of the fields' numbers at an edge.
-pub fn put_at_edges(random: &mut Random, fields: &[Field], numbers: &mut [i64]) {
+pub fn put_at_edges(random: &mut Random, fields: &[impl AsRef<Field>], numbers: &mut [i64]) {
     for _ in 0..random.pick(&[0, 0, 0, 1, 1, 3]) {
         let at = random.below(numbers.len());
-        numbers[at] = fields[at].edge(random);
+        numbers[at] = fields[at].as_ref().edge(random);
     }
 }
 

@@ -1,6 +1,6 @@
 //! The day log's listing (01, "Day log listing").
 
-use super::{distress, serial};
+use super::{ais, distress, serial};
 use crate::record::{code, Refusal};
 use std::fmt::Write;
 
@@ -15,6 +15,7 @@ pub struct Kind {
 pub const KINDS: &[Kind] = &[
     Kind { number: 1, word: "serial", judge: serial::read_any },
     Kind { number: 3, word: "distress", judge: |body| distress::read(body).map(drop) },
+    Kind { number: 4, word: "ais", judge: ais::read_any },
 ];
 
 const HEAD: usize = 4;

@@ -1,6 +1,6 @@
 //! The distress report and its sentence (01, "Distress report"; 001, annex A).
 
-use super::{narrow, xor, LARGEST_ADDRESS};
+use super::{narrow, signed, within, xor, LARGEST_ADDRESS};
 use crate::record::{Refusal, Report};
 
 const CODE: [u8; 2] = [0xBD, 0xC1];
@@ -17,10 +17,6 @@ fn good(r: &Report) -> bool {
         & (r.speed <= 126)
         & (r.course <= 360)
         & (r.kind <= 9)
-}
-
-fn within(position: i32, bound: u32, none: i32) -> bool {
-    (position.unsigned_abs() <= bound) | (position == none)
 }
 
 /// The fields, and the three bits of fill. The last eight bytes hold all from the latitude on, after one bit of the
@@ -40,12 +36,6 @@ fn unpack(m: &[u8; Report::BYTES]) -> (Report, u64) {
         kind: field(3, 4) as u8,
     };
     (report, field(0, 3))
-}
-
-/// The number that `width` bits spell in two's complement.
-fn signed(bits: u64, width: u32) -> i32 {
-    let unused = 32 - width;
-    (bits as i32) << unused >> unused
 }
 
 /// The bytes of a good report.

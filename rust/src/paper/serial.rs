@@ -5,7 +5,7 @@ mod txhz;
 mod txsq;
 mod txxx;
 
-use super::{narrow, xor, LARGEST_ADDRESS};
+use super::{narrow, need, xor, LARGEST_ADDRESS};
 use crate::record::{Frame, Gljc, Refusal, Txhz, Txsq, Txxx};
 use std::ops::RangeInclusive;
 
@@ -109,14 +109,6 @@ fn u24_at(frame: &[u8], at: usize) -> u32 {
 
 fn put_u24(frame: &mut [u8], at: usize, value: u32) {
     frame[at..at + 3].copy_from_slice(&value.to_be_bytes()[1..]);
-}
-
-fn need(holds: bool, refusal: Refusal) -> Result<(), Refusal> {
-    if holds {
-        Ok(())
-    } else {
-        Err(refusal)
-    }
 }
 
 fn need_address(address: u32) -> Result<(), Refusal> {

@@ -1,6 +1,6 @@
 //! The serial frames.
 
-use super::answer;
+use super::{answer, Correct, Read};
 use crate::record::{Frame, Gljc, Refusal, Txhz, Txsq, Txxx};
 use std::ops::Range;
 
@@ -50,9 +50,6 @@ extern "C" {
     ) -> u8;
     fn bellnewt_txhz_correct(frame: *mut u8, len: usize, field: usize, value: u64) -> u8;
 }
-
-type Read = unsafe extern "C" fn(*const u8, usize, *mut i64, usize) -> u8;
-type Correct = unsafe extern "C" fn(*mut u8, usize, usize, u64) -> u8;
 
 /// The longest of the rows.
 const LONGEST_ROW: usize = Txhz::ROW;
