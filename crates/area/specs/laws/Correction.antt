@@ -47,17 +47,6 @@ unfolding picks rows ofKinds
 tabled circle = (refl, refl)
 tabled rectangle = (refl, refl)
 
--- and none that is wider than 32 bits
-slender : (k : ℕ) → slim (ofKinds k kinds widths) ≡ true
-unfolding slim ofKinds
-slender k = go (eqb 1 k) (eqb 2 k)
-  where
-    go : (x y : Bool) → slim (0 ∷ 2 ∷ 30 ∷ 2 ∷ 30 ∷ 1 ∷ 4 ∷ 28 ∷ 27 ∷ 20 ∷ 14 ∷ 4 ∷ cond x 7 0 ∷ cond y 28 0 ∷ cond y 27 0 ∷ []) ≡ true
-    go true true = refl
-    go true false = refl
-    go false true = refl
-    go false false = refl
-
 -- the field of number n, looked up for an area whose shape has the number k
 module _ (k n : ℕ) {p w : ℕ} (looked-up : (p ≡ getD places n 0) × (w ≡ ofKind k (getD kinds n 0) (getD widths n 0))) where
   pub stands : (r : Area) → k ≡ typeOf (shapeKind (r .shape)) → spot (areas .fmt) [] (valuesOf r) (getD (fields (shapeKind (r .shape))) n 0) ≡ standing p w
@@ -67,7 +56,8 @@ module _ (k n : ℕ) {p w : ℕ} (looked-up : (p ≡ getD places n 0) × (w ≡ 
       named-stands (fields t) places widths kinds (typeOf t) n (looked-up .0, l) (areas .fmt) (valuesOf r) (tabled t .0) (ap (λ l. getD l 0 none) (along r)) (ap (λ l. picks l (fields t)) (along r) ∙ tabled t .1)
 
   pub thin : w ≤ 32
-  thin = named-slim (fields circle) places widths kinds k n {p = p} looked-up (slender k)
+  unfolding slim
+  thin = named-slim (fields circle) places widths kinds k n {p = p} looked-up refl
 
 pub spotted : (r : Area) (i : ℕ) → spot (areas .fmt) [] (valuesOf r) i ≡ spotOf (shapeKind (r .shape)) i
 spotted r i = spot-along (areas .fmt) (valuesOf r) i ∙ ap (λ t. getD t i none) (along r)

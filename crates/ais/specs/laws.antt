@@ -1,0 +1,2 @@
+-- What is proved of slots.
+pub mod Slots
