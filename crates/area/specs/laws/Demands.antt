@@ -178,9 +178,9 @@ pub read-writes-back : (s : List ℕ) (r : Area) → Bytes s → Reads s (Good r
 read-writes-back s r fine a = read-written family s r fine (good s r a)
 
 -- the shape's number in the bytes is that of the record's shape
-pub shape-read : (s : List ℕ) (r : Area) → Bytes s → readRecord areas recordOf s ≡ accepted r → fieldAt s 92 2 ≡ typeOf (shapeKind (r .shape))
+pub shape-number : (s : List ℕ) (r : Area) → Bytes s → readRecord areas recordOf s ≡ accepted r → fieldAt s 92 2 ≡ typeOf (shapeKind (r .shape))
 unfolding areas valuesAs
-shape-read s r fine e = let m = read-values family s r fine e .0 in shape-at s (valuesOf r) (was areas s (valuesOf r) m .walked)
+shape-number s r fine e = let m = read-values family s r fine e .0 in shape-at s (valuesOf r) (was areas s (valuesOf r) m .walked)
 
 -- the field of number n, looked up by the shape's number k that the code found there, stands where the table says
 pub looked-stands : (s : List ℕ) (n : ℕ) {k p w : ℕ} → Bytes s → k ≡ got s 92 2 → (p ≡ getD places n 0) × (w ≡ ofKind k (getD kinds n 0) (getD widths n 0))
@@ -188,7 +188,7 @@ pub looked-stands : (s : List ℕ) (n : ℕ) {k p w : ℕ} → Bytes s → k ≡
 unfolding areas
 looked-stands s n {k} fine is l r e =
     let m = was areas s (valuesOf r) (read-values family s r fine e .0) .walked in
-    let type = shape-read s r fine e in
+    let type = shape-number s r fine e in
     let found-so = is ∙ got-fits s 92 2 (lit≤ tt) (omega (arith, bytes s (valuesOf r) m)) ∙ type in
     ap (λ i. spot (areas .fmt) [] (valuesOf r) i) (ap (λ t. fieldOf t n) type ∙ ap (λ k. getD (fields k) n 0) (kind-type (shapeKind (r .shape)))) ∙ stands k n l r found-so
 
@@ -199,5 +199,5 @@ pub corrected : (s : List ℕ) (r : Area) → Bytes s → Reads s (Good r) → (
     → (code ≡ code′) × (code ≡ 0 → t ≡ take (length s) t′) × ((code ≡ 0 → ⊥) → t ≡ s)
 corrected s r fine a n v p w e l code t c =
     let k = shapeKind (r .shape) in
-    let is : fieldOf (fieldAt s 92 2) n ≡ getD (fields k) n 0 = ap (λ t. fieldOf t n) (shape-read s r fine (good s r a)) ∙ ap (λ k. getD (fields k) n 0) (kind-type k) in
+    let is : fieldOf (fieldAt s 92 2) n ≡ getD (fields k) n 0 = ap (λ t. fieldOf t n) (shape-number s r fine (good s r a)) ∙ ap (λ k. getD (fields k) n 0) (kind-type k) in
     corrected-as-written family s r fine (good s r a) (getD (fields k) n 0) v p w (spotted r (getD (fields k) n 0) ∙ e) l code t (subst (λ i. Corrects areas s i v code t) is c)
