@@ -48,7 +48,7 @@ circle-back : writeMessage areas (valuesOf (at-sea (eastward 72_905_000))) ≡ a
 unfolding writeMessage areas area write writeField walk wide valuesAs spellOf spellTime spellShort valueOf bit digits bytesOf
 circle-back = refl
 
--- 180° is good, and none; between them nothing is
+-- 180° is good and what stands past it is not, but for 181°, which means none
 circle-far : codeOf (writeMessage areas (valuesOf (at-sea (eastward 108_000_000)))) ≡ 0
 unfolding writeMessage areas area write writeField walk wide valuesAs spellOf spellTime spellShort valueOf bit digits bytesOf
 circle-far = refl

@@ -103,7 +103,7 @@ pub const AUTHORITY: u64 = 412;
 
 pub const APPLICATION: u64 = 11;
 
-// The smallest size of a message of either kind, in bytes.
+// The smallest size of AIS, in bytes: a shorter message is of no kind.
 const SMALLEST: usize = 23;
 
 // Where the fields stand in every area that has them, their widths, and the shape that has them, 0 for both.

@@ -1,5 +1,5 @@
 -- An area is a family of format/specs/laws/Family, whose theorems are demands 2 and 3; said here of its own promises. Assumes nothing.
-use mathlib.Core.Path.{_≡_, refl, sym, ap, _∙_, subst}
+use mathlib.Core.Path.{_≡_, refl, sym, ap, _∙_}
 use mathlib.Core.Bool.{Bool, true, false, cond}
 use mathlib.Core.List.{List, [], _∷_, _++_}
 use Prim.Native.Nat.{ℕ, _≤_, _<_, _^_}
@@ -13,10 +13,11 @@ use Rattle.bits.specs.laws.Answers.{got-fits}
 use Rattle.field.specs.laws.Sign.{spell-int}
 use Rattle.format.specs.Correcting.{standing, ofKind}
 use Rattle.format.specs.Fmt.{Out, accepted, refused, end, found, spot}
+use Rattle.format.specs.Message.{codeOf, leaves}
 use Rattle.format.specs.Promises.{readRecord, Writes, Corrects}
 use Rattle.format.specs.Words.{_‥_, num, fill, wide}
 use Rattle.format.specs.laws.Entries.{entries}
-use Rattle.format.specs.laws.Family.{Family, one-size, written-front, read-written, read-values, corrected-as-written}
+use Rattle.format.specs.laws.Family.{Family, one-size, written-front, read-written, read-values, correction-none, corrected-as-written}
 use Rattle.format.specs.laws.Held.{Held, exactly}
 use Rattle.format.specs.laws.Whole.{was}
 use Rattle.format.specs.laws.Zero.{Judged, Counted, only-numbered}
@@ -178,9 +179,9 @@ pub read-writes-back : (s : List ℕ) (r : Area) → Bytes s → Reads s (Good r
 read-writes-back s r fine a = read-written family s r fine (good s r a)
 
 -- the shape's number in the bytes is that of the record's shape
-pub shape-read : (s : List ℕ) (r : Area) → Bytes s → readRecord areas recordOf s ≡ accepted r → fieldAt s 92 2 ≡ typeOf (shapeKind (r .shape))
+pub shape-number : (s : List ℕ) (r : Area) → Bytes s → readRecord areas recordOf s ≡ accepted r → fieldAt s 92 2 ≡ typeOf (shapeKind (r .shape))
 unfolding areas valuesAs
-shape-read s r fine e = let m = read-values family s r fine e .0 in shape-at s (valuesOf r) (was areas s (valuesOf r) m .walked)
+shape-number s r fine e = let m = read-values family s r fine e .0 in shape-at s (valuesOf r) (was areas s (valuesOf r) m .walked)
 
 -- the field of number n, looked up by the shape's number k that the code found there, stands where the table says
 pub looked-stands : (s : List ℕ) (n : ℕ) {k p w : ℕ} → Bytes s → k ≡ got s 92 2 → (p ≡ getD places n 0) × (w ≡ ofKind k (getD kinds n 0) (getD widths n 0))
@@ -188,16 +189,20 @@ pub looked-stands : (s : List ℕ) (n : ℕ) {k p w : ℕ} → Bytes s → k ≡
 unfolding areas
 looked-stands s n {k} fine is l r e =
     let m = was areas s (valuesOf r) (read-values family s r fine e .0) .walked in
-    let type = shape-read s r fine e in
+    let type = shape-number s r fine e in
     let found-so = is ∙ got-fits s 92 2 (lit≤ tt) (omega (arith, bytes s (valuesOf r) m)) ∙ type in
     ap (λ i. spot (areas .fmt) [] (valuesOf r) i) (ap (λ t. fieldOf t n) type ∙ ap (λ k. getD (fields k) n 0) (kind-type (shapeKind (r .shape)))) ∙ stands k n l r found-so
 
 -- Demand 3: correcting an area, where the field of that number can spell the value, is writing the area with that field changed; else nothing differs.
-pub corrected : (s : List ℕ) (r : Area) → Bytes s → Reads s (Good r) → (n v p w : ℕ) → let t = shapeKind (r .shape) in let i = getD (fields t) n 0 in
-    spotOf t i ≡ found p w → v < 2 ^ w → (code : ℕ) (t : List ℕ) → Corrects areas s (fieldOf (fieldAt s 92 2) n) v code t
-    → (u : List ℕ) → length s ≤ length u → (code′ : ℕ) (t′ : List ℕ) → Writes areas u code′ t′ (valuesOf (changed i v r))
+pub corrected : (s : List ℕ) (r : Area) → Bytes s → Reads s (Good r) → (n v p w : ℕ) → let i = fieldOf (fieldAt s 92 2) n in spotOf (shapeKind (r .shape)) i ≡ found p w → v < 2 ^ w
+    → (code : ℕ) (t : List ℕ) → Corrects areas s i v code t → (u : List ℕ) → length s ≤ length u → (code′ : ℕ) (t′ : List ℕ) → Writes areas u code′ t′ (valuesOf (changed i v r))
     → (code ≡ code′) × (code ≡ 0 → t ≡ take (length s) t′) × ((code ≡ 0 → ⊥) → t ≡ s)
-corrected s r fine a n v p w e l code t c =
-    let k = shapeKind (r .shape) in
-    let is : fieldOf (fieldAt s 92 2) n ≡ getD (fields k) n 0 = ap (λ t. fieldOf t n) (shape-read s r fine (good s r a)) ∙ ap (λ k. getD (fields k) n 0) (kind-type k) in
-    corrected-as-written family s r fine (good s r a) (getD (fields k) n 0) v p w (spotted r (getD (fields k) n 0) ∙ e) l code t (subst (λ i. Corrects areas s i v code t) is c)
+corrected s r fine a n v p w e l = let i = fieldOf (fieldAt s 92 2) n in corrected-as-written family s r fine (good s r a) i v p w (spotted r i ∙ e) l
+
+-- A number that names no field of an area with that shape is 10, and nothing differs.
+pub corrected-none : (s : List ℕ) (r : Area) → Bytes s → Reads s (Good r) → (n v : ℕ) → fieldOf (fieldAt s 92 2) n ≡ 0 → (code : ℕ) (t : List ℕ) → Corrects areas s (fieldOf (fieldAt s 92 2) n) v code t
+    → (code ≡ 10) × (t ≡ s)
+corrected-none s r fine a n v z code t (x, y) =
+    let i = fieldOf (fieldAt s 92 2) n in
+    let o = correction-none family s r fine (good s r a) i v (spotted r i ∙ ap (spotOf (shapeKind (r .shape))) z) in
+    (x ∙ ap codeOf o, y ∙ ap (λ o. leaves o s) o)
