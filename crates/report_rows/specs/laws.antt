@@ -1,4 +1,3 @@
 -- What is proved of the definitions.
-pub mod Signed
 pub mod Report
 pub mod Sentence

@@ -8,7 +8,7 @@ use native.Mathlib.Omega.{arith}
 use mir.Syntax.{w32, w64}
 use mir.ValLaws.{toZ-pos}
 use Rattle.report_rows.specs.Report.{rowOf}
-use Rattle.report_rows.specs.laws.Signed.{widens, widened}
+use Rattle.rows.specs.laws.Signed.{widens, widened}
 use borrow.Author.Needs.{needs}
 use Rattle.report_rows.proofs.report.numbers.Statement.{statement}
 use Rattle.report_rows.proofs.report.numbers.Tie as tie
