@@ -5,8 +5,8 @@ use Prim.Native.Nat.{ℕ}
 use Rattle.bits.specs.Bits.{bit, valueOf, digits, bitsOf, fieldAt}
 use Rattle.format.specs.Fmt.{accepted, refused}
 use Rattle.format.specs.Message.{readMessage}
-use Rattle.area.specs.Area.{areas}
-use Rattle.warning.specs.Warning.{warnings}
+use Rattle.area_reading.specs.Area.{areas}
+use Rattle.warning_reading.specs.Warning.{warnings}
 use Rattle.ais.specs.Ais.{codeOf}
 use Rattle.ais.specs.Slots.{firstOf, slotsIn, slotsFor}
 

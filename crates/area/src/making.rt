@@ -3,7 +3,7 @@ ghost use mathlib.Core.List.{[]};
 ghost use Rattle.format.specs.Fmt.{write as Fmt·write};
 ghost use Rattle.format.specs.laws.Putting.{Puts};
 ghost use Rattle.layout.specs.laws.Judging.{Judged};
-ghost use Rattle.area.specs.Area.{area, valuesAs};
+ghost use Rattle.area_reading.specs.Area.{area, valuesAs};
 use crate::Area;
 
 // `time` and `second` are the numbers that the record's times spell.
@@ -23,7 +23,7 @@ pub(crate) fn judged(r: Area, time: u64, second: u64) -> layout::walk::Walk
         .fixed(6, crate::APPLICATION);
     let w = w.value(4, r.kind as u64, 1, 14);
     let w = w.fixed(2, kind as u64);
-    let w = crate::shapes::judged(w, shape);
+    let w = shape_making::judged(w, shape);
     let w = time::judged(w, time);
     let w = time::judged_short(w, second);
     w.value(4, r.advice as u64, 1, 6).fixed(6, 0)
@@ -45,7 +45,7 @@ pub(crate) fn put(buf: &mut [u8], r: Area, time: u64, second: u64)
     bits::put(buf, 82, 6, crate::APPLICATION);
     bits::put(buf, 88, 4, r.kind as u64);
     bits::put(buf, 92, 2, kind as u64);
-    crate::shapes::put(buf, shape);
+    shape_making::put(buf, shape);
     bits::put(buf, 204, 20, time);
     bits::put(buf, 224, 14, second);
     bits::put(buf, 238, 4, r.advice as u64);

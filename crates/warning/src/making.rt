@@ -3,7 +3,7 @@ ghost use mathlib.Core.List.{[]};
 ghost use Rattle.format.specs.Fmt.{write as Fmt·write};
 ghost use Rattle.format.specs.laws.Putting.{Puts};
 ghost use Rattle.layout.specs.laws.Judging.{Judged};
-ghost use Rattle.warning.specs.Warning.{warning, valuesAs};
+ghost use Rattle.warning_reading.specs.Warning.{warning, valuesAs};
 use crate::Warning;
 
 // `time` is the number that the record's time spells.
@@ -21,7 +21,7 @@ pub(crate) fn judged(r: Warning, time: u64) -> layout::walk::Walk
     let w = w.fixed(4, kind as u64);
     let w = w.value(23, r.longitude as u64, 0, 7_200_000);
     let w = w.value(23, r.latitude as u64, 0, 7_200_000);
-    let w = bodies::judged(w, body);
+    let w = body_making::judged(w, body);
     let w = time::judged(w, time);
     w.value(6, r.hours as u64, 0, 48).fixed(2, 0)
 }
@@ -40,7 +40,7 @@ pub(crate) fn put(buf: &mut [u8], r: Warning, time: u64)
     bits::put(buf, 56, 4, kind as u64);
     bits::put(buf, 60, 23, r.longitude as u64);
     bits::put(buf, 83, 23, r.latitude as u64);
-    bodies::put(buf, body);
+    body_making::put(buf, body);
     bits::put(buf, 156, 20, time);
     bits::put(buf, 176, 6, r.hours as u64);
     bits::put(buf, 182, 2, 0);

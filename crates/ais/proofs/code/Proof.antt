@@ -1,5 +1,5 @@
 -- `code` takes the reading that the message's number names.
-use mathlib.Core.Path.{_≡_, refl, sym, ap, _∙_}
+use mathlib.Core.Path.{refl, sym, ap, _∙_}
 use Prim.Native.Nat.{_≤_}
 use native.Mathlib.Omega.{arith}
 use lib.Dec.{lit≤}
@@ -9,17 +9,17 @@ use Rattle.bits.specs.Bits.{fieldAt}
 use Rattle.bits.specs.laws.Answers.{got-fits}
 use Rattle.format.specs.Message.{readMessage}
 use Rattle.format.specs.laws.Answers.{numbered}
-use Rattle.area.specs.Area.{areas, recordOf as areaOf, numberOf as areaNumber}
-use Rattle.area.specs.declared.Answer.the-variants.{Good as areaGood, Refused as areaBad}
-use Rattle.warning.specs.Warning.{warnings, recordOf as warningOf, numberOf as warningNumber}
-use Rattle.warning.specs.declared.Answer.the-variants.{Good as warningGood, Refused as warningBad}
+use Rattle.area_reading.specs.Area.{areas, recordOf as areaOf, numberOf as areaNumber}
+use Rattle.area_reading.specs.declared.Answer.the-variants.{Good as areaGood, Refused as areaBad}
+use Rattle.warning_reading.specs.Warning.{warnings, recordOf as warningOf, numberOf as warningNumber}
+use Rattle.warning_reading.specs.declared.Answer.the-variants.{Good as warningGood, Refused as warningBad}
 use Rattle.ais.specs.Ais.{codeOf}
 use borrow.Author.Needs.{needs}
 use Rattle.ais.proofs.code.Statement.{statement}
 use Rattle.ais.proofs.code.Tie as tie
-use Rattle.area.proofs.Answer.refusal.Reads as Answer-refusal-reads
-use Rattle.warning.proofs.Answer.refusal.Reads as Answer-refusal-reads′
-use Rattle.warning.proofs.read.Reads as read-reads′
+use Rattle.area_reading.proofs.Answer.refusal.Reads as Answer-refusal-reads
+use Rattle.warning_reading.proofs.Answer.refusal.Reads as Answer-refusal-reads′
+use Rattle.warning_reading.proofs.read.Reads as read-reads′
 
 returns : tie.Need-returns
 unfolding codeOf

@@ -6,12 +6,12 @@ use Rattle.format.specs.laws.Answers.{clean-lead}
 use Rattle.format.specs.laws.Correcting.{admitted-clean}
 use Rattle.format.specs.laws.Corrections.{family-early, family-late}
 use Rattle.format.specs.laws.Lead.{read-first}
-use Rattle.area.specs.Area.{areas, recordOf, answerOf, numberOf}
-use Rattle.area.specs.Changed.{fieldOf}
-use Rattle.area.specs.laws.Correction.{thin}
-use Rattle.area.specs.laws.Demands.{family, looked-stands}
-use Rattle.area.specs.laws.Sound.{sized}
-use Rattle.area.specs.declared.Answer.the-variants.{Good, Refused}
+use Rattle.area_reading.specs.Area.{areas, recordOf, answerOf, numberOf}
+use Rattle.area_reading.specs.Changed.{fieldOf}
+use Rattle.area_reading.specs.laws.Correction.{thin}
+use Rattle.area_reading.specs.laws.Demands.{family, looked-stands}
+use Rattle.area_reading.specs.laws.Sound.{sized}
+use Rattle.area_reading.specs.declared.Answer.the-variants.{Good, Refused}
 use borrow.Author.Needs.{needs}
 use Rattle.area.proofs.correct.Statement.{statement}
 use Rattle.area.proofs.correct.Tie as tie

@@ -2,7 +2,7 @@
 use mathlib.Core.Path.{refl, ap₂, subst}
 use Rattle.format.specs.Promises.{Writes}
 use Rattle.layout.specs.laws.Making.{write-refused, write-bare}
-use Rattle.area.specs.Area.{areas, valuesAs}
+use Rattle.area_reading.specs.Area.{areas, valuesAs}
 use borrow.Author.Needs.{needs}
 use Rattle.area.proofs.write.Statement.{statement}
 use Rattle.area.proofs.write.Tie as tie

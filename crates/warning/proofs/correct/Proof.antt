@@ -1,23 +1,14 @@
 -- `correct` is the correction in place of every layout, with the warning's fields read before and behind the change and its table of numbers.
-use mathlib.Core.Path.{_≡_, refl, sym, ap, _∙_}
-use mathlib.Core.List.{List, []}
-use Prim.Native.Nat.{ℕ}
-use native.Mathlib.Omega.{arith}
-use lib.Dec.{lit≤}
-use lib.ListN.{getD}
-use Rattle.bits.specs.Answers.{got}
+use mathlib.Core.Path.{refl, sym, _∙_}
 use Rattle.bits.specs.Bits.{fieldAt}
-use Rattle.format.specs.Correcting.{standing, ofKind}
-use Rattle.format.specs.Fmt.{accepted, spot}
-use Rattle.format.specs.Message.{readMessage}
 use Rattle.format.specs.laws.Answers.{fields-code, whole-code, clean-lead}
 use Rattle.format.specs.laws.Correcting.{admitted-clean, correct-early, correct-late}
-use Rattle.warning.specs.Changed.{fieldOf}
-use Rattle.warning.specs.Warning.{warning, warnings, recordOf, numberOf}
-use Rattle.warning.specs.laws.Correction.{places, widths, kinds, thin}
-use Rattle.warning.specs.laws.Demands.{family, looked-stands}
-use Rattle.warning.specs.laws.Sound.{sound, sized}
-use Rattle.warning.specs.declared.Answer.the-variants.{Good, Refused}
+use Rattle.warning_reading.specs.Changed.{fieldOf}
+use Rattle.warning_reading.specs.Warning.{warnings, recordOf, numberOf}
+use Rattle.warning_reading.specs.laws.Correction.{thin}
+use Rattle.warning_reading.specs.laws.Demands.{family, looked-stands}
+use Rattle.warning_reading.specs.laws.Sound.{sound, sized}
+use Rattle.warning_reading.specs.declared.Answer.the-variants.{Good, Refused}
 use borrow.Author.Needs.{needs}
 use Rattle.warning.proofs.correct.Statement.{statement}
 use Rattle.warning.proofs.correct.Tie as tie

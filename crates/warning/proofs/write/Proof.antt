@@ -2,7 +2,7 @@
 use mathlib.Core.Path.{refl, subst}
 use Rattle.format.specs.Promises.{Writes}
 use Rattle.layout.specs.laws.Making.{write-refused, write-bare}
-use Rattle.warning.specs.Warning.{warnings, valuesAs}
+use Rattle.warning_reading.specs.Warning.{warnings, valuesAs}
 use borrow.Author.Needs.{needs}
 use Rattle.warning.proofs.write.Statement.{statement}
 use Rattle.warning.proofs.write.Tie as tie

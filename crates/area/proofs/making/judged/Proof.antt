@@ -7,9 +7,9 @@ use lib.Dec.{lit<}
 use Rattle.layout.specs.Walk.{onward}
 use Rattle.layout.specs.laws.Judging.{judge-start, judge-fixed, judge-num, judge-end}
 use Rattle.time.specs.laws.Walking.{time-judged, short-judged}
-use Rattle.area.specs.Area.{area, valuesAs}
-use Rattle.area.specs.Shapes.{shapeKind}
-use Rattle.area.specs.laws.Walking.{kind-judged, shape-judged}
+use Rattle.area_reading.specs.Area.{area, valuesAs}
+use Rattle.area_reading.specs.Shapes.{shapeKind}
+use Rattle.area_reading.specs.laws.Walking.{kind-judged, shape-judged}
 use borrow.Author.Needs.{needs}
 use Rattle.area.proofs.making.judged.Statement.{statement}
 use Rattle.area.proofs.making.judged.Tie as tie

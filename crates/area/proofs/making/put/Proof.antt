@@ -8,8 +8,8 @@ use Rattle.format.specs.Correcting.{putIn, put-in}
 use Rattle.format.specs.Words.{wide}
 use Rattle.format.specs.laws.Extent.{opens-choice}
 use Rattle.format.specs.laws.Putting.{put-start, put-number, put-step, put-end}
-use Rattle.area.specs.Area.{area, valuesAs}
-use Rattle.area.specs.laws.Walking.{shape-put}
+use Rattle.area_reading.specs.Area.{area, valuesAs}
+use Rattle.area_reading.specs.laws.Walking.{shape-put}
 use borrow.Author.Needs.{needs}
 use Rattle.area.proofs.making.put.Statement.{statement}
 use Rattle.area.proofs.making.put.Tie as tie

@@ -11,7 +11,7 @@ use Rattle.format.specs.laws.Extent.{opens-choice}
 use Rattle.format.specs.laws.Tells.{only-tells}
 use Rattle.layout.specs.laws.Judging.{judge-start, judge-fixed, judge-num, judge-tells, judge-end}
 use Rattle.time.specs.laws.Walking.{time-judged}
-use Rattle.warning.specs.Warning.{warning, valuesAs}
+use Rattle.warning_reading.specs.Warning.{warning, valuesAs}
 use borrow.Author.Needs.{needs}
 use Rattle.warning.proofs.making.judged.Statement.{statement}
 use Rattle.warning.proofs.making.judged.Tie as tie

@@ -9,11 +9,11 @@ use Rattle.format.specs.Correcting.{putIn, put-in}
 use Rattle.format.specs.Words.{wide}
 use Rattle.format.specs.laws.Extent.{opens-choice}
 use Rattle.format.specs.laws.Putting.{put-start, put-number, put-step, put-end}
-use Rattle.warning.specs.Warning.{warning, valuesAs}
+use Rattle.warning_reading.specs.Warning.{warning, valuesAs}
 use borrow.Author.Needs.{needs}
 use Rattle.warning.proofs.making.put.Statement.{statement}
 use Rattle.warning.proofs.making.put.Tie as tie
-use Rattle.bodies.proofs.put.Reads as put-reads′
+use Rattle.body_making.proofs.put.Reads as put-reads′
 
 kind-requires : tie.Need-kind-requires
 kind-requires c κs = search needs

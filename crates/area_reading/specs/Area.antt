@@ -1,0 +1,83 @@
+-- Message 6 with application 412/11, an area marked off (paper 01, "AIS"; 003, tables 4 and 38 to 40). Assumes nothing.
+use Prim.Native.Nat.{ℕ}
+use mathlib.Core.Bool.{false, _&&_}
+use mathlib.Core.List.{List, [], _∷_}
+use lib.Dec.{eqb}
+use lib.ListN.{length, getD}
+use Rattle.bits.specs.Bits.{fieldAt}
+use Rattle.format.specs.Fmt.{Out, Fmt, end, choice}
+use Rattle.format.specs.Message.{Layout, led, between}
+use Rattle.format.specs.Promises.{answered}
+use Rattle.format.specs.Words.{_‥_, only, _▹_, num, code, fill}
+use Rattle.time.specs.Time.{time, shortTime, spellTime, timeOf, spellShort, shortOf}
+use Rattle.area_reading.specs.Shapes.{kindOf, typeOf, shape, shapeKind, shapeValues, shapeOf}
+use Rattle.area_reading.specs.declared.Area.{Area}
+use Rattle.area_reading.specs.declared.Answer.{Answer}
+use Rattle.area_reading.specs.declared.Answer.the-variants.{Good, Refused}
+
+-- what follows the shape
+abbrev pub tail : Fmt
+tail =
+    time
+    ▹ shortTime
+    ▹ num 4 (1 ‥ 6)  -- advice
+    ▹ fill 6
+    ▹ end
+
+unfoldable pub area : Fmt
+area =
+    code 6 6
+    ▹ num 2 (0 ‥ 3)  -- repeat
+    ▹ num 30 (0 ‥ 999_999_999)  -- source
+    ▹ num 2 (0 ‥ 3)  -- sequence
+    ▹ num 30 (0 ‥ 999_999_999)  -- destination
+    ▹ num 1 (0 ‥ 1)  -- resent
+    ▹ fill 1
+    ▹ code 10 412
+    ▹ code 6 11
+    ▹ num 4 (1 ‥ 14)  -- area kind
+    ▹ choice 2 (only 2 2 (1 ‥ 2)) (λ t. shape (kindOf t) tail)  -- shape, else 2
+
+-- 31 bytes; another message, application or shape is 2, in one of 23 bytes or more
+unfoldable pub areas : Layout
+areas = record {
+  lead = led 23 (λ s. eqb (fieldAt s 0 6) 6 && eqb (fieldAt s 72 10) 412 && eqb (fieldAt s 82 6) 11 && between 1 2 (fieldAt s 92 2)) (λ s. between 31 31 (length s));
+  kind = λ vs. 0;
+  least = 31;
+  most = 31;
+  seal = false;
+  fmt = area;
+}
+
+-- a record's values up to the shape's number, in bit order, in front of others
+abbrev pub headed : Area → ℕ → List ℕ → List ℕ
+headed r t l = 6 ∷ r .repeat ∷ r .source ∷ r .sequence ∷ r .destination ∷ r .resent ∷ 0 ∷ 412 ∷ 11 ∷ r .kind ∷ t ∷ l
+
+-- all of them, with the numbers of its times
+unfoldable pub valuesAs : Area → ℕ → ℕ → List ℕ
+valuesAs r t u = headed r (typeOf (shapeKind (r .shape))) (shapeValues (r .shape) (t ∷ u ∷ r .advice ∷ 0 ∷ []))
+
+abbrev pub valuesOf : Area → List ℕ
+valuesOf r = valuesAs r (spellTime (r .time)) (spellShort (r .«second_time»))
+
+unfoldable pub recordOf : List ℕ → Area
+recordOf vs = record {
+  repeat = getD vs 1 0;
+  source = getD vs 2 0;
+  sequence = getD vs 3 0;
+  destination = getD vs 4 0;
+  resent = getD vs 5 0;
+  kind = getD vs 9 0;
+  shape = shapeOf (kindOf (getD vs 10 0)) vs;
+  time = timeOf (getD vs 15 0);
+  «second_time» = shortOf (getD vs 16 0);
+  advice = getD vs 17 0;
+}
+
+-- the paper's number and values
+abbrev pub answerOf : Out Area → Answer
+answerOf = answered Good Refused
+
+abbrev pub numberOf : Answer → ℕ
+numberOf (Good r) = 0
+numberOf (Refused c) = c

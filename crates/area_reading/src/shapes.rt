@@ -1,0 +1,123 @@
+// The two shapes of an area (003, tables 39 and 40): 110 bits.
+ghost use mathlib.Core.Path.{_≡_};
+ghost use Rattle.area_reading.specs.Shapes.{kindOf, typeOf, shapeKind};
+ghost use Rattle.area_reading.specs.Steps.{pointRead, circleRead, rectangleRead, shapeRead};
+use layout::walk::Walk;
+
+// Ten-thousandths of a minute, 108,600,000 and 54,600,000 for none.
+pub struct Circle {
+    pub longitude: i32,
+    pub latitude: i32,
+    // Tenths of a nautical mile.
+    pub radius: u8,
+}
+
+pub struct Rectangle {
+    pub longitude: i32,
+    pub latitude: i32,
+    pub second_longitude: i32,
+    pub second_latitude: i32,
+}
+
+pub enum Shape {
+    Circle(Circle),
+    Rectangle(Rectangle),
+}
+
+impl Shape {
+    // Its number in the message.
+    pub fn kind(self) -> u8
+        ensures { λ r. ⌜ r ≡ typeOf (shapeKind self) ⌝ }
+    {
+        match self {
+            Shape::Circle(_) => 1,
+            Shape::Rectangle(_) => 2,
+        }
+    }
+}
+
+// How many numbers two's complement has in the bits of a longitude and of a latitude.
+pub const EAST: u64 = 268_435_456;
+
+pub const NORTH: u64 = 134_217_728;
+
+// ---- reading
+
+// A shape, and the walk past it.
+pub struct Passed {
+    pub walk: Walk,
+    pub shape: Shape,
+}
+
+// The numbers that spell a position, and the walk past it.
+struct Reached {
+    walk: Walk,
+    longitude: u64,
+    latitude: u64,
+}
+
+// The shape of number `kind`; one of no shape's is read as the last.
+pub fn read(s: &[u8], kind: u64, w: Walk) -> Passed
+    ensures { λ r. ⌜ r ≡ shapeRead (now (s .entry)) (kindOf kind) w ⌝ }
+{
+    if kind == 1 {
+        return read_circle(s, w);
+    }
+    read_rectangle(s, w)
+}
+
+fn read_circle(s: &[u8], w: Walk) -> Passed
+    ensures { λ r. ⌜ r ≡ circleRead (now (s .entry)) w ⌝ }
+{
+    let centre = read_point(s, w);
+    let w = centre.walk.num(s, 7, 0, 127);
+    let radius = w.v as u8;
+    let w = w.blank(s, 48);
+    let longitude = field::sign::int(centre.longitude, EAST);
+    let latitude = field::sign::int(centre.latitude, NORTH);
+    let circle = Circle {
+        longitude,
+        latitude,
+        radius,
+    };
+    Passed {
+        walk: w,
+        shape: Shape::Circle(circle),
+    }
+}
+
+fn read_rectangle(s: &[u8], w: Walk) -> Passed
+    ensures { λ r. ⌜ r ≡ rectangleRead (now (s .entry)) w ⌝ }
+{
+    let first = read_point(s, w);
+    let second = read_point(s, first.walk);
+    let w = second.walk;
+    let longitude = field::sign::int(first.longitude, EAST);
+    let latitude = field::sign::int(first.latitude, NORTH);
+    let second_longitude = field::sign::int(second.longitude, EAST);
+    let second_latitude = field::sign::int(second.latitude, NORTH);
+    let rectangle = Rectangle {
+        longitude,
+        latitude,
+        second_longitude,
+        second_latitude,
+    };
+    Passed {
+        walk: w,
+        shape: Shape::Rectangle(rectangle),
+    }
+}
+
+fn read_point(s: &[u8], w: Walk) -> Reached
+    ensures { λ r. ⌜ r ≡ pointRead (now (s .entry)) w ⌝ }
+{
+    let w = w.signed(s, 28, 108_000_000, 160_435_456, 108_600_000);
+    let longitude = w.v;
+    let w = w.signed(s, 27, 54_000_000, 80_217_728, 54_600_000);
+    let latitude = w.v;
+    Reached {
+        walk: w,
+        longitude,
+        latitude,
+    }
+}

@@ -1,0 +1,41 @@
+-- `judged` goes by the shape's variant.
+use mathlib.Core.Path.{sym, ap, _∙_}
+use Rattle.area_reading.specs.Steps.{shapeJudged}
+use borrow.Author.Needs.{needs}
+use Rattle.shape_making.proofs.judged.Statement.{statement}
+use Rattle.shape_making.proofs.judged.Tie as tie
+
+enum-known-shape : tie.Need-enum-known-shape
+enum-known-shape c = search needs
+
+judged-circle-requires : tie.Need-judged-circle-requires
+judged-circle-requires c κs = search needs
+
+enum-known-shape-2 : tie.Need-enum-known-shape-2
+enum-known-shape-2 c = search needs
+
+judged-rectangle-requires : tie.Need-judged-rectangle-requires
+judged-rectangle-requires c κs = search needs
+
+returns : tie.Need-returns
+returns c =
+    let m = c .before .before in
+    let st = m .before .before in
+    c .judged-circle .ensures ∙ ap (λ b. shapeJudged b (st .args .w)) (sym (m .shape .given .1))
+
+returns-2 : tie.Need-returns-2
+returns-2 c =
+    let m = c .before .before in
+    let st = m .before .before in
+    c .judged-rectangle .ensures ∙ ap (λ b. shapeJudged b (st .args .w)) (sym (m .shape2 .given .1))
+
+pub judged-spec : {M : Type 1} → statement M
+judged-spec =
+    tie.close
+    (tie.spec
+    enum-known-shape
+    judged-circle-requires
+    enum-known-shape-2
+    judged-rectangle-requires
+    returns
+    returns-2)

@@ -1,0 +1,149 @@
+-- A warning's layout is sound: what its fields accept leaves nothing to the first tests. Assumes nothing.
+use mathlib.Core.Path.{_≡_, refl, sym, ap, _∙_}
+use mathlib.Core.Bool.{Bool, true, false, cond, _&&_, false≢true}
+use mathlib.Core.List.{List, [], _∷_}
+use Prim.Native.Nat.{ℕ, _≤_}
+use native.Mathlib.Omega.{arith}
+use lib.Dec.{leb, eqb}
+use lib.ListN.{length, getD, drop}
+use borrow.Author.Tests.{le-leb, leb-true, eq-eqb}
+use Rattle.bits.specs.Bits.{bitsOf, fieldAt}
+use Rattle.bits.specs.laws.Bytes.{length-bits}
+use Rattle.bodies.specs.Bodies.{Kind, cyclone, gale, waves, fog, surge, kindOf, body}
+use Rattle.format.specs.Fmt.{accepted, read}
+use Rattle.format.specs.Message.{Sound, between}
+use Rattle.format.specs.Words.{_‥_, only, wide, kept}
+use Rattle.format.specs.laws.Extent.{extent, extent-laid}
+use Rattle.format.specs.laws.Held.{Held, held, exactly, told-good}
+use Rattle.format.specs.laws.First.{led-between}
+use Rattle.format.specs.laws.Places.{value-at, choice-at}
+use Rattle.format.specs.laws.Round.{read-write}
+use Rattle.format.specs.laws.Tells.{only-tells}
+use Rattle.warning_reading.specs.Warning.{tail, rest, warning, warnings}
+
+-- ---- what accepted values begin with
+
+pub record Front (vs : List ℕ) : Type 0 where
+  pub message : ℕ
+  pub repeat : ℕ
+  pub source : ℕ
+  pub spare : ℕ
+  pub authority : ℕ
+  pub application : ℕ
+  pub type : ℕ
+  pub longitude : ℕ
+  pub latitude : ℕ
+  pub left : List ℕ
+  pub is : vs ≡ message ∷ repeat ∷ source ∷ spare ∷ authority ∷ application ∷ type ∷ longitude ∷ latitude ∷ left
+  pub message-is : message ≡ 8
+  pub spare-is : spare ≡ 0
+  pub authority-is : authority ≡ 412
+  pub application-is : application ≡ 3
+  pub type-is : (1 ≤ type) × (type ≤ 5)
+  pub before : List ℕ
+  pub holds : Held (body (kindOf type) tail) before left
+
+-- a type that the judge found good is one of the five
+typed : (t : ℕ) → _≡_ {A = ℕ} (cond (leb 1 t && leb t 5) 0 2) 0 → (1 ≤ t) × (t ≤ 5)
+typed t = go (leb 1 t) (leb t 5) refl refl
+  where
+    go : (x y : Bool) → leb 1 t ≡ x → leb t 5 ≡ y → _≡_ {A = ℕ} (cond (x && y) 0 2) 0 → (1 ≤ t) × (t ≤ 5)
+    go true true ex ey e = (leb-true 1 t ex, leb-true t 5 ey)
+    go true false ex ey e = absurd (omega (arith, e))
+    go false y ex ey e = absurd (omega (arith, e))
+
+pub front : (vs : List ℕ) → Held warning [] vs → Front vs
+unfolding warning
+front [] h = absurd h
+front (a ∷ []) h = absurd (h .2)
+front (a ∷ b ∷ []) h = absurd (h .2 .2)
+front (a ∷ b ∷ c ∷ []) h = absurd (h .2 .2 .2)
+front (a ∷ b ∷ c ∷ d ∷ []) h = absurd (h .2 .2 .2 .2)
+front (a ∷ b ∷ c ∷ d ∷ e ∷ []) h = absurd (h .2 .2 .2 .2 .2)
+front (a ∷ b ∷ c ∷ d ∷ e ∷ f ∷ []) h = absurd (h .2 .2 .2 .2 .2 .2)
+front (a ∷ b ∷ c ∷ d ∷ e ∷ f ∷ t ∷ []) h = absurd (h .2 .2 .2 .2 .2 .2 .2)
+front (a ∷ b ∷ c ∷ d ∷ e ∷ f ∷ t ∷ x ∷ []) h = absurd (h .2 .2 .2 .2 .2 .2 .2 .2)
+front (a ∷ b ∷ c ∷ d ∷ e ∷ f ∷ t ∷ x ∷ y ∷ us) h =
+    let h3 = h .2 .2 .2 in
+    let h4 = h3 .2 in
+    let h5 = h4 .2 in
+    let h6 = h5 .2 in
+    record {
+      message = a;
+      repeat = b;
+      source = c;
+      spare = d;
+      authority = e;
+      application = f;
+      type = t;
+      longitude = x;
+      latitude = y;
+      left = us;
+      is = refl;
+      message-is = exactly 6 1 8 _ a (h .0) (h .1);
+      spare-is = exactly 2 4 0 _ d (h3 .0) (h3 .1);
+      authority-is = exactly 10 1 412 _ e (h4 .0) (h4 .1);
+      application-is = exactly 6 1 3 _ f (h5 .0) (h5 .1);
+      type-is = typed t (told-good 4 t (only 4 2 (1 ‥ 5) (f ∷ e ∷ d ∷ c ∷ b ∷ a ∷ [])) (only-tells 4 1 (1 ‥ 5) (f ∷ e ∷ d ∷ c ∷ b ∷ a ∷ [])) (h6 .0) (h6 .1));
+      before = y ∷ x ∷ t ∷ f ∷ e ∷ d ∷ c ∷ b ∷ a ∷ [];
+      holds = h6 .2 .2 .2;
+    }
+
+-- ---- what an accepted message has
+
+-- whatever its body, 78 bits from there on
+spans : (t : Kind) (us : List ℕ) → extent (body t tail) 106 us ≡ 78
+unfolding wide
+spans cyclone us = refl
+spans gale us = refl
+spans waves us = refl
+spans fog us = refl
+spans surge us = refl
+
+module _ (s vs : List ℕ) (e : read warning [] 0 (bitsOf s) ≡ accepted vs) where
+  abbrev begins : Front vs
+  begins = front vs (held warning [] 0 vs (bitsOf s) (read-write warning [] 0 vs (bitsOf s) e))
+
+  pub bytes : length s ≡ 23
+  unfolding warning
+  bytes =
+      let n = extent-laid warning [] 0 vs (bitsOf s) (read-write warning [] 0 vs (bitsOf s) e) in
+      let d : List ℕ → List ℕ = drop 1 in
+      let us = d (d (d (d (d (d vs))))) in
+      omega (arith, n, spans (kindOf (getD us 0 0)) (d (d (d us))), length-bits s)
+
+  message-at : fieldAt s 0 6 ≡ 8
+  unfolding fieldAt warning
+  message-at = sym (value-at 0 warning vs (bitsOf s) e 6 (only 6 2 (8 ‥ 8)) kept _ refl) ∙ ap (λ l. getD l 0 0) (begins .is) ∙ begins .message-is
+
+  authority-at : fieldAt s 40 10 ≡ 412
+  unfolding fieldAt warning
+  authority-at = sym (value-at 4 warning vs (bitsOf s) e 10 (only 10 2 (412 ‥ 412)) kept _ refl) ∙ ap (λ l. getD l 4 0) (begins .is) ∙ begins .authority-is
+
+  application-at : fieldAt s 50 6 ≡ 3
+  unfolding fieldAt warning
+  application-at = sym (value-at 5 warning vs (bitsOf s) e 6 (only 6 2 (3 ‥ 3)) kept _ refl) ∙ ap (λ l. getD l 5 0) (begins .is) ∙ begins .application-is
+
+  pub type-at : fieldAt s 56 4 ≡ getD vs 6 0
+  unfolding fieldAt warning
+  type-at = sym (choice-at 6 warning vs (bitsOf s) e 4 (only 4 2 (1 ‥ 5)) (λ t. rest (kindOf t)) refl)
+
+  typed-at : between 1 5 (fieldAt s 56 4) ≡ true
+  typed-at =
+      let (lo, hi) = begins .type-is in
+      let is : fieldAt s 56 4 ≡ begins .type = type-at ∙ ap (λ l. getD l 6 0) (begins .is) in
+      rw (is, le-leb 1 (begins .type) lo, le-leb (begins .type) 5 hi) refl
+
+pub sound : Sound warnings
+unfolding warnings
+sound = record {
+  sized = λ s vs e. rw (bytes s vs e, eq-eqb (fieldAt s 0 6) 8 (message-at s vs e), eq-eqb (fieldAt s 40 10) 412 (authority-at s vs e), eq-eqb (fieldAt s 50 6) 3 (application-at s vs e), typed-at s vs e) refl;
+  kinds = λ b vs e. refl;
+  stays = λ vs i v p w e. refl;
+  some = λ e. absurd (false≢true e);
+}
+
+-- what its first tests pass has 23 bytes
+pub sized : (s : List ℕ) → warnings .lead s ≡ 0 → length s ≡ 23
+unfolding warnings
+sized s e = let (a, b) = led-between 23 23 23 (λ s. eqb (fieldAt s 0 6) 8 && eqb (fieldAt s 40 10) 412 && eqb (fieldAt s 50 6) 3 && between 1 5 (fieldAt s 56 4)) s e in omega arith

@@ -1,0 +1,162 @@
+// Message 8 with application 412/03, a warning (paper 01, "AIS"; 003, tables 5 and 56 to 62).
+ghost use mathlib.Core.Path.{_≡_};
+ghost use mathlib.Core.Bool.{cond};
+ghost use mathlib.Core.List.{[]};
+ghost use lib.Dec.{eqb};
+ghost use lib.ListN.{length};
+ghost use Rattle.bits.specs.Bits.{bitsOf};
+ghost use Rattle.format.specs.Fmt.{also, check, read as Fmt·read};
+ghost use Rattle.format.specs.Message.{fault};
+ghost use Rattle.warning_reading.specs.Promises.{Reads};
+ghost use Rattle.warning_reading.specs.Warning.{warning, warnings, recordOf, answerOf, numberOf};
+ghost use Rattle.warning_reading.specs.declared.Answer.the-variants.{Good, Refused};
+
+pub struct Warning {
+    pub repeat: u8,
+    pub source: u32,
+    // Thousandths of a minute, from 60° E and from 50° S.
+    pub longitude: u32,
+    pub latitude: u32,
+    pub body: bodies::Body,
+    pub time: time::Time,
+    pub hours: u8,
+}
+
+pub enum Answer {
+    Good(Warning),
+    Refused(u8),
+}
+
+impl Answer {
+    // The warning, unless a walk over it ended with a refusal.
+    fn told(code: u8, r: Warning) -> Answer
+        ensures { λ a. ⌜ a ≡ cond (eqb code 0) (Good r) (Refused code) ⌝ }
+    {
+        if code != 0 {
+            return Answer::Refused(code);
+        }
+        Answer::Good(r)
+    }
+
+    // Its number: 0 for a good one.
+    pub fn refusal(self) -> u8
+        ensures { λ r. ⌜ r ≡ numberOf self ⌝ }
+    {
+        match self {
+            Answer::Good(_) => 0,
+            Answer::Refused(code) => code,
+        }
+    }
+}
+
+impl Warning {
+    pub const BITS: usize = 184;
+
+    pub const LEAST: usize = Warning::BITS / 8;
+
+    pub const GREATEST: usize = Warning::BITS / 8;
+
+    // The fields that may be corrected. One of a body may be where the warning has that body, else it is no field of it.
+    pub const REPEAT: usize = 1;
+
+    pub const SOURCE: usize = 2;
+
+    pub const LONGITUDE: usize = 3;
+
+    pub const LATITUDE: usize = 4;
+
+    pub const TIME: usize = 5;
+
+    pub const HOURS: usize = 6;
+
+    // The first number of each body; its others follow in the paper's order.
+    pub const CYCLONE: usize = 7;
+
+    pub const GALE: usize = 14;
+
+    pub const WAVES: usize = 18;
+
+    pub const FOG: usize = 21;
+
+    pub const SURGE: usize = 23;
+}
+
+pub const MESSAGE: u64 = 8;
+
+pub const AUTHORITY: u64 = 412;
+
+pub const APPLICATION: u64 = 3;
+
+pub fn read(s: &[u8]) -> Answer
+    ensures { λ r. ⌜ Reads (now (s .entry)) r ⌝ }
+{
+    fields(s, lead(s))
+}
+
+// The first tests: smallest size; message, application and warning type; size.
+pub fn lead(s: &[u8]) -> u8
+    ensures { λ r. ⌜ r ≡ warnings .lead (now (s .entry)) ⌝ }
+{
+    if s.len() < Warning::LEAST {
+        return format::SIZE;
+    }
+    if bits::get(s, 0, 6) != MESSAGE {
+        return format::KIND;
+    }
+    if bits::get(s, 40, 10) != AUTHORITY {
+        return format::KIND;
+    }
+    if bits::get(s, 50, 6) != APPLICATION {
+        return format::KIND;
+    }
+    let kind = bits::get(s, 56, 4);
+    if kind < 1 {
+        return format::KIND;
+    }
+    if 5 < kind {
+        return format::KIND;
+    }
+    if s.len() > Warning::GREATEST {
+        return format::SIZE;
+    }
+    0
+}
+
+// The fields in bit order, behind the first tests' answer. Once the size is known here, no field has to be tested for it.
+pub fn fields(s: &[u8], lead: u8) -> Answer
+    requires { ⌜ (lead ≡ 0 → length (now s) ≡ 23) ⌝ }
+    ensures { λ r. ⌜ r ≡ answerOf (also recordOf (check (fault lead) 0 (Fmt·read warning [] 0 (bitsOf (now (s .entry)))))) ⌝ }
+{
+    if s.len() != Warning::LEAST {
+        return Answer::Refused(lead);
+    }
+    let w = layout::walk::Walk::begin(lead, 0).code(s, 6, MESSAGE);
+    let w = w.num(s, 2, 0, 3);
+    let repeat = w.v as u8;
+    let w = w.num(s, 30, 0, 999_999_999);
+    let source = w.v as u32;
+    let w = w.fill(s, 2).code(s, 10, AUTHORITY).code(s, 6, APPLICATION);
+    let w = w.number(s, 4, false, 1, 5, format::KIND);
+    let kind = w.v;
+    let w = w.num(s, 23, 0, 7_200_000);
+    let longitude = w.v as u32;
+    let w = w.num(s, 23, 0, 7_200_000);
+    let latitude = w.v as u32;
+    let passed = bodies::read(s, kind, w);
+    let body = passed.body;
+    let w = time::read(s, passed.walk);
+    let time = time::Time::of(w.v);
+    let w = w.num(s, 6, 0, 48);
+    let hours = w.v as u8;
+    let w = w.fill(s, 2).end(s);
+    let r = Warning {
+        repeat,
+        source,
+        longitude,
+        latitude,
+        body,
+        time,
+        hours,
+    };
+    Answer::told(w.code, r)
+}
