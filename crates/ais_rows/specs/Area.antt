@@ -2,13 +2,13 @@
 use Prim.Native.Nat.{ℕ}
 use mathlib.Core.List.{List, [], _∷_}
 use lib.IntN.{ℤ, pos}
-use Rattle.area.specs.Area.{areas, recordOf as read-as}
-use Rattle.area.specs.Shapes.{typeOf, shapeKind}
-use Rattle.area.specs.declared.Area.{Area}
-use Rattle.area.specs.declared.Answer.{Answer}
-use Rattle.area.specs.declared.Answer.the-variants.{Good, Refused}
-use Rattle.area.specs.declared.shapes.Shape.{Shape}
-use Rattle.area.specs.declared.shapes.Shape.the-variants.{Circle, Rectangle}
+use Rattle.area_reading.specs.Area.{areas, recordOf as read-as}
+use Rattle.area_reading.specs.Shapes.{typeOf, shapeKind}
+use Rattle.area_reading.specs.declared.Area.{Area}
+use Rattle.area_reading.specs.declared.Answer.{Answer}
+use Rattle.area_reading.specs.declared.Answer.the-variants.{Good, Refused}
+use Rattle.area_reading.specs.declared.shapes.Shape.{Shape}
+use Rattle.area_reading.specs.declared.shapes.Shape.the-variants.{Circle, Rectangle}
 use Rattle.format.specs.Fmt.{Out, accepted, refused, also}
 use Rattle.format.specs.Promises.{readRecord}
 use Rattle.ais_rows.specs.declared.areas.Four.{Four}

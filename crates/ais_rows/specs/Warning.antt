@@ -7,10 +7,10 @@ use Rattle.bodies.specs.declared.Body.{Body}
 use Rattle.bodies.specs.declared.Body.the-variants.{Cyclone, Gale, Waves, Fog, Surge}
 use Rattle.format.specs.Fmt.{Out, accepted, refused, also}
 use Rattle.format.specs.Promises.{readRecord}
-use Rattle.warning.specs.Warning.{warnings, recordOf as read-as}
-use Rattle.warning.specs.declared.Warning.{Warning}
-use Rattle.warning.specs.declared.Answer.{Answer}
-use Rattle.warning.specs.declared.Answer.the-variants.{Good, Refused}
+use Rattle.warning_reading.specs.Warning.{warnings, recordOf as read-as}
+use Rattle.warning_reading.specs.declared.Warning.{Warning}
+use Rattle.warning_reading.specs.declared.Answer.{Answer}
+use Rattle.warning_reading.specs.declared.Answer.the-variants.{Good, Refused}
 use Rattle.ais_rows.specs.declared.warnings.Seven.{Seven}
 
 -- a body's numbers, in the paper's order, and 0 behind them

@@ -6,9 +6,10 @@ use lib.Dec.{eqb}
 use lib.ListN.{length}
 use Rattle.format.specs.Message.{readMessage, codeOf as refusal}
 use Rattle.distress_reading.specs.Report.{reports}
+use Rattle.ais.specs.Ais.{codeOf as aisCode}
 use Rattle.serial.specs.Serial.{codeOf as serialCode}
 use Rattle.lines.specs.Text.{line}
-use Rattle.daylog.specs.Text.{head, serial, distress, unknown, broken}
+use Rattle.daylog.specs.Text.{head, serial, distress, ais, unknown, broken}
 use Rattle.records.specs.Records.{Entry, records, sizeOf}
 
 -- ---- kinds
@@ -18,14 +19,16 @@ unfoldable pub word : ℕ → List ℕ
 word k =
     cond (eqb k 1) serial
     (cond (eqb k 3) distress
-    unknown)
+    (cond (eqb k 4) ais
+    unknown))
 
 -- what reading a body of a kind answers: 0, or the refusal's number
 unfoldable pub codeOf : ℕ → List ℕ → ℕ
 codeOf k body =
     cond (eqb k 1) (serialCode body)
     (cond (eqb k 3) (refusal (readMessage reports body))
-    2)
+    (cond (eqb k 4) (aisCode body)
+    2))
 
 -- ---- the listing
 

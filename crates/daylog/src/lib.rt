@@ -83,6 +83,7 @@ pub fn code(kind: u16, body: &[u8]) -> u8
     match kind {
         1 => serial::code(body),
         3 => report(body),
+        4 => ais::code(body),
         _ => format::KIND,
     }
 }
@@ -105,6 +106,7 @@ fn entry(out: &mut [u8], at: usize, number: u64, kind: u16, body: &[u8]) -> usiz
     match kind {
         1 => line(out, at, number, b"serial", code, bytes),
         3 => line(out, at, number, b"distress", code, bytes),
+        4 => line(out, at, number, b"ais", code, bytes),
         _ => line(out, at, number, b"unknown", code, bytes),
     }
 }

@@ -12,6 +12,9 @@ code-requires c κs = search needs
 report-requires : tie.Need-report-requires
 report-requires c κs = search needs
 
+code-requires-2 : tie.Need-code-requires-2
+code-requires-2 c κs = search needs
+
 returns : tie.Need-returns
 unfolding codeOf
 returns c = rw (c .before .match .keys1) (c .code .ensures)
@@ -22,7 +25,11 @@ returns-2 c = rw (c .before .match .keys2) (c .report .ensures)
 
 returns-3 : tie.Need-returns-3
 unfolding codeOf
-returns-3 c = rw (ne-eqb _ 1 (c .match .rest .0 .1), ne-eqb _ 3 (c .match .rest .1)) refl
+returns-3 c = rw (c .before .match .keys3) (c .code2 .ensures)
+
+returns-4 : tie.Need-returns-4
+unfolding codeOf
+returns-4 c = rw (ne-eqb _ 1 (c .match .rest .0 .0 .1), ne-eqb _ 3 (c .match .rest .0 .1), ne-eqb _ 4 (c .match .rest .1)) refl
 
 pub code-spec : {M : Type 1} → statement M
-code-spec = tie.close (tie.spec code-requires report-requires returns returns-2 returns-3)
+code-spec = tie.close (tie.spec code-requires report-requires code-requires-2 returns returns-2 returns-3 returns-4)

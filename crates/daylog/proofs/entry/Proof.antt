@@ -9,7 +9,7 @@ use borrow.Author.Tests.{ne-eqb}
 use Rattle.daylog.specs.Log.{word, codeOf, entryLine}
 use Rattle.lines.specs.Stores.{Stores}
 use Rattle.lines.specs.Text.{line}
-use Rattle.daylog.specs.Text.{serial, distress, unknown}
+use Rattle.daylog.specs.Text.{serial, distress, ais, unknown}
 use Rattle.lines.specs.laws.Text.{line-few}
 use borrow.Author.Needs.{needs}
 use Rattle.daylog.proofs.entry.Statement.{statement}
@@ -25,9 +25,13 @@ distress-word : (k : ℕ) → k ≡ 3 → word k ≡ distress
 unfolding word
 distress-word k e = rw e refl
 
-other-word : (k : ℕ) → (k ≡ 1 → ⊥) → (k ≡ 3 → ⊥) → word k ≡ unknown
+ais-word : (k : ℕ) → k ≡ 4 → word k ≡ ais
 unfolding word
-other-word k a b = rw (ne-eqb k 1 a, ne-eqb k 3 b) refl
+ais-word k e = rw e refl
+
+other-word : (k : ℕ) → (k ≡ 1 → ⊥) → (k ≡ 3 → ⊥) → (k ≡ 4 → ⊥) → word k ≡ unknown
+unfolding word
+other-word k a b c = rw (ne-eqb k 1 a, ne-eqb k 3 b, ne-eqb k 4 c) refl
 
 -- ---- a line with the word w
 
@@ -68,6 +72,15 @@ line-requires-3 : tie.Need-line-requires-3
 line-requires-3 c κs =
     let p = c .before .before .before in
     let s = p .before .before .before in
+    fits-line (s .args .number) (s .args .kind) (s .args .body .now) ais (p .code .result) (s .fits .number .fits) (lit≤ tt) (omega arith) (omega arith) (s .args .at) (s .args .out .now) (s .pre)
+
+slice-aggregate-line-4 : tie.Need-slice-aggregate-line-4
+slice-aggregate-line-4 c = search needs
+
+line-requires-4 : tie.Need-line-requires-4
+line-requires-4 c κs =
+    let p = c .before .before .before in
+    let s = p .before .before .before in
     fits-line (s .args .number) (s .args .kind) (s .args .body .now) unknown (p .code .result) (s .fits .number .fits) (lit≤ tt) (omega arith) (omega arith) (s .args .at) (s .args .out .now) (s .pre)
 
 same-length : tie.Need-same-length
@@ -104,7 +117,19 @@ returns-3 c =
     let p = m .before in
     let s = p .before .before .before in
     let a = s .args in
-    stored (a .number) (a .kind) (a .body .now) unknown (p .code .result) (s .fits .number .fits) (lit≤ tt) (omega arith) (omega arith) (other-word (a .kind) (m .match .rest .0 .1) (m .match .rest .1)) (p .code .ensures) (l .line3 .ensures)
+    stored (a .number) (a .kind) (a .body .now) ais (p .code .result) (s .fits .number .fits) (lit≤ tt) (omega arith) (omega arith) (ais-word (a .kind) (m .match .keys3)) (p .code .ensures) (l .line3 .ensures)
+
+same-length-4 : tie.Need-same-length-4
+same-length-4 c = search needs
+
+returns-4 : tie.Need-returns-4
+returns-4 c =
+    let l = c .before .before in
+    let m = l .before .before .before in
+    let p = m .before in
+    let s = p .before .before .before in
+    let a = s .args in
+    stored (a .number) (a .kind) (a .body .now) unknown (p .code .result) (s .fits .number .fits) (lit≤ tt) (omega arith) (omega arith) (other-word (a .kind) (m .match .rest .0 .0 .1) (m .match .rest .0 .1) (m .match .rest .1)) (p .code .ensures) (l .line4 .ensures)
 
 pub entry-spec : {M : Type 1} → statement M
 entry-spec =
@@ -117,9 +142,13 @@ entry-spec =
     line-requires-2
     slice-aggregate-line-3
     line-requires-3
+    slice-aggregate-line-4
+    line-requires-4
     same-length
     returns
     same-length-2
     returns-2
     same-length-3
-    returns-3)
+    returns-3
+    same-length-4
+    returns-4)

@@ -2,8 +2,8 @@
 use mathlib.Core.Path.{refl}
 use Rattle.format.specs.Promises.{readRecord}
 use Rattle.rows.specs.laws.Row.{fills-good, fills-refused}
-use Rattle.area.specs.Area.{areas, recordOf as read-as}
-use Rattle.area.specs.declared.Answer.the-variants.{Good, Refused}
+use Rattle.area_reading.specs.Area.{areas, recordOf as read-as}
+use Rattle.area_reading.specs.declared.Answer.the-variants.{Good, Refused}
 use Rattle.ais_rows.specs.Area.{rowOf, outOf}
 use borrow.Author.Needs.{needs}
 use Rattle.ais_rows.proofs.areas.read.Statement.{statement}

@@ -2,8 +2,8 @@
 use mathlib.Core.Path.{refl}
 use Rattle.format.specs.Promises.{readRecord}
 use Rattle.rows.specs.laws.Row.{fills-good, fills-refused}
-use Rattle.warning.specs.Warning.{warnings, recordOf as read-as}
-use Rattle.warning.specs.declared.Answer.the-variants.{Good, Refused}
+use Rattle.warning_reading.specs.Warning.{warnings, recordOf as read-as}
+use Rattle.warning_reading.specs.declared.Answer.the-variants.{Good, Refused}
 use Rattle.ais_rows.specs.Warning.{rowOf, outOf}
 use borrow.Author.Needs.{needs}
 use Rattle.ais_rows.proofs.warnings.read.Statement.{statement}

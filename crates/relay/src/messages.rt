@@ -1,0 +1,13 @@
+// The AIS messages' calls.
+ghost use Rattle.ais_rows.specs.Slots.{SlotsTold};
+
+pub mod area_calls;
+pub mod warning_calls;
+
+// The slots that `message` needs for that many data bytes, into `slots`.
+#[no_mangle]
+pub extern "C" fn bellnewt_slots(message: u8, bytes: usize, slots: &mut u8) -> u8
+    ensures { λ code. ⌜ SlotsTold message bytes (now (slots .entry)) code (now (slots .exit)) ⌝ }
+{
+    ais_rows::slots(message, bytes, slots)
+}

@@ -1,0 +1,253 @@
+// A warning's calls: message 8 with application 412/03.
+ghost use Rattle.rows.specs.Row.{Fills};
+ghost use Rattle.bits.specs.Bits.{fieldAt};
+ghost use Rattle.ais_rows.specs.Warning.{numbersOf, recordOf, cycloneOf, galeOf, wavesOf, fogOf, surgeOf};
+ghost use Rattle.format.specs.Promises.{Writes, Corrects};
+ghost use Rattle.warning_reading.specs.Changed.{fieldOf};
+ghost use Rattle.warning_reading.specs.Warning.{warnings, valuesOf};
+use bodies::Body;
+use bodies::Cyclone;
+use bodies::Fog;
+use bodies::Gale;
+use bodies::Surge;
+use bodies::Waves;
+use time::Time;
+use warning_reading::Warning;
+
+// Reads the warning into a row of 17: repeat, source, warning type, longitude, latitude, seven numbers of its body, month, day, hour, minute, hours.
+#[no_mangle]
+pub extern "C" fn bellnewt_warning_read(s: &[u8], row: &mut [i64]) -> u8
+    ensures { λ code. ⌜ Fills (numbersOf (now (s .entry))) (now (row .entry)) code (now (row .exit)) ⌝ }
+{
+    ais_rows::warnings::read(s, row)
+}
+
+// Makes field number `field` of the warning be `value`, or leaves every byte.
+#[no_mangle]
+pub extern "C" fn bellnewt_warning_correct(s: &mut [u8], field: usize, value: u64) -> u8
+    ensures { λ code. ⌜ Corrects warnings (now (s .entry)) (fieldOf (fieldAt (now (s .entry)) 56 4) field) value code (now (s .exit)) ⌝ }
+{
+    warning::correct(s, field, value)
+}
+
+// Writes a cyclone's warning of these numbers into the front of a lent buffer.
+#[no_mangle]
+pub extern "C" fn bellnewt_cyclone_write(
+    buf: &mut [u8],
+    repeat: u8,
+    source: u32,
+    longitude: u32,
+    latitude: u32,
+    kind: u8,
+    gale_radius: u16,
+    storm_radius: u16,
+    speed: u8,
+    direction: u16,
+    force: u8,
+    pressure: u16,
+    month: u8,
+    day: u8,
+    hour: u8,
+    minute: u8,
+    hours: u8,
+) -> u8
+    ensures { λ code. ⌜ Writes warnings (now (buf .entry)) code (now (buf .exit)) (valuesOf (recordOf repeat source longitude latitude (cycloneOf kind «gale_radius» «storm_radius» speed direction force pressure) month day hour minute hours)) ⌝ }
+{
+    let numbers = Cyclone {
+        kind,
+        gale_radius,
+        storm_radius,
+        speed,
+        direction,
+        force,
+        pressure,
+    };
+    let body = Body::Cyclone(numbers);
+    let time = Time {
+        month,
+        day,
+        hour,
+        minute,
+    };
+    let r = Warning {
+        repeat,
+        source,
+        longitude,
+        latitude,
+        body,
+        time,
+        hours,
+    };
+    warning::write(buf, r)
+}
+
+// Writes a gale's warning of these numbers into the front of a lent buffer.
+#[no_mangle]
+pub extern "C" fn bellnewt_gale_write(
+    buf: &mut [u8],
+    repeat: u8,
+    source: u32,
+    longitude: u32,
+    latitude: u32,
+    radius: u8,
+    least: u8,
+    greatest: u8,
+    direction: u8,
+    month: u8,
+    day: u8,
+    hour: u8,
+    minute: u8,
+    hours: u8,
+) -> u8
+    ensures { λ code. ⌜ Writes warnings (now (buf .entry)) code (now (buf .exit)) (valuesOf (recordOf repeat source longitude latitude (galeOf radius least greatest direction) month day hour minute hours)) ⌝ }
+{
+    let numbers = Gale {
+        radius,
+        least,
+        greatest,
+        direction,
+    };
+    let body = Body::Gale(numbers);
+    let time = Time {
+        month,
+        day,
+        hour,
+        minute,
+    };
+    let r = Warning {
+        repeat,
+        source,
+        longitude,
+        latitude,
+        body,
+        time,
+        hours,
+    };
+    warning::write(buf, r)
+}
+
+// Writes a warning of waves of these numbers into the front of a lent buffer.
+#[no_mangle]
+pub extern "C" fn bellnewt_waves_write(
+    buf: &mut [u8],
+    repeat: u8,
+    source: u32,
+    longitude: u32,
+    latitude: u32,
+    radius: u8,
+    height: u8,
+    period: u16,
+    month: u8,
+    day: u8,
+    hour: u8,
+    minute: u8,
+    hours: u8,
+) -> u8
+    ensures { λ code. ⌜ Writes warnings (now (buf .entry)) code (now (buf .exit)) (valuesOf (recordOf repeat source longitude latitude (wavesOf radius height period) month day hour minute hours)) ⌝ }
+{
+    let numbers = Waves {
+        radius,
+        height,
+        period,
+    };
+    let body = Body::Waves(numbers);
+    let time = Time {
+        month,
+        day,
+        hour,
+        minute,
+    };
+    let r = Warning {
+        repeat,
+        source,
+        longitude,
+        latitude,
+        body,
+        time,
+        hours,
+    };
+    warning::write(buf, r)
+}
+
+// Writes a warning of fog of these numbers into the front of a lent buffer.
+#[no_mangle]
+pub extern "C" fn bellnewt_fog_write(
+    buf: &mut [u8],
+    repeat: u8,
+    source: u32,
+    longitude: u32,
+    latitude: u32,
+    radius: u16,
+    visibility: u8,
+    month: u8,
+    day: u8,
+    hour: u8,
+    minute: u8,
+    hours: u8,
+) -> u8
+    ensures { λ code. ⌜ Writes warnings (now (buf .entry)) code (now (buf .exit)) (valuesOf (recordOf repeat source longitude latitude (fogOf radius visibility) month day hour minute hours)) ⌝ }
+{
+    let numbers = Fog { radius, visibility };
+    let body = Body::Fog(numbers);
+    let time = Time {
+        month,
+        day,
+        hour,
+        minute,
+    };
+    let r = Warning {
+        repeat,
+        source,
+        longitude,
+        latitude,
+        body,
+        time,
+        hours,
+    };
+    warning::write(buf, r)
+}
+
+// Writes a warning of a storm surge of these numbers into the front of a lent buffer.
+#[no_mangle]
+pub extern "C" fn bellnewt_surge_write(
+    buf: &mut [u8],
+    repeat: u8,
+    source: u32,
+    longitude: u32,
+    latitude: u32,
+    radius: u16,
+    rise: u16,
+    tide: u16,
+    period: u16,
+    month: u8,
+    day: u8,
+    hour: u8,
+    minute: u8,
+    hours: u8,
+) -> u8
+    ensures { λ code. ⌜ Writes warnings (now (buf .entry)) code (now (buf .exit)) (valuesOf (recordOf repeat source longitude latitude (surgeOf radius rise tide period) month day hour minute hours)) ⌝ }
+{
+    let numbers = Surge {
+        radius,
+        rise,
+        tide,
+        period,
+    };
+    let body = Body::Surge(numbers);
+    let time = Time {
+        month,
+        day,
+        hour,
+        minute,
+    };
+    let r = Warning {
+        repeat,
+        source,
+        longitude,
+        latitude,
+        body,
+        time,
+        hours,
+    };
+    warning::write(buf, r)
+}
