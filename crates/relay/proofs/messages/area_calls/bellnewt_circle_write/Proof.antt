@@ -1,0 +1,29 @@
+-- `bellnewt_circle_write` is the area's `write` of the record of its numbers: the signed ones fit, so they stand in it as they are.
+use mathlib.Core.Path.{subst}
+use mir.Syntax.{w32}
+use mir.ValLaws.{toZ-ofZ}
+use Rattle.ais_rows.specs.Area.{recordOf, circleOf}
+use Rattle.area_reading.specs.Area.{areas, valuesOf}
+use Rattle.area_reading.specs.declared.Area.{Area}
+use Rattle.format.specs.Promises.{Writes}
+use borrow.Author.Needs.{needs}
+use Rattle.relay.proofs.messages.area_calls.bellnewt_circle_write.Statement.{statement}
+use Rattle.relay.proofs.messages.area_calls.bellnewt_circle_write.Tie as tie
+
+write-requires : tie.Need-write-requires
+write-requires c κs = search needs
+
+same-length : tie.Need-same-length
+same-length c = search needs
+
+returns : tie.Need-returns
+returns c =
+    let call = c .before .before in
+    let st = call .before .before .before in
+    let a = st .args in
+    let longitude = toZ-ofZ w32 (a .longitude) (st .fits .longitude) in
+    let latitude = toZ-ofZ w32 (a .latitude) (st .fits .latitude) in
+    subst (λ (r : Area). Writes areas (a .buf .now) (call .write .result) (call .write .last .0) (valuesOf r)) (λ i. recordOf (a .repeat) (a .source) (a .sequence) (a .destination) (a .resent) (a .kind) (circleOf (longitude i) (latitude i) (a .radius)) (a .month) (a .day) (a .hour) (a .minute) (a .second-month) (a .second-day) (a .second-hour) (a .advice)) (call .write .ensures)
+
+pub bellnewt-circle-write-spec : {M : Type 1} → statement M
+bellnewt-circle-write-spec = tie.close (tie.spec write-requires same-length returns)
