@@ -418,9 +418,9 @@ enum bellnewt_area_entry {
     BELLNEWT_AREA_ENTRY_DAY = 12,
     BELLNEWT_AREA_ENTRY_HOUR = 13,
     BELLNEWT_AREA_ENTRY_MINUTE = 14,
-    BELLNEWT_AREA_ENTRY_UNTIL_MONTH = 15,
-    BELLNEWT_AREA_ENTRY_UNTIL_DAY = 16,
-    BELLNEWT_AREA_ENTRY_UNTIL_HOUR = 17,
+    BELLNEWT_AREA_ENTRY_SECOND_MONTH = 15,
+    BELLNEWT_AREA_ENTRY_SECOND_DAY = 16,
+    BELLNEWT_AREA_ENTRY_SECOND_HOUR = 17,
     BELLNEWT_AREA_ENTRY_ADVICE = 18
 };
 
@@ -473,7 +473,7 @@ enum bellnewt_area_field {
     BELLNEWT_AREA_LONGITUDE = 7,       /* 28 bits */
     BELLNEWT_AREA_LATITUDE = 8,        /* 27 bits */
     BELLNEWT_AREA_TIME = 9,            /* 20 bits: month 4, day 5, hour 5, minute 6 */
-    BELLNEWT_AREA_UNTIL = 10,          /* 14 bits: month 4, day 5, hour 5 */
+    BELLNEWT_AREA_SECOND_TIME = 10,    /* 14 bits: month 4, day 5, hour 5 */
     BELLNEWT_AREA_ADVICE = 11,         /* 4 bits, 1 to 6 */
     BELLNEWT_CIRCLE_RADIUS = 12,       /* 7 bits, tenths of a nautical mile */
     BELLNEWT_RECTANGLE_LONGITUDE = 13, /* 28 bits, of the other corner */
@@ -569,14 +569,14 @@ uint8_t bellnewt_area_read(const uint8_t *s, size_t len, int64_t *row, size_t ro
 uint8_t bellnewt_circle_write(uint8_t *buf, size_t len, uint8_t repeat, uint32_t source, uint8_t sequence,
                               uint32_t destination, uint8_t resent, uint8_t kind, int32_t longitude,
                               int32_t latitude, uint8_t radius, uint8_t month, uint8_t day, uint8_t hour,
-                              uint8_t minute, uint8_t until_month, uint8_t until_day, uint8_t until_hour,
+                              uint8_t minute, uint8_t second_month, uint8_t second_day, uint8_t second_hour,
                               uint8_t advice);
 
 uint8_t bellnewt_rectangle_write(uint8_t *buf, size_t len, uint8_t repeat, uint32_t source, uint8_t sequence,
                                  uint32_t destination, uint8_t resent, uint8_t kind, int32_t longitude,
                                  int32_t latitude, int32_t second_longitude, int32_t second_latitude, uint8_t month,
-                                 uint8_t day, uint8_t hour, uint8_t minute, uint8_t until_month, uint8_t until_day,
-                                 uint8_t until_hour, uint8_t advice);
+                                 uint8_t day, uint8_t hour, uint8_t minute, uint8_t second_month, uint8_t second_day,
+                                 uint8_t second_hour, uint8_t advice);
 
 /*
  * Corrects one field of an area where it stands. The new value is the plain number that the field's bits shall spell:

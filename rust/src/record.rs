@@ -4,7 +4,7 @@ mod ais;
 mod distress;
 mod serial;
 
-pub use ais::{Ais, Area, Body, Shape, Time, Until, Warning};
+pub use ais::{Ais, Area, Body, Shape, ShortTime, Time, Warning};
 pub use distress::Report;
 pub use serial::{Frame, Gljc, Txhz, Txsq, Txxx};
 

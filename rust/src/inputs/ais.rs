@@ -106,18 +106,25 @@ const TIME: Field = field(
         time(15, 31, 23, 59),
     ],
 );
-const UNTIL: Field = field(
+const SECOND_TIME: Field = field(
     14,
     0,
-    until(12, 31, 23),
-    &[until(0, 0, 23), until(0, 0, 24), until(0, 31, 0), until(12, 0, 0), until(13, 0, 0), until(15, 31, 23)],
+    short_time(12, 31, 23),
+    &[
+        short_time(0, 0, 23),
+        short_time(0, 0, 24),
+        short_time(0, 31, 0),
+        short_time(12, 0, 0),
+        short_time(13, 0, 0),
+        short_time(15, 31, 23),
+    ],
 );
 
 const fn time(month: i64, day: i64, hour: i64, minute: i64) -> i64 {
-    until(month, day, hour) << 6 | minute
+    short_time(month, day, hour) << 6 | minute
 }
 
-const fn until(month: i64, day: i64, hour: i64) -> i64 {
+const fn short_time(month: i64, day: i64, hour: i64) -> i64 {
     month << 10 | day << 5 | hour
 }
 

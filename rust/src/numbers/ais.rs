@@ -4,7 +4,7 @@
 use crate::family::ais::{Calls, Kind, SlotCall};
 use crate::family::{Paper, Proved};
 use crate::harness::Tally;
-use crate::record::{Ais, Area, Body, Refusal, Shape, Time, Until, Warning};
+use crate::record::{Ais, Area, Body, Refusal, Shape, ShortTime, Time, Warning};
 use crate::relay::ais::{correct, read, slots, write};
 
 const TIME: Time = Time { month: 8, day: 27, hour: 6, minute: 30 };
@@ -73,7 +73,7 @@ const CIRCLE: Area = Area {
     latitude: 18_150_000,
     shape: Shape::Circle { radius: 25 },
     time: TIME,
-    until: Until { month: 8, day: 28, hour: 18 },
+    second_time: ShortTime { month: 8, day: 28, hour: 18 },
     advice: 2,
 };
 
@@ -241,7 +241,7 @@ fn corrections<C: Calls<Warning> + Calls<Area>>(who: &str, tally: &mut Tally) {
     for (field, value, due, others) in [
         (Area::LONGITUDE, (1 << 28) - 1, 0, minus_1),
         (Area::LONGITUDE, u64::MAX, 4, &[][..]),
-        (Area::UNTIL, 24, 4, &[][..]),
+        (Area::SECOND_TIME, 24, 4, &[][..]),
         (Area::CIRCLE_RADIUS, 127, 0, &[(18, 0x87), (19, 0xF0)][..]),
         (Area::RECTANGLE_LONGITUDE, 0, 10, &[][..]),
         (15, 0, 10, &[][..]),

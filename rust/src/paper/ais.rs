@@ -4,7 +4,7 @@ mod area;
 mod warning;
 
 use super::{narrow, need, signed, within};
-use crate::record::{Ais, Area, Refusal, Time, Until, Warning};
+use crate::record::{Ais, Area, Refusal, ShortTime, Time, Warning};
 
 /// What a message has of its own. Both have three fills. The fields up to a fill are all refused by 4, so that their
 /// order does not show, and they are judged together.
@@ -114,11 +114,11 @@ impl Time {
     }
 }
 
-impl Until {
+impl ShortTime {
     const WIDTH: u32 = 14;
 
-    fn of_bits(bits: u64) -> Until {
-        Until { month: field(bits, 10, 4) as u8, day: field(bits, 5, 5) as u8, hour: field(bits, 0, 5) as u8 }
+    fn of_bits(bits: u64) -> ShortTime {
+        ShortTime { month: field(bits, 10, 4) as u8, day: field(bits, 5, 5) as u8, hour: field(bits, 0, 5) as u8 }
     }
 
     fn bits(&self) -> u64 {

@@ -33,9 +33,9 @@ pub struct Time {
     pub minute: u8,
 }
 
-/// When something ends: a time without its minute.
+/// A time without its minute.
 #[derive(Clone, Copy, PartialEq, Eq, Debug)]
-pub struct Until {
+pub struct ShortTime {
     pub month: u8,
     pub day: u8,
     pub hour: u8,

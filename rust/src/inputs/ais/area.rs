@@ -1,7 +1,7 @@
 //! Areas.
 
 use super::{field, Field, Kind, Piece};
-use super::{ABSENT, COUNTRY, DAY, HOUR, MINUTE, MMSI, MONTH, REPEAT, SOURCE, TIME, UNTIL};
+use super::{ABSENT, COUNTRY, DAY, HOUR, MINUTE, MMSI, MONTH, REPEAT, SECOND_TIME, SOURCE, TIME};
 use crate::record::Area;
 
 const ADDRESSED: Piece = Piece::code(6, &[6]);
@@ -39,5 +39,5 @@ const RECTANGLE: &[Piece] = &[
 
 impl Kind for Area {
     const LAYOUTS: &'static [&'static [Piece]] = &[CIRCLE, RECTANGLE];
-    const TIMES: &'static [(usize, Field)] = &[(Area::TIME, TIME), (Area::UNTIL, UNTIL)];
+    const TIMES: &'static [(usize, Field)] = &[(Area::TIME, TIME), (Area::SECOND_TIME, SECOND_TIME)];
 }

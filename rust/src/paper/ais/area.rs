@@ -2,7 +2,7 @@
 //! are not the 176 that both print).
 
 use super::{bytes_at, field, narrow, signed, within, Kind, LARGEST_MMSI, SMALLEST};
-use crate::record::{Ais, Area, Refusal, Shape, Time, Until};
+use crate::record::{Ais, Area, Refusal, Shape, ShortTime, Time};
 
 pub const MESSAGE: u8 = 6;
 /// 412 in ten bits, 11 in six.
@@ -40,7 +40,7 @@ impl Kind for Area {
             latitude: latitude(first),
             shape,
             time: Time::of_bits(field(end, 24, Time::WIDTH)),
-            until: Until::of_bits(field(end, 10, Until::WIDTH)),
+            second_time: ShortTime::of_bits(field(end, 10, ShortTime::WIDTH)),
             advice: field(end, 6, 4) as u8,
         };
         (area, [head & 1, place_fill, field(end, 0, 6)])
@@ -55,7 +55,7 @@ impl Kind for Area {
                 & (self.destination <= LARGEST_MMSI)
                 & (self.resent <= 1),
             (1..=14).contains(&self.kind) & good_position(self.longitude, self.latitude) & self.shape.good(),
-            self.time.good() & self.until.good() & (1..=6).contains(&self.advice),
+            self.time.good() & self.second_time.good() & (1..=6).contains(&self.advice),
         ]
     }
 
@@ -67,7 +67,8 @@ impl Kind for Area {
             | u64::from(self.resent) << 1;
         let place = u128::from(position(self.longitude, self.latitude)) << 55 | u128::from(self.shape.bits());
         let start = u128::from(self.kind) << 124 | u128::from(self.shape.kind()) << 122 | place << 12;
-        let end = (place as u64) << 44 | self.time.bits() << 24 | self.until.bits() << 10 | u64::from(self.advice) << 6;
+        let end =
+            (place as u64) << 44 | self.time.bits() << 24 | self.second_time.bits() << 10 | u64::from(self.advice) << 6;
         message[0] = MESSAGE << 2 | self.repeat;
         message[1..9].copy_from_slice(&head.to_be_bytes());
         message[9..11].copy_from_slice(&APPLICATION);
@@ -93,7 +94,7 @@ impl Kind for Area {
             (Area::LONGITUDE, _) => self.longitude = new_longitude()?,
             (Area::LATITUDE, _) => self.latitude = new_latitude()?,
             (Area::TIME, _) => self.time = Time::of_bits(narrow(value, Time::WIDTH)?),
-            (Area::UNTIL, _) => self.until = Until::of_bits(narrow(value, Until::WIDTH)?),
+            (Area::SECOND_TIME, _) => self.second_time = ShortTime::of_bits(narrow(value, ShortTime::WIDTH)?),
             (Area::ADVICE, _) => self.advice = narrow(value, 4)? as u8,
             (Area::CIRCLE_RADIUS, Shape::Circle { radius }) => *radius = narrow(value, 7)? as u8,
             (Area::RECTANGLE_LONGITUDE, Shape::Rectangle { longitude, .. }) => *longitude = new_longitude()?,

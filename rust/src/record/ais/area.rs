@@ -1,6 +1,6 @@
 //! Message 6 with application 412/11.
 
-use super::{Ais, Time, Until, SHORT};
+use super::{Ais, ShortTime, Time, SHORT};
 
 /// An area that one station is told of. Positions are ten-thousandths of a minute, east and north positive; longitude
 /// 108,600,000 and latitude 54,600,000 mean none.
@@ -21,7 +21,7 @@ pub struct Area {
     pub latitude: i32,
     pub shape: Shape,
     pub time: Time,
-    pub until: Until,
+    pub second_time: ShortTime,
     /// What ships are asked to do, 1 to 6.
     pub advice: u8,
 }
@@ -44,7 +44,7 @@ impl Area {
     pub const LONGITUDE: usize = 7;
     pub const LATITUDE: usize = 8;
     pub const TIME: usize = 9;
-    pub const UNTIL: usize = 10;
+    pub const SECOND_TIME: usize = 10;
     pub const ADVICE: usize = 11;
     pub const CIRCLE_RADIUS: usize = 12;
     pub const RECTANGLE_LONGITUDE: usize = 13;
@@ -68,9 +68,9 @@ impl Area {
             self.time.day.into(),
             self.time.hour.into(),
             self.time.minute.into(),
-            self.until.month.into(),
-            self.until.day.into(),
-            self.until.hour.into(),
+            self.second_time.month.into(),
+            self.second_time.day.into(),
+            self.second_time.hour.into(),
             self.advice.into(),
         ]
     }
@@ -83,7 +83,7 @@ impl Ais for Area {
     fn of_row(row: &[i64]) -> Area {
         let &[repeat, source, sequence, destination, resent, kind, shape, longitude, latitude, first, second] =
             row.first_chunk().expect(SHORT);
-        let &[month, day, hour, minute, until_month, until_day, until_hour, advice] =
+        let &[month, day, hour, minute, second_month, second_day, second_hour, advice] =
             row[11..].first_chunk().expect(SHORT);
         Area {
             repeat: repeat as u8,
@@ -96,7 +96,7 @@ impl Ais for Area {
             latitude: latitude as i32,
             shape: Shape::of_numbers(shape, [first, second]),
             time: Time { month: month as u8, day: day as u8, hour: hour as u8, minute: minute as u8 },
-            until: Until { month: until_month as u8, day: until_day as u8, hour: until_hour as u8 },
+            second_time: ShortTime { month: second_month as u8, day: second_day as u8, hour: second_hour as u8 },
             advice: advice as u8,
         }
     }

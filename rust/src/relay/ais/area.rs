@@ -21,9 +21,9 @@ extern "C" {
         day: u8,
         hour: u8,
         minute: u8,
-        until_month: u8,
-        until_day: u8,
-        until_hour: u8,
+        second_month: u8,
+        second_day: u8,
+        second_hour: u8,
         advice: u8,
     ) -> u8;
     fn bellnewt_rectangle_write(
@@ -43,9 +43,9 @@ extern "C" {
         day: u8,
         hour: u8,
         minute: u8,
-        until_month: u8,
-        until_day: u8,
-        until_hour: u8,
+        second_month: u8,
+        second_day: u8,
+        second_hour: u8,
         advice: u8,
     ) -> u8;
     fn bellnewt_area_correct(s: *mut u8, len: usize, field: usize, value: u64) -> u8;
@@ -77,9 +77,9 @@ unsafe impl Kind for Area {
                     self.time.day,
                     self.time.hour,
                     self.time.minute,
-                    self.until.month,
-                    self.until.day,
-                    self.until.hour,
+                    self.second_time.month,
+                    self.second_time.day,
+                    self.second_time.hour,
                     self.advice,
                 ),
                 Shape::Rectangle { longitude, latitude } => bellnewt_rectangle_write(
@@ -99,9 +99,9 @@ unsafe impl Kind for Area {
                     self.time.day,
                     self.time.hour,
                     self.time.minute,
-                    self.until.month,
-                    self.until.day,
-                    self.until.hour,
+                    self.second_time.month,
+                    self.second_time.day,
+                    self.second_time.hour,
                     self.advice,
                 ),
             }
