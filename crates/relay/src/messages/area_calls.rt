@@ -58,18 +58,8 @@ pub extern "C" fn bellnewt_circle_write(
         radius,
     };
     let shape = Shape::Circle(numbers);
-    let time = Time {
-        month,
-        day,
-        hour,
-        minute,
-    };
-    let second_time = ShortTime {
-        month: second_month,
-        day: second_day,
-        hour: second_hour,
-    };
-    let r = Area {
+    written(
+        buf,
         repeat,
         source,
         sequence,
@@ -77,11 +67,15 @@ pub extern "C" fn bellnewt_circle_write(
         resent,
         kind,
         shape,
-        time,
-        second_time,
+        month,
+        day,
+        hour,
+        minute,
+        second_month,
+        second_day,
+        second_hour,
         advice,
-    };
-    area::write(buf, r)
+    )
 }
 
 // Writes a rectangle of these numbers into the front of a lent buffer.
@@ -116,6 +110,47 @@ pub extern "C" fn bellnewt_rectangle_write(
         second_latitude,
     };
     let shape = Shape::Rectangle(numbers);
+    written(
+        buf,
+        repeat,
+        source,
+        sequence,
+        destination,
+        resent,
+        kind,
+        shape,
+        month,
+        day,
+        hour,
+        minute,
+        second_month,
+        second_day,
+        second_hour,
+        advice,
+    )
+}
+
+// The area of these numbers and a shape, written into the front of a lent buffer.
+fn written(
+    buf: &mut [u8],
+    repeat: u8,
+    source: u32,
+    sequence: u8,
+    destination: u32,
+    resent: u8,
+    kind: u8,
+    shape: Shape,
+    month: u8,
+    day: u8,
+    hour: u8,
+    minute: u8,
+    second_month: u8,
+    second_day: u8,
+    second_hour: u8,
+    advice: u8,
+) -> u8
+    ensures { λ code. ⌜ Writes areas (now (buf .entry)) code (now (buf .exit)) (valuesOf (recordOf repeat source sequence destination resent kind shape month day hour minute «second_month» «second_day» «second_hour» advice)) ⌝ }
+{
     let time = Time {
         month,
         day,

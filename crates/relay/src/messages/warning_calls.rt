@@ -63,22 +63,19 @@ pub extern "C" fn bellnewt_cyclone_write(
         pressure,
     };
     let body = Body::Cyclone(numbers);
-    let time = Time {
-        month,
-        day,
-        hour,
-        minute,
-    };
-    let r = Warning {
+    written(
+        buf,
         repeat,
         source,
         longitude,
         latitude,
         body,
-        time,
+        month,
+        day,
+        hour,
+        minute,
         hours,
-    };
-    warning::write(buf, r)
+    )
 }
 
 // Writes a gale's warning of these numbers into the front of a lent buffer.
@@ -108,22 +105,19 @@ pub extern "C" fn bellnewt_gale_write(
         direction,
     };
     let body = Body::Gale(numbers);
-    let time = Time {
-        month,
-        day,
-        hour,
-        minute,
-    };
-    let r = Warning {
+    written(
+        buf,
         repeat,
         source,
         longitude,
         latitude,
         body,
-        time,
+        month,
+        day,
+        hour,
+        minute,
         hours,
-    };
-    warning::write(buf, r)
+    )
 }
 
 // Writes a warning of waves of these numbers into the front of a lent buffer.
@@ -151,22 +145,19 @@ pub extern "C" fn bellnewt_waves_write(
         period,
     };
     let body = Body::Waves(numbers);
-    let time = Time {
-        month,
-        day,
-        hour,
-        minute,
-    };
-    let r = Warning {
+    written(
+        buf,
         repeat,
         source,
         longitude,
         latitude,
         body,
-        time,
+        month,
+        day,
+        hour,
+        minute,
         hours,
-    };
-    warning::write(buf, r)
+    )
 }
 
 // Writes a warning of fog of these numbers into the front of a lent buffer.
@@ -189,22 +180,19 @@ pub extern "C" fn bellnewt_fog_write(
 {
     let numbers = Fog { radius, visibility };
     let body = Body::Fog(numbers);
-    let time = Time {
-        month,
-        day,
-        hour,
-        minute,
-    };
-    let r = Warning {
+    written(
+        buf,
         repeat,
         source,
         longitude,
         latitude,
         body,
-        time,
+        month,
+        day,
+        hour,
+        minute,
         hours,
-    };
-    warning::write(buf, r)
+    )
 }
 
 // Writes a warning of a storm surge of these numbers into the front of a lent buffer.
@@ -234,6 +222,37 @@ pub extern "C" fn bellnewt_surge_write(
         period,
     };
     let body = Body::Surge(numbers);
+    written(
+        buf,
+        repeat,
+        source,
+        longitude,
+        latitude,
+        body,
+        month,
+        day,
+        hour,
+        minute,
+        hours,
+    )
+}
+
+// The warning of these numbers and a body, written into the front of a lent buffer.
+fn written(
+    buf: &mut [u8],
+    repeat: u8,
+    source: u32,
+    longitude: u32,
+    latitude: u32,
+    body: Body,
+    month: u8,
+    day: u8,
+    hour: u8,
+    minute: u8,
+    hours: u8,
+) -> u8
+    ensures { λ code. ⌜ Writes warnings (now (buf .entry)) code (now (buf .exit)) (valuesOf (recordOf repeat source longitude latitude body month day hour minute hours)) ⌝ }
+{
     let time = Time {
         month,
         day,

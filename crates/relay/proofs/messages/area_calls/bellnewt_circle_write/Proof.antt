@@ -1,4 +1,4 @@
--- `bellnewt_circle_write` is the area's `write` of the record of its numbers: the signed ones fit, so they stand in it as they are.
+-- `bellnewt_circle_write` writes the area of the record of its numbers: the signed ones fit, so they stand in it as they are.
 use mathlib.Core.Path.{subst}
 use mir.Syntax.{w32}
 use mir.ValLaws.{toZ-ofZ}
@@ -10,8 +10,8 @@ use borrow.Author.Needs.{needs}
 use Rattle.relay.proofs.messages.area_calls.bellnewt_circle_write.Statement.{statement}
 use Rattle.relay.proofs.messages.area_calls.bellnewt_circle_write.Tie as tie
 
-write-requires : tie.Need-write-requires
-write-requires c κs = search needs
+written-requires : tie.Need-written-requires
+written-requires c κs = search needs
 
 same-length : tie.Need-same-length
 same-length c = search needs
@@ -23,7 +23,7 @@ returns c =
     let a = st .args in
     let longitude = toZ-ofZ w32 (a .longitude) (st .fits .longitude) in
     let latitude = toZ-ofZ w32 (a .latitude) (st .fits .latitude) in
-    subst (λ (r : Area). Writes areas (a .buf .now) (call .write .result) (call .write .last .0) (valuesOf r)) (λ i. recordOf (a .repeat) (a .source) (a .sequence) (a .destination) (a .resent) (a .kind) (circleOf (longitude i) (latitude i) (a .radius)) (a .month) (a .day) (a .hour) (a .minute) (a .second-month) (a .second-day) (a .second-hour) (a .advice)) (call .write .ensures)
+    subst (λ (r : Area). Writes areas (a .buf .now) (call .written .result) (call .written .last .0) (valuesOf r)) (λ i. recordOf (a .repeat) (a .source) (a .sequence) (a .destination) (a .resent) (a .kind) (circleOf (longitude i) (latitude i) (a .radius)) (a .month) (a .day) (a .hour) (a .minute) (a .second-month) (a .second-day) (a .second-hour) (a .advice)) (call .written .ensures)
 
 pub bellnewt-circle-write-spec : {M : Type 1} → statement M
-bellnewt-circle-write-spec = tie.close (tie.spec write-requires same-length returns)
+bellnewt-circle-write-spec = tie.close (tie.spec written-requires same-length returns)
