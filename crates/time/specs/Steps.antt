@@ -1,7 +1,9 @@
 -- What the code's steps over a time answer: read, and judged. Assumes nothing.
 use Prim.Native.Nat.{ℕ}
-use mathlib.Core.Bool.{true}
+use mathlib.Core.Bool.{true, cond}
 use mathlib.Core.List.{List}
+use lib.ListN.{length}
+use Rattle.bits.specs.Answers.{within, got}
 use Rattle.field.specs.Pieces.{unpieced, pieced}
 use Rattle.layout.specs.Reading.{parted, grouped}
 use Rattle.layout.specs.Walk.{onward}
@@ -10,12 +12,6 @@ use Rattle.layout.specs.declared.walk.Walk.{Walk}
 
 abbrev pub dateRead : List ℕ → Walk → Walk
 dateRead s r = parted s 5 0 23 (parted s 5 0 31 (parted s 4 0 12 r))
-
-abbrev pub timeRead : List ℕ → Walk → Walk
-timeRead s r = grouped s 20 (parted s 6 0 59 (dateRead s r)) r
-
-abbrev pub shortRead : List ℕ → Walk → Walk
-shortRead s r = grouped s 14 (dateRead s r) r
 
 abbrev pub datePieced : Pieces → Pieces
 datePieced g = pieced 5 0 23 (pieced 5 0 31 (pieced 4 0 12 g))
@@ -28,3 +24,10 @@ timeJudged v r = judgedAs (pieced 6 0 59 (datePieced (unpieced 20 v))) r
 
 abbrev pub shortJudged : ℕ → Walk → Walk
 shortJudged v r = judgedAs (datePieced (unpieced 14 v)) r
+
+-- read: a time that is there is judged by its number, one that is cut part by part
+abbrev pub timeRead : List ℕ → Walk → Walk
+timeRead s r = cond (within (length s) (r .at) 20) (timeJudged (got s (r .at) 20) r) (grouped s 20 (parted s 6 0 59 (dateRead s r)) r)
+
+abbrev pub shortRead : List ℕ → Walk → Walk
+shortRead s r = cond (within (length s) (r .at) 14) (shortJudged (got s (r .at) 14) r) (grouped s 14 (dateRead s r) r)

@@ -95,11 +95,15 @@ impl ShortTime {
     }
 }
 
-// ---- reading: a time's parts are judged one by one, and it is corrected as one number
+// ---- reading: a time's parts are judged one by one, and it is corrected as one number; where it is there, by its number, so that the bytes are looked at once
 
 pub fn read(s: &[u8], w: Walk) -> Walk
     ensures { λ r. ⌜ (r ≡ timeRead (now (s .entry)) w) × (r .v < 2 ^ 20) ⌝ }
 {
+    let at = w.at;
+    if bits::holds(s.len(), at, Time::BITS) {
+        return judged(w, bits::get(s, at, Time::BITS));
+    }
     let parts = date(s, w).part(s, 6, 0, 59);
     w.group(s, Time::BITS, parts)
 }
@@ -107,6 +111,10 @@ pub fn read(s: &[u8], w: Walk) -> Walk
 pub fn read_short(s: &[u8], w: Walk) -> Walk
     ensures { λ r. ⌜ (r ≡ shortRead (now (s .entry)) w) × (r .v < 2 ^ 14) ⌝ }
 {
+    let at = w.at;
+    if bits::holds(s.len(), at, ShortTime::BITS) {
+        return judged_short(w, bits::get(s, at, ShortTime::BITS));
+    }
     let parts = date(s, w);
     w.group(s, ShortTime::BITS, parts)
 }

@@ -2,23 +2,27 @@
 use mathlib.Core.Path.{_≡_, refl, sym, ap, ap₂, _∙_, subst⁻¹}
 use mathlib.Core.Bool.{Bool, true, false, cond, _&&_}
 use mathlib.Core.List.{List, [], _∷_}
-use Prim.Native.Nat.{ℕ, zero, suc, _+_, _-_, _/_, _%_, _≤_, _<_, _^_}
+use Prim.Native.Nat.{ℕ, zero, suc, _+_, _-_, _*_, _/_, _%_, _≤_, _<_, _^_}
 use native.Mathlib.Omega.{arith}
 use native.Mathlib.Nat.{zero-add}
 use lib.Dec.{leb, ltb, eqb}
-use lib.ListN.{length, take, drop}
+use lib.ListN.{length, take, drop, length-drop}
 use lib.Pow.{pow-pos}
-use lib.Seq.{take-at, drop-at}
+use lib.Seq.{length-take-le, take-at, drop-at}
 use borrow.Author.Tests.{le-leb, lt-ltb, ltb-true, eq-eqb, ne-eqb, eqb-true, eqb-false}
-use Rattle.bits.specs.Bits.{valueOf, digits}
+use Rattle.bits.specs.Answers.{got}
+use Rattle.bits.specs.Bits.{valueOf, digits, bitsOf, fieldAt}
+use Rattle.bits.specs.laws.Answers.{got-fits}
+use Rattle.bits.specs.laws.Bytes.{length-bits}
 use Rattle.bits.specs.laws.Digits.{length-digits, digits-add, value-digits, value-digits-mod}
 use Rattle.format.specs.Fmt.{Out, Fault, good, bad, orBad, Judge, Fmt, field}
 use Rattle.field.specs.Pieces.{unpieced, pieced, unlessZero}
 use Rattle.layout.specs.Walk.{onward}
-use Rattle.format.specs.Words.{_‥_, Part, part, walk, wide, orElse, unless, orZero}
+use Rattle.format.specs.Words.{_‥_, Part, part, walk, wide, orElse, unless, orZero, free}
 use Rattle.format.specs.laws.Extent.{opens-field}
 use Rattle.layout.specs.laws.Judging.{Judging, judge}
-use Rattle.format.specs.laws.Tells.{wrong, blamed}
+use Rattle.format.specs.laws.Tells.{wrong, wrong-bits, blamed}
+use Rattle.layout.specs.laws.Step.{Reading, step}
 use Rattle.field.specs.declared.pieces.Pieces.{Pieces}
 use Rattle.layout.specs.declared.walk.Walk.{Walk}
 
@@ -141,3 +145,31 @@ piece-zero {j} {h} {w} {v} {g} e d = subst⁻¹ (λ q. Pieced (orZero w j) h w v
 pub judge-group : {o : Out (List Bool)} {f : Fmt} {h : List ℕ} {at v : ℕ} {vs : List ℕ} {r p : Walk} {w : ℕ} {j : Judge} {m : List ℕ → Bool} {g : Pieces} → at + w < 2 ^ 64 → Pieced j h w v g
     → Judging o (field w j m f) h at (v ∷ vs) r → p ≡ onward (g .width) true (g .v) (g .code) (g .into) r → Judging o f (v ∷ h) (at + w) vs p
 judge-group {r = r} {g = g} reach x e d = judge true (g .v) (g .code) (g .into) (x .inner) reach opens-field (x .so) e (d ∙ ap (λ w. onward w true (g .v) (g .code) (g .into) r) (x .width))
+
+-- past a field of parts that is there: what its number's parts say, its bits say
+pub step-pieced : {o : Out (List ℕ)} {all : Fmt} {i : ℕ} {s : List ℕ} {h : List ℕ} {at : ℕ} {k : List ℕ → List ℕ} {r q : Walk} {w : ℕ} {j : Judge} {f : Fmt} {g : Pieces}
+    → 0 < w → w ≤ 32 → at + w < 2 ^ 64 → at + w ≤ length s * 8 → Pieced j h w (got s at w) g → Reading o all i s (field w j free f) h at k r
+    → q ≡ onward (g .width) true (g .v) (g .code) (g .into) r → Reading o all i s f (got s at w ∷ h) (at + w) (λ vs. k (got s at w ∷ vs)) q
+unfolding fieldAt
+step-pieced {o} {all} {i} {s} {h} {at} {k} {r} {w = w} {j} {f} {g} some small reach fits x e d =
+    subst⁻¹ (λ q. Reading o all i s f (got s at w ∷ h) (at + w) (λ vs. k (got s at w ∷ vs)) q)
+    (d ∙ ap (λ w. onward w true (g .v) (g .code) (g .into) r) (x .width))
+    (step (g .v) e (record { findable = λ e. (some, small); reach = reach; into = x .inner; same = same; holds = λ z. is }))
+  where
+    rest : List Bool
+    rest = drop at (bitsOf s)
+
+    is : got s at w ≡ valueOf (take w rest)
+    is = got-fits s at w small fits
+
+    there : w ≤ length rest
+    there = omega (arith, fits, length-drop at (bitsOf s), length-bits s)
+
+    none-more : (x : Fault) → orElse x good ≡ x
+    none-more good = refl
+    none-more (bad c i) = refl
+
+    same : orElse (j h (take w rest)) (orBad (leb w (length rest)) 1) ≡ blamed (g .code) (g .into)
+    same =
+        ap (λ b. orElse (j h (take w rest)) (orBad b 1)) (le-leb w (length rest) there) ∙ none-more (j h (take w rest))
+        ∙ sym (wrong-bits w (j h) (take w rest) (length-take-le w rest there)) ∙ ap (wrong w (j h)) (sym is) ∙ x .so
