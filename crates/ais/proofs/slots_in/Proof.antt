@@ -55,7 +55,7 @@ returns-2 c =
     let ls = a .limits .now in
     let i = loop .loop .i in
     let here = first-at (suc i) ls (a .bytes) i (test .loop-test .taken) in
-    let e : firstOf 1 ls (a .bytes) ≡ accepted (suc i) = sym (loop .loop .inv .1) ∙ here ∙ ap (λ b. cond b (accepted (suc i)) (firstOf (suc (suc i)) (drop (suc i) ls) (a .bytes))) (le-leb (a .bytes) (getD ls i 0) (c .if2 .taken)) in
+    let e : firstOf 1 ls (a .bytes) ≡ accepted (suc i) = sym (loop .loop .inv .1) ∙ here ∙ ap (λ b. cond b (accepted (suc i)) (firstOf (suc (suc i)) (drop (suc i) ls) (a .bytes))) (le-leb (a .bytes) (getD ls i 0) (omega (arith, c .if2 .taken))) in
     let n : i + 1 ≡ suc i = omega arith in
     ap Slots n ∙ rw (ne-eqb (a .bytes) 0 (none .if1 .left)) (sym (ap answerOf e))
 

@@ -1,5 +1,6 @@
 -- `spelled` tests each part, then joins them.
 use mathlib.Core.Path.{_≡_, refl}
+use native.Mathlib.Omega.{arith}
 use borrow.Author.Tests.{lt-ltb, le-ltb}
 use Rattle.time.specs.Time.{spellShort}
 use borrow.Author.Needs.{needs}
@@ -18,7 +19,7 @@ returns-3 : tie.Need-returns-3
 unfolding spellShort
 returns-3 c =
     let t = c .before .before .before .args .self in
-    rw (lt-ltb (t .month) 16 (c .before .before .if1 .left), lt-ltb (t .day) 32 (c .before .if2 .left), le-ltb (t .hour) 32 (c .if3 .taken)) refl
+    rw (lt-ltb (t .month) 16 (c .before .before .if1 .left), lt-ltb (t .day) 32 (c .before .if2 .left), le-ltb (t .hour) 32 (omega (arith, c .if3 .taken))) refl
 
 cast-result : tie.Need-cast-result
 cast-result c = search needs
