@@ -7,6 +7,7 @@ use lib.ListN.{length}
 use Rattle.bits.specs.Answers.{within, got}
 use Rattle.format.specs.Fmt.{pad}
 use Rattle.field.specs.Faults.{ranging, signing, blanking, closes}
+use Rattle.field.specs.declared.pieces.Pieces.{Pieces}
 use Rattle.layout.specs.Walk.{onward}
 use Rattle.layout.specs.declared.walk.Walk.{Walk}
 
@@ -55,6 +56,14 @@ grouped s w p r = let n = onward w true (got s (r .at) w) 0 0 r in record {
   spot = n .spot;
   width = n .width;
 }
+
+-- past a field that is there: g is what its number's parts led to
+abbrev pub judgedAs : Pieces → Walk → Walk
+judgedAs g r = onward (g .width) true (g .v) (g .code) (g .into) r
+
+-- past a field of n bits: by its number where it is there, else by its parts, which ended in the walk p
+abbrev pub partwise : List ℕ → ℕ → Pieces → Walk → Walk → Walk
+partwise s n g p r = cond (within (length s) (r .at) n) (judgedAs g r) (grouped s n p r)
 
 -- ---- the end
 

@@ -6,6 +6,7 @@ pub mod Along
 pub mod Walked
 pub mod Judging
 pub mod Pieces
+pub mod Parts
 pub mod Loops
 pub mod Making
 pub mod Flat

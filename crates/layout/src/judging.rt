@@ -2,6 +2,7 @@
 ghost use mathlib.Core.Bool.{true, false};
 ghost use mathlib.Core.Path.{_≡_};
 ghost use Rattle.layout.specs.Judging.{valued, filled, signedlyValued, made, closing};
+ghost use Rattle.layout.specs.Reading.{judgedAs};
 ghost use Rattle.layout.specs.Walk.{onward};
 use crate::walk::Walk;
 use field::faults::inside;
@@ -39,7 +40,7 @@ impl Walk {
 
     // A record's value that is made of parts.
     pub fn group_value(self, g: Pieces) -> Self
-        ensures { λ r. ⌜ r ≡ onward (g .width) true (g .v) (g .code) (g .into) self ⌝ }
+        ensures { λ r. ⌜ r ≡ judgedAs g self ⌝ }
     {
         self.on(g.width, true, g.v, g.code, g.into)
     }

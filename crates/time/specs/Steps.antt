@@ -1,12 +1,9 @@
 -- What the code's steps over a time answer: read, and judged. Assumes nothing.
 use Prim.Native.Nat.{ℕ}
-use mathlib.Core.Bool.{true, cond}
 use mathlib.Core.List.{List}
-use lib.ListN.{length}
-use Rattle.bits.specs.Answers.{within, got}
+use Rattle.bits.specs.Answers.{got}
 use Rattle.field.specs.Pieces.{unpieced, pieced}
-use Rattle.layout.specs.Reading.{parted, grouped}
-use Rattle.layout.specs.Walk.{onward}
+use Rattle.layout.specs.Reading.{parted, judgedAs, partwise}
 use Rattle.field.specs.declared.pieces.Pieces.{Pieces}
 use Rattle.layout.specs.declared.walk.Walk.{Walk}
 
@@ -16,18 +13,21 @@ dateRead s r = parted s 5 0 23 (parted s 5 0 31 (parted s 4 0 12 r))
 abbrev pub datePieced : Pieces → Pieces
 datePieced g = pieced 5 0 23 (pieced 5 0 31 (pieced 4 0 12 g))
 
-abbrev pub judgedAs : Pieces → Walk → Walk
-judgedAs g r = onward (g .width) true (g .v) (g .code) (g .into) r
+abbrev pub timePieced : ℕ → Pieces
+timePieced v = pieced 6 0 59 (datePieced (unpieced 20 v))
+
+abbrev pub shortPieced : ℕ → Pieces
+shortPieced v = datePieced (unpieced 14 v)
 
 abbrev pub timeJudged : ℕ → Walk → Walk
-timeJudged v r = judgedAs (pieced 6 0 59 (datePieced (unpieced 20 v))) r
+timeJudged v r = judgedAs (timePieced v) r
 
 abbrev pub shortJudged : ℕ → Walk → Walk
-shortJudged v r = judgedAs (datePieced (unpieced 14 v)) r
+shortJudged v r = judgedAs (shortPieced v) r
 
 -- read: a time that is there is judged by its number, one that is cut part by part
 abbrev pub timeRead : List ℕ → Walk → Walk
-timeRead s r = cond (within (length s) (r .at) 20) (timeJudged (got s (r .at) 20) r) (grouped s 20 (parted s 6 0 59 (dateRead s r)) r)
+timeRead s r = partwise s 20 (timePieced (got s (r .at) 20)) (parted s 6 0 59 (dateRead s r)) r
 
 abbrev pub shortRead : List ℕ → Walk → Walk
-shortRead s r = cond (within (length s) (r .at) 14) (shortJudged (got s (r .at) 14) r) (grouped s 14 (dateRead s r) r)
+shortRead s r = partwise s 14 (shortPieced (got s (r .at) 14)) (dateRead s r) r

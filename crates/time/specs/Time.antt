@@ -1,7 +1,7 @@
 -- The times of the papers (paper 01, "AIS": "Times: month 0 to 12, day 0 to 31, hour 0 to 23, minute 0 to 59"). Assumes nothing.
 use Prim.Native.Nat.{ℕ, _+_, _*_, _/_, _%_, _^_}
 use mathlib.Core.Bool.{cond, _&&_}
-use mathlib.Core.List.{List, [], _∷_, _++_}
+use mathlib.Core.List.{List, [], _∷_}
 use lib.Dec.{ltb}
 use Rattle.format.specs.Fmt.{Fmt}
 use Rattle.format.specs.Words.{Part, part, _‥_, group}

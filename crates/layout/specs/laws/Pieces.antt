@@ -17,6 +17,7 @@ use Rattle.bits.specs.laws.Bytes.{length-bits}
 use Rattle.bits.specs.laws.Digits.{length-digits, digits-add, value-digits, value-digits-mod}
 use Rattle.format.specs.Fmt.{Out, Fault, good, bad, orBad, Judge, Fmt, field}
 use Rattle.field.specs.Pieces.{unpieced, pieced, unlessZero}
+use Rattle.layout.specs.Reading.{judgedAs}
 use Rattle.layout.specs.Walk.{onward}
 use Rattle.format.specs.Words.{_‥_, Part, part, walk, wide, orElse, unless, orZero, free}
 use Rattle.format.specs.laws.Extent.{opens-field}
@@ -143,13 +144,13 @@ piece-zero {j} {h} {w} {v} {g} e d = subst⁻¹ (λ q. Pieced (orZero w j) h w v
 
 -- past a field of parts
 pub judge-group : {o : Out (List Bool)} {f : Fmt} {h : List ℕ} {at v : ℕ} {vs : List ℕ} {r p : Walk} {w : ℕ} {j : Judge} {m : List ℕ → Bool} {g : Pieces} → at + w < 2 ^ 64 → Pieced j h w v g
-    → Judging o (field w j m f) h at (v ∷ vs) r → p ≡ onward (g .width) true (g .v) (g .code) (g .into) r → Judging o f (v ∷ h) (at + w) vs p
+    → Judging o (field w j m f) h at (v ∷ vs) r → p ≡ judgedAs g r → Judging o f (v ∷ h) (at + w) vs p
 judge-group {r = r} {g = g} reach x e d = judge true (g .v) (g .code) (g .into) (x .inner) reach opens-field (x .so) e (d ∙ ap (λ w. onward w true (g .v) (g .code) (g .into) r) (x .width))
 
 -- past a field of parts that is there: what its number's parts say, its bits say
 pub step-pieced : {o : Out (List ℕ)} {all : Fmt} {i : ℕ} {s : List ℕ} {h : List ℕ} {at : ℕ} {k : List ℕ → List ℕ} {r q : Walk} {w : ℕ} {j : Judge} {f : Fmt} {g : Pieces}
     → 0 < w → w ≤ 32 → at + w < 2 ^ 64 → at + w ≤ length s * 8 → Pieced j h w (got s at w) g → Reading o all i s (field w j free f) h at k r
-    → q ≡ onward (g .width) true (g .v) (g .code) (g .into) r → Reading o all i s f (got s at w ∷ h) (at + w) (λ vs. k (got s at w ∷ vs)) q
+    → q ≡ judgedAs g r → Reading o all i s f (got s at w ∷ h) (at + w) (λ vs. k (got s at w ∷ vs)) q
 unfolding fieldAt
 step-pieced {o} {all} {i} {s} {h} {at} {k} {r} {w = w} {j} {f} {g} some small reach fits x e d =
     subst⁻¹ (λ q. Reading o all i s f (got s at w ∷ h) (at + w) (λ vs. k (got s at w ∷ vs)) q)

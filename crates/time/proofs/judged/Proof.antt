@@ -1,7 +1,8 @@
 -- `judged` is the step over the number whose parts are judged.
 use mathlib.Core.Path.{ap, _∙_}
 use Rattle.field.specs.Pieces.{pieced}
-use Rattle.time.specs.Steps.{datePieced, judgedAs}
+use Rattle.layout.specs.Reading.{judgedAs}
+use Rattle.time.specs.Steps.{datePieced}
 use borrow.Author.Needs.{needs}
 use Rattle.time.proofs.judged.Statement.{statement}
 use Rattle.time.proofs.judged.Tie as tie

@@ -1,6 +1,7 @@
 -- `judged_short` is the step over the number whose parts are judged.
 use mathlib.Core.Path.{ap, _∙_}
-use Rattle.time.specs.Steps.{datePieced, judgedAs}
+use Rattle.layout.specs.Reading.{judgedAs}
+use Rattle.time.specs.Steps.{datePieced}
 use borrow.Author.Needs.{needs}
 use Rattle.time.proofs.judged_short.Statement.{statement}
 use Rattle.time.proofs.judged_short.Tie as tie

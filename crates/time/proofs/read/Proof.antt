@@ -3,9 +3,9 @@ use mathlib.Core.Path.{sym, ap, _∙_}
 use Rattle.field.specs.Pieces.{pieced}
 use Rattle.layout.specs.Reading.{parted, grouped}
 use Rattle.layout.specs.Walk.{onward}
+use Rattle.layout.specs.laws.Parts.{by-number, by-parts}
 use Rattle.layout.specs.laws.Reading.{got-lt}
 use Rattle.time.specs.Steps.{timeJudged}
-use Rattle.time.specs.laws.Walking.{by-number, by-parts}
 use borrow.Author.Needs.{needs}
 use Rattle.time.proofs.read.Statement.{statement}
 use Rattle.time.proofs.read.Tie as tie

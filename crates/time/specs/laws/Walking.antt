@@ -1,32 +1,29 @@
 -- A time read and judged: where the code stands behind it. Assumes nothing.
-use mathlib.Core.Path.{_≡_, refl, ap, _∙_, subst⁻¹}
-use mathlib.Core.Bool.{Bool, true, false, cond}
+use mathlib.Core.Path.{_≡_, refl}
+use mathlib.Core.Bool.{Bool}
 use mathlib.Core.List.{List, [], _∷_}
 use Prim.Native.Nat.{ℕ, _+_, _≤_, _<_, _^_}
 use native.Mathlib.Omega.{arith}
 use lib.Dec.{lit<, lit≤}
-use lib.ListN.{length, take, drop, length-take}
-use Rattle.bits.specs.Answers.{within, got}
+use lib.ListN.{take, drop}
+use Rattle.bits.specs.Answers.{got}
 use Rattle.bits.specs.Bits.{valueOf, bitsOf}
-use Rattle.bits.specs.laws.Answers.{within-true}
-use Rattle.format.specs.Fmt.{Out, Fmt, field}
-use Rattle.layout.specs.Reading.{parted, grouped}
-use Rattle.layout.specs.Walk.{onward}
-use Rattle.format.specs.Words.{Part, part, _‥_, walk, wide, free}
-use Rattle.layout.specs.laws.Group.{Parting, Passes, part-start, part-step, part-end, parts-there, group-step}
+use Rattle.format.specs.Fmt.{Out, Fmt}
+use Rattle.layout.specs.Reading.{parted}
+use Rattle.format.specs.Words.{Part, part, _‥_, walk, wide}
+use Rattle.layout.specs.laws.Group.{Parting, part-start, part-step, part-end}
 use Rattle.layout.specs.laws.Judging.{Judging}
-use Rattle.layout.specs.laws.Pieces.{Pieced, piece-start, piece-step, piece-end, judge-group, step-pieced}
+use Rattle.layout.specs.laws.Parts.{step-parts}
+use Rattle.layout.specs.laws.Pieces.{Pieced, piece-start, piece-step, piece-end, judge-group}
 use Rattle.layout.specs.laws.Step.{Reading}
 use Rattle.format.specs.laws.Zero.{Judged, Numbered, Coded, walk-numbered}
-use Rattle.field.specs.Pieces.{unpieced, pieced}
-use Rattle.field.specs.declared.pieces.Pieces.{Pieces}
 use Rattle.layout.specs.declared.walk.Walk.{Walk}
-use Rattle.time.specs.Steps.{dateRead, datePieced, judgedAs, timeRead, shortRead, timeJudged, shortJudged}
+use Rattle.time.specs.Steps.{dateRead, timePieced, shortPieced, timeRead, shortRead, timeJudged, shortJudged}
 use Rattle.time.specs.Time.{dateParts, time, shortTime}
 
 -- ---- the number's parts judged
 
-time-pieces : (h : List ℕ) (v : ℕ) → Pieced (walk (dateParts (part 6 4 (0 ‥ 59) ∷ [])) 0) h 20 v (pieced 6 0 59 (datePieced (unpieced 20 v)))
+time-pieces : (h : List ℕ) (v : ℕ) → Pieced (walk (dateParts (part 6 4 (0 ‥ 59) ∷ [])) 0) h 20 v (timePieced v)
 unfolding wide
 time-pieces h v =
     let g0 = piece-start 20 v (dateParts (part 6 4 (0 ‥ 59) ∷ [])) h refl refl in
@@ -35,7 +32,7 @@ time-pieces h v =
     let g3 = piece-step 5 0 23 g2 refl in
     piece-end (piece-step 6 0 59 g3 refl)
 
-short-pieces : (h : List ℕ) (v : ℕ) → Pieced (walk (dateParts []) 0) h 14 v (datePieced (unpieced 14 v))
+short-pieces : (h : List ℕ) (v : ℕ) → Pieced (walk (dateParts []) 0) h 14 v (shortPieced v)
 unfolding wide
 short-pieces h v =
     let g0 = piece-start 14 v (dateParts []) h refl refl in
@@ -69,50 +66,18 @@ date-parts s h at r n ps inner reach here =
     part-step s at n 9 5 0 23 (omega (arith, inner)) (lit< tt) (lit≤ tt) _ ps reach p2 refl
 
 module _ {o : Out (List ℕ)} {all : Fmt} {i : ℕ} {s : List ℕ} {h : List ℕ} {at : ℕ} {k : List ℕ → List ℕ} {r q : Walk} {f : Fmt} where
-  -- over a field of the parts ps, which led to p
-  parts-read : (n : ℕ) (ps : List Part) (p : Walk) → wide ps ≡ n → 0 < n → n ≤ 32 → at + n < 2 ^ 64 → Passes r (walk ps 0 h (take n (drop at (bitsOf s)))) at p
-      → Reading o all i s (field n (walk ps 0) free f) h at k r → q ≡ grouped s n p r → Reading o all i s f (q .v ∷ h) (at + n) (λ vs. k (q .v ∷ vs)) q
-  unfolding grouped onward
-  parts-read n ps p all-wide some small reach pass e d =
-      let v : q .v ≡ got s at n = ap (λ q. q .v) d ∙ ap (λ a. got s a n) (e .here) in
-      subst⁻¹ (λ v. Reading o all i s f (v ∷ h) (at + n) (λ vs. k (v ∷ vs)) q) v
-      (group-step p some small reach e pass (λ z. omega (arith, parts-there ps 0 h (take n (drop at (bitsOf s))) z, all-wide, length-take n (drop at (bitsOf s)))) d)
-
-  -- by its number where it is there, else by its parts
-  time-by : (n : ℕ) (ps : List Part) (p : Walk) {g : Pieces} → wide ps ≡ n → 0 < n → n ≤ 32 → at + n < 2 ^ 64 → Passes r (walk ps 0 h (take n (drop at (bitsOf s)))) at p
-      → Pieced (walk ps 0) h n (got s at n) g → Reading o all i s (field n (walk ps 0) free f) h at k r
-      → q ≡ cond (within (length s) at n) (judgedAs g r) (grouped s n p r) → Reading o all i s f (q .v ∷ h) (at + n) (λ vs. k (q .v ∷ vs)) q
-  unfolding onward
-  time-by n ps p {g} all-wide some small reach pass x e d = go (within (length s) at n) refl
-    where
-      go : (b : Bool) → within (length s) at n ≡ b → Reading o all i s f (q .v ∷ h) (at + n) (λ vs. k (q .v ∷ vs)) q
-      go true b =
-          let is : q ≡ judgedAs g r = d ∙ rw b refl in
-          let v : q .v ≡ got s at n = ap (λ q. q .v) is ∙ x .value in
-          subst⁻¹ (λ v. Reading o all i s f (v ∷ h) (at + n) (λ vs. k (v ∷ vs)) q) v (step-pieced some small reach (within-true (length s) at n b .1) x e is)
-      go false b = parts-read n ps p all-wide some small reach pass e (d ∙ rw b refl)
-
   pub time-read : at + 20 < 2 ^ 64 → Reading o all i s (time f) h at k r → q ≡ timeRead s r → Reading o all i s f (q .v ∷ h) (at + 20) (λ vs. k (q .v ∷ vs)) q
   unfolding wide
   time-read reach e d =
       let ps = part 6 4 (0 ‥ 59) ∷ [] in
       let p = part-step s at 20 14 6 0 59 (lit≤ tt) (lit< tt) (lit≤ tt) _ [] reach (date-parts s h at r 20 ps (lit≤ tt) reach (e .here)) refl in
-      time-by 20 (dateParts ps) (parted s 6 0 59 (dateRead s r)) refl (lit< tt) (lit≤ tt) reach (part-end p) (time-pieces h (got s at 20)) e
-      (d ∙ ap (λ a. cond (within (length s) a 20) (timeJudged (got s a 20) r) (grouped s 20 (parted s 6 0 59 (dateRead s r)) r)) (e .here))
+      step-parts 20 (dateParts ps) (parted s 6 0 59 (dateRead s r)) refl (lit< tt) (lit≤ tt) reach (λ _. refl) (part-end p) (time-pieces h (got s (r .at) 20)) e d
 
   pub short-read : at + 14 < 2 ^ 64 → Reading o all i s (shortTime f) h at k r → q ≡ shortRead s r → Reading o all i s f (q .v ∷ h) (at + 14) (λ vs. k (q .v ∷ vs)) q
   unfolding wide
   short-read reach e d =
-      time-by 14 (dateParts []) (dateRead s r) refl (lit< tt) (lit≤ tt) reach (part-end (date-parts s h at r 14 [] (lit≤ tt) reach (e .here))) (short-pieces h (got s at 14)) e
-      (d ∙ ap (λ a. cond (within (length s) a 14) (shortJudged (got s a 14) r) (grouped s 14 (dateRead s r) r)) (e .here))
-
--- ---- which way the code went
-
-pub by-number : (z : Walk) {b : Bool} {x y : Walk} → b ≡ true → x ≡ y → x ≡ cond b y z
-by-number z {x = x} {y} e p = subst⁻¹ (λ b. x ≡ cond b y z) e p
-
-pub by-parts : (y : Walk) {b : Bool} {x z : Walk} → b ≡ false → x ≡ z → x ≡ cond b y z
-by-parts y {x = x} {z} e p = subst⁻¹ (λ b. x ≡ cond b y z) e p
+      let p = date-parts s h at r 14 [] (lit≤ tt) reach (e .here) in
+      step-parts 14 (dateParts []) (dateRead s r) refl (lit< tt) (lit≤ tt) reach (λ _. refl) (part-end p) (short-pieces h (got s (r .at) 14)) e d
 
 -- ---- their refusals are numbers of the paper
 
