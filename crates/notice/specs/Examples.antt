@@ -6,7 +6,8 @@ use Rattle.bits.specs.Bits.{bit, valueOf, digits, bitsOf, bytesOf}
 use Rattle.format.specs.Fmt.{accepted, readField, read, writeField, sized, write, spot}
 use Rattle.format.specs.Message.{readMessage, writeMessage, correctMessage}
 use Rattle.format.specs.Words.{walk, orZero}
-use Rattle.notice.specs.Notice.{subtypes, subtype, areas, english, inLanguage, text, notice, notices}
+use Rattle.notice_parts.specs.Parts.{subtypes, subtype}
+use Rattle.notice.specs.Notice.{areas, english, inLanguage, text, notice, notices}
 
 -- source, station, serial, year, type, subtype, expiry, no areas, no text
 abbrev values : ℕ → List ℕ

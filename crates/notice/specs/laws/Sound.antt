@@ -8,9 +8,11 @@ use lib.ListN.{length}
 use Rattle.bits.specs.Bits.{bytesOf}
 use Rattle.format.specs.Fmt.{bad, Fmt, end}
 use Rattle.format.specs.Message.{Sound}
-use Rattle.format.specs.Words.{any, _‥_, _▹_, unless, walk, num, deciding}
-use Rattle.format.specs.laws.Zero.{Numbered, Judged, walk-numbered, zero-numbered, only-numbered}
-use Rattle.notice.specs.Notice.{moment, angle, latitude, longitude, points, least, inside, areas, inLanguage, text, notice, notices}
+use Rattle.format.specs.Words.{any, _‥_, _▹_, unless, num, deciding}
+use Rattle.format.specs.laws.Zero.{Numbered, Judged, only-numbered}
+use Rattle.notice_parts.specs.Parts.{latitude, longitude}
+use Rattle.notice_parts.specs.laws.Walking.{expiry-numbered, latitude-numbered, longitude-numbered}
+use Rattle.notice.specs.Notice.{points, least, inside, areas, inLanguage, text, notice, notices}
 
 pub sound : (l : ℕ) → Sound (notices l)
 unfolding notices
@@ -34,13 +36,10 @@ spoken l n h b i e = go (inLanguage l (bytesOf n b)) e
     go true e = let z : _≡_ {A = ℕ} 0 1 = cc in omega arith
     go false e = let z : _≡_ {A = ℕ} 4 0 = cc in omega arith
 
-angled : (d most : ℕ) → Numbered (walk (angle d most) 0)
-angled d most = walk-numbered (angle d most) 0 ((λ z. omega arith), ((λ z. omega arith), ((λ z. omega arith), ((λ z. omega arith), tt))))
-
 pointed : (n : ℕ) (f : Fmt) → Judged f → Judged (points n f)
 unfolding points
 pointed zero f j = j
-pointed (suc n) f j = (angled 7 90, (angled 8 180, pointed n f j))
+pointed (suc n) f j = (latitude-numbered, (longitude-numbered, pointed n f j))
 
 enclosed : (k : ℕ) (f : Fmt) → Judged f → Judged (inside k f)
 unfolding inside
@@ -48,7 +47,7 @@ enclosed k f j = go (eqb k 0) (eqb k 3)
   where
     go : (x y : Bool) → Judged (cond x (num 8 any f) (cond y (latitude ▹ longitude ▹ num 10 any ▹ num 2 any ▹ f) (deciding 4 (least k ‥ 15) λ n. points n f)))
     go true y = (only-numbered 8 3 _, j)
-    go false true = (angled 7 90, (angled 8 180, (only-numbered 10 3 _, (only-numbered 2 3 _, j))))
+    go false true = (latitude-numbered, (longitude-numbered, (only-numbered 10 3 _, (only-numbered 2 3 _, j))))
     go false false = (only-numbered 4 3 _, λ n. pointed n f j)
 
 listed : (n : ℕ) (f : Fmt) → Judged f → Judged (areas n f)
@@ -70,10 +69,7 @@ judged l = (
           only-numbered 4 3 _,
           (
             only-numbered 4 3 _,
-            (
-              zero-numbered 21 (walk moment 0) (walk-numbered moment 0 ((λ z. omega arith), ((λ z. omega arith), ((λ z. omega arith), ((λ z. omega arith), ((λ z. omega arith), tt)))))),
-              (only-numbered 4 3 _, λ n. listed n (text l end) (λ m. (spoken l m, tt))),
-            ),
+            (expiry-numbered, (only-numbered 4 3 _, λ n. listed n (text l end) (λ m. (spoken l m, tt)))),
           ),
         ),
       ),
