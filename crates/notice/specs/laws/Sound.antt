@@ -14,9 +14,9 @@ use Rattle.notice_parts.specs.Parts.{latitude, longitude}
 use Rattle.notice_parts.specs.laws.Walking.{expiry-numbered, latitude-numbered, longitude-numbered}
 use Rattle.notice.specs.Notice.{points, least, inside, areas, inLanguage, text, notice, notices}
 
-pub sound : (l : ℕ) → Sound (notices l)
+pub sound : (english : Bool) → Sound (notices english)
 unfolding notices
-sound l = record {
+sound english = record {
   sized = λ s vs e. first (leb 8 (length s)) (leb (length s) 12_978);
   kinds = λ b vs e. refl;
   stays = λ vs i v p w e. refl;
@@ -29,8 +29,8 @@ sound l = record {
 
 -- ---- every judge refuses by a number of the paper
 
-spoken : (l n : ℕ) → Numbered (λ h b. unless (inLanguage l (bytesOf n b)) 4 0)
-spoken l n h b i e = go (inLanguage l (bytesOf n b)) e
+spoken : (english : Bool) (n : ℕ) → Numbered (λ h b. unless (inLanguage english (bytesOf n b)) 4 0)
+spoken english n h b i e = go (inLanguage english (bytesOf n b)) e
   where
     go : (x : Bool) → unless x 4 0 ≡ bad 0 i → ⊥
     go true e = let z : _≡_ {A = ℕ} 0 1 = cc in omega arith
@@ -55,9 +55,9 @@ unfolding areas
 listed zero f j = j
 listed (suc n) f j = (only-numbered 3 3 _, λ k. enclosed k (areas n f) (listed n f j))
 
-pub judged : (l : ℕ) → Judged (notice l)
+pub judged : (english : Bool) → Judged (notice english)
 unfolding notice text
-judged l = (
+judged english = (
   only-numbered 5 3 _,
   (
     only-numbered 4 3 _,
@@ -69,7 +69,10 @@ judged l = (
           only-numbered 4 3 _,
           (
             only-numbered 4 3 _,
-            (expiry-numbered, (only-numbered 4 3 _, λ n. listed n (text l end) (λ m. (spoken l m, tt)))),
+            (
+              zero-numbered 21 (walk moment 0) (walk-numbered moment 0 ((λ z. omega arith), ((λ z. omega arith), ((λ z. omega arith), ((λ z. omega arith), ((λ z. omega arith), tt)))))),
+              (only-numbered 4 3 _, λ n. listed n (text english end) (λ m. (spoken english m, tt))),
+            ),
           ),
         ),
       ),
