@@ -2,6 +2,7 @@
 ghost use mathlib.Core.Path.{_≡_};
 ghost use Rattle.notice_areas.specs.Areas.{leastOf, kindOf};
 ghost use Rattle.notice_areas.specs.Steps.{openedAs, closedAs};
+ghost use Rattle.notice_areas.specs.Walks.{Walks};
 use layout::walk::Walk;
 
 // The kinds of area whose number decides what they hold; all others are counted points.
@@ -13,6 +14,33 @@ pub const CIRCLE: u64 = 3;
 pub struct Opened {
     pub walk: Walk,
     pub points: u64,
+}
+
+// Over `count` areas: the first bad point leaves both loops.
+pub fn walk(s: &[u8], from: Walk, count: u8) -> Walk
+    ensures { λ r. ⌜ Walks (now (s .entry)) count from r ⌝ }
+{
+    let most = count as u64;
+    let mut w = from;
+    let mut i: u64 = 0;
+    'areas: while i < most {
+        let kind = w.decide(s, 3, 0, 4);
+        let area = open_area(s, kind);
+        w = area.walk;
+        let n = area.points;
+        let mut j: u64 = 0;
+        'points: while j < n {
+            let latitude = notice_parts::latitude(s, w);
+            w = notice_parts::longitude(s, latitude);
+            if w.code != 0 {
+                break 'areas;
+            }
+            j += 1;
+        }
+        w = close_area(s, w, kind.v);
+        i += 1;
+    }
+    w
 }
 
 // Behind an area's kind, up to its points: a sea area's code, a circle's one point, or how many points are counted.
