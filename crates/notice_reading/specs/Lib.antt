@@ -1,4 +1,7 @@
--- The notice: its layout, and in `laws` what is proved of it.
+-- The notice: its layout, record and promises, and in `laws` what is proved of them.
 pub mod Notice
+pub mod Record
+pub mod Promises
+pub mod Steps
 mod Examples
 pub mod laws

@@ -1,6 +1,7 @@
 -- The notice (paper 01, "Notice and packet"; 000, 5.2.2), read with its language: English, or else Chinese. Assumes nothing.
 use Prim.Native.Nat.{ℕ, _*_}
 use mathlib.Core.Bool.{Bool, true, false}
+use mathlib.Core.List.{List}
 use lib.ListN.{length}
 use Rattle.bits.specs.Bits.{bytesOf}
 use Rattle.format.specs.Fmt.{Fmt, end, field, bytes}
@@ -29,10 +30,14 @@ notice english =
     ▹ expiry
     ▹ deciding 4 (0 ‥ 15) (rest english)
 
--- 8 to 12,978 bytes; a notice has no kind of its own
+-- 8 to 12,978 bytes
+abbrev pub sizes : List ℕ → ℕ
+sizes = led 8 (λ s. true) (λ s. between 8 12_978 (length s))
+
+-- a notice has no kind of its own
 unfoldable pub notices : Bool → Layout
 notices english = record {
-  lead = led 8 (λ s. true) (λ s. between 8 12_978 (length s));
+  lead = sizes;
   kind = λ vs. 0;
   least = 8;
   most = 12_978;

@@ -1,2 +1,4 @@
 -- What is proved of the notice.
 pub mod Sound
+pub mod Closing
+pub mod Told

@@ -1,6 +1,232 @@
-// The notice telegram (paper 01, "Notice and packet"; 000, 5.2.2), as a layout in specs/: what reading, writing and correcting will be proved against.
+// The notice telegram (paper 01, "Notice and packet"; 000, 5.2.2): the joined bytes of its packets, read with their language.
+ghost use mathlib.Core.Path.{_≡_};
+ghost use Prim.Native.Nat.{_≤_};
+ghost use lib.ListN.{length};
+ghost use Rattle.format.specs.Message.{codeOf, readMessage};
+ghost use Rattle.notice_reading.specs.Notice.{notices, sizes};
+ghost use Rattle.notice_reading.specs.Promises.{Reads, numberOf};
+ghost use Rattle.notice_reading.specs.Steps.{Heads, ClosedIs, FieldsAre};
+use field::choosing::choose;
+use layout::walk::Walk;
 
-// The joined bytes of a notice.
-pub const LEAST: usize = 8;
+// The numbers of its areas stand beside the record in a row, one area behind another, and its text in a buffer: both are lent.
+pub struct Notice {
+    // 1 to 21.
+    pub source: u8,
+    // 1 to 3.
+    pub station: u8,
+    // 1 to 9,999.
+    pub serial: u16,
+    // 0 to 99.
+    pub year: u8,
+    // Its type, 1 to 8.
+    pub kind: u8,
+    // By the type.
+    pub subtype: u8,
+    // What 21 bits spell: next year 1, month 4, day 5, hour 5, minute 6; 0 for not known.
+    pub expiry: u32,
+    // How many areas, up to 15.
+    pub count: u8,
+}
 
-pub const GREATEST: usize = 12_978;
+// A notice that was read: the record, how many numbers its areas have and how many bytes its text.
+pub struct Told {
+    pub notice: Notice,
+    pub numbers: usize,
+    pub text: usize,
+}
+
+pub enum Answer {
+    Good(Told),
+    Refused(u8),
+}
+
+impl Answer {
+    // Its number: 0 for a good one.
+    pub fn refusal(self) -> u8
+        ensures { λ r. ⌜ r ≡ numberOf self ⌝ }
+    {
+        match self {
+            Answer::Good(_) => 0,
+            Answer::Refused(code) => code,
+        }
+    }
+}
+
+impl Notice {
+    // The bits in front of the areas.
+    pub const BITS: usize = 63;
+
+    pub const LEAST: usize = 8;
+
+    pub const GREATEST: usize = 12_978;
+
+    // The fields that may be corrected, by their place among the notice's: those of the head, and from AREAS on the numbers of its
+    // areas as they stand in the row (codes, latitudes, longitudes, radii and units).
+    pub const SOURCE: usize = 0;
+
+    pub const STATION: usize = 1;
+
+    pub const SERIAL: usize = 2;
+
+    pub const YEAR: usize = 3;
+
+    pub const KIND: usize = 4;
+
+    pub const SUBTYPE: usize = 5;
+
+    pub const EXPIRY: usize = 6;
+
+    pub const AREAS: usize = 8;
+}
+
+// The walk in front of the areas, and what stands there.
+pub struct Opening {
+    pub walk: Walk,
+    pub notice: Notice,
+}
+
+// The walk behind the text, and how many bytes it has.
+pub struct Ending {
+    pub walk: Walk,
+    pub text: usize,
+}
+
+// The walk over a whole notice, its record, and where its text stands and how many bytes it has.
+pub struct Course {
+    pub walk: Walk,
+    pub notice: Notice,
+    pub at: usize,
+    pub text: usize,
+}
+
+// Reads a notice: its record, the numbers of its areas into the front of the row, its text into the front of the buffer.
+pub fn read(s: &[u8], english: bool, areas: &mut [u32], text: &mut [u8]) -> Answer
+    ensures { λ r. ⌜ Reads english (now (s .entry)) (now (areas .entry)) (now (text .entry)) r (now (areas .exit)) (now (text .exit)) ⌝ }
+{
+    let size = lead(s);
+    if size != 0 {
+        return Answer::Refused(size);
+    }
+    let f = fields(s, 0, english);
+    let walk = f.walk;
+    let code = walk.code;
+    if code != 0 {
+        return Answer::Refused(code);
+    }
+    let notice = f.notice;
+    let n = f.text;
+    let extent = notice_numbers::measure(s, Notice::BITS, notice.count);
+    let numbers = extent.numbers;
+    if areas.len() < numbers {
+        return Answer::Refused(format::ROOM);
+    }
+    if text.len() < n {
+        return Answer::Refused(format::ROOM);
+    }
+    notice_numbers::fill(s, Notice::BITS, notice.count, areas);
+    runs::get_bytes(s, f.at, n, text);
+    Answer::Good(Told {
+        notice,
+        numbers,
+        text: n,
+    })
+}
+
+// What reading a notice answers, where room is enough: 0, or its refusal.
+pub fn refusal(s: &[u8], english: bool) -> u8
+    ensures { λ r. ⌜ r ≡ codeOf (readMessage (notices english) (now (s .entry))) ⌝ }
+{
+    let code = lead(s);
+    if code != 0 {
+        return code;
+    }
+    let f = fields(s, 0, english);
+    let walk = f.walk;
+    walk.code
+}
+
+// The first test: the size.
+pub fn lead(s: &[u8]) -> u8
+    ensures { λ r. ⌜ r ≡ sizes (now (s .entry)) ⌝ }
+{
+    if s.len() < Notice::LEAST {
+        return format::SIZE;
+    }
+    if Notice::GREATEST < s.len() {
+        return format::SIZE;
+    }
+    0
+}
+
+// The fields in bit order, behind the first test; on the way, field number `want` is found.
+pub fn fields(s: &[u8], want: usize, english: bool) -> Course
+    requires { ⌜ length (now s) ≤ 12_978 ⌝ }
+    ensures { λ r. ⌜ FieldsAre english want (now (s .entry)) r ⌝ }
+{
+    let head = head(s, want);
+    let notice = head.notice;
+    let front = head.walk;
+    let areas = notice_areas::walk(s, front, notice.count);
+    let ending = close(s, areas, english);
+    let walk = ending.walk;
+    Course {
+        walk,
+        notice,
+        at: areas.at,
+        text: ending.text,
+    }
+}
+
+// Up to the areas.
+fn head(s: &[u8], want: usize) -> Opening
+    ensures { λ r. ⌜ Heads want (now (s .entry)) r ⌝ }
+{
+    let w = Walk::begin(0, want).num(s, 5, 1, 21);
+    let source = w.v as u8;
+    let w = w.num(s, 4, 1, 3);
+    let station = w.v as u8;
+    let w = w.num(s, 14, 1, 9_999);
+    let serial = w.v as u16;
+    let w = w.num(s, 7, 0, 99);
+    let year = w.v as u8;
+    let w = w.num(s, 4, 1, 8);
+    let kind = w.v;
+    let w = w.num(
+        s,
+        4,
+        notice_parts::least_subtype(kind),
+        notice_parts::most_subtype(kind),
+    );
+    let subtype = w.v as u8;
+    let w = notice_parts::expiry(s, w);
+    let expiry = w.v as u32;
+    let walk = w.decide(s, 4, 0, 15);
+    let count = walk.v as u8;
+    let notice = Notice {
+        source,
+        station,
+        serial,
+        year,
+        kind: kind as u8,
+        subtype,
+        expiry,
+        count,
+    };
+    Opening { walk, notice }
+}
+
+// Behind the areas: the text, all whole bytes that are left, and the fill.
+fn close(s: &[u8], w: Walk, english: bool) -> Ending
+    requires { ⌜ length (now s) ≤ 12_978 ⌝ }
+    ensures { λ r. ⌜ ClosedIs english (now (s .entry)) w r ⌝ }
+{
+    if w.code != 0 {
+        return Ending { walk: w, text: 0 };
+    }
+    let rest = w.rest(s);
+    let text = rest.v as usize;
+    let fault = choose(text::spoken(s, w.at, text, english), 0, format::RANGE);
+    let walk = rest.wide(text * 8, fault).end(s);
+    Ending { walk, text }
+}

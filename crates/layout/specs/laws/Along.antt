@@ -45,6 +45,10 @@ fronted {all = all} {i} {s} {f} {h} {at} {r = r} e x = record {
 placed : {o : Out (List ℕ)} {all : Fmt} {i : ℕ} {s : List ℕ} {f : Fmt} {h : List ℕ} {at : ℕ} {k : List ℕ → List ℕ} {r : Walk} → Reading o all i s f h at k r → Reading o all i s f h (r .at) k r
 placed {o} {all} {i} {s} {f} {h} {k = k} {r} x = subst (λ a. Reading o all i s f h a k r) (sym (x .here)) x
 
+-- where reading stands after the values us
+pub going : {o : Out (List ℕ)} {all : Fmt} {i : ℕ} {s : List ℕ} {f : Fmt} {h : List ℕ} {at : ℕ} {r : Walk} (us : List ℕ) → Reading o all i s f h at (us ++_) r → Going o all i s f us r
+going {h = h} us x = record { past = h; so = placed x }
+
 -- ---- one field
 
 -- A step of reading is a step of what goes on, whatever the values before it.

@@ -1,0 +1,42 @@
+-- What reading a notice promises of the bytes s, the row and the buffer that it is lent; writing and correcting promise what every layout's do (format/specs/Promises). Assumes nothing.
+use mathlib.Core.Path.{_≡_}
+use mathlib.Core.Bool.{Bool, _&&_}
+use mathlib.Core.List.{List, _++_}
+use Prim.Native.Nat.{ℕ}
+use lib.Dec.{leb}
+use lib.ListN.{length, drop}
+use Rattle.format.specs.Fmt.{Out, accepted, check, orBad, after}
+use Rattle.format.specs.Message.{codeOf, readMessage}
+use Rattle.format.specs.Promises.{answered, readRecord}
+use Rattle.notice_reading.specs.Notice.{notices}
+use Rattle.notice_reading.specs.Record.{Whole, recordOf}
+use Rattle.notice_reading.specs.declared.Told.{Told}
+use Rattle.notice_reading.specs.declared.Answer.{Answer}
+use Rattle.notice_reading.specs.declared.Answer.the-variants.{Good, Refused}
+
+-- a record that a row of `areas` and a buffer of `text` entries have room for (6, tested last)
+abbrev pub housed : (areas text : ℕ) → Out Whole → Out Whole
+housed areas text o = after o (λ x. check (orBad (leb (length (x .1 .0)) areas && leb (length (x .1 .1)) text) 6) 0 (accepted x))
+
+-- in front of what stood there
+abbrev pub ahead : List ℕ → List ℕ → List ℕ
+ahead xs l = xs ++ drop (length xs) l
+
+-- what an answer tells of it: the record, and how many numbers its areas and bytes its text have
+abbrev pub toldOf : Whole → Told
+toldOf x = record { notice = x .0; numbers = length (x .1 .0); text = length (x .1 .1) }
+
+-- the paper's number and values
+abbrev pub answerOf : Out Whole → Answer
+answerOf = answered (λ x. Good (toldOf x)) Refused
+
+abbrev pub numberOf : Answer → ℕ
+numberOf (Good r) = 0
+numberOf (Refused c) = c
+
+-- the answer, and what is left of the row and the buffer
+abbrev pub Reads : Bool → List ℕ → List ℕ → List ℕ → Answer → List ℕ → List ℕ → Type 0
+Reads english s areas text a areas′ text′ = let o = housed (length areas) (length text) (readRecord (notices english) recordOf s) in
+    (a ≡ answerOf o)
+    × (areas′ ≡ answered (λ x. ahead (x .1 .0) areas) (λ c. areas) o)
+    × (text′ ≡ answered (λ x. ahead (x .1 .1) text) (λ c. text) o)

@@ -1,0 +1,85 @@
+-- The text of a notice, and the end: all whole bytes that are left are judged as one field. Assumes nothing.
+use mathlib.Core.Path.{_≡_, refl, sym, ap, _∙_, subst⁻¹}
+use mathlib.Core.Bool.{Bool, true, false, cond, _&&_, false≢true}
+use mathlib.Core.List.{List, [], _∷_, _++_}
+use Prim.Native.Nat.{ℕ, _+_, _-_, _*_, _/_, _≤_, _<_, _^_}
+use native.Mathlib.Omega.{arith}
+use lib.Seq.{length-take-le}
+use lib.ListN.{length, take, drop, length-drop}
+use borrow.Author.Tests.{le-leb}
+use Rattle.bits.specs.Answers.{spanned}
+use Rattle.bits.specs.Bits.{valueOf, bitsOf, bytesOf, bytesAt, fieldAt}
+use Rattle.bits.specs.laws.Bytes.{length-bits, bits-pack, bits-same, bytes-below, length-bytes, bits-bytes}
+use Rattle.bits.specs.laws.Runs.{length-run, run-value}
+use Rattle.field.specs.Faults.{wholly}
+use Rattle.format.specs.Fmt.{good, field, end}
+use Rattle.format.specs.Words.{orElse, unless, kept}
+use Rattle.format.specs.laws.Tells.{blamed}
+use Rattle.layout.specs.Reading.{ended}
+use Rattle.layout.specs.Walk.{onward}
+use Rattle.layout.specs.laws.Along.{Going}
+use Rattle.layout.specs.laws.Reading.{step-rest}
+use Rattle.layout.specs.laws.Step.{Steps, Reading, stuck, step-late}
+use Rattle.layout.specs.laws.Walked.{Walked, finish, same-values}
+use Rattle.layout.specs.declared.walk.Walk.{Walk}
+use Rattle.text.specs.Text.{inLanguage}
+use Rattle.notice_reading.specs.Notice.{text}
+use Rattle.notice_reading.specs.Record.{texted}
+use Rattle.notice_reading.specs.Steps.{ClosedIs}
+use Rattle.notice_reading.specs.declared.Ending.{Ending}
+
+-- n bytes are packed from their own bits alone
+pub front-bytes : (n : ℕ) (b : List Bool) → n * 8 ≤ length b → bytesOf n (take (n * 8) b) ≡ bytesOf n b
+front-bytes n b l =
+    let m : length (take (n * 8) b) ≡ n * 8 = length-take-le (n * 8) b l in
+    bits-same (bytesOf n (take (n * 8) b)) (bytesOf n b) (bytes-below n _) (bytes-below n b) (length-bytes n _ ∙ sym (length-bytes n b)) (bits-bytes n (take (n * 8) b) m ∙ sym (bits-pack n b l))
+
+-- text that lies within the message: its fault is the language's
+text-steps : (english : Bool) (s : List ℕ) (at n : ℕ) (h : List ℕ) (c : ℕ) → at + n * 8 ≤ length s * 8 → length s ≤ 12_978 → c ≡ cond (spanned (length s) at n && inLanguage english (bytesAt s at n)) 0 4
+    → Steps s at (n * 8) (λ h b. unless (inLanguage english (bytesOf n b)) 4 0) h false (valueOf (bitsOf (bytesAt s at n))) c 0
+unfolding bytesAt fieldAt
+text-steps english s at n h c fits small is = record {
+  findable = λ e. absurd (false≢true e);
+  reach = omega arith;
+  into = omega arith;
+  same = rw (le-leb (n * 8) (length b) long, front-bytes n b long) (go (inLanguage english (bytesOf n b)) ∙ ap (λ c. blamed c 0) (sym said));
+  holds = λ z. sym (run-value s at n fits);
+}
+  where
+    b : List Bool
+    b = drop at (bitsOf s)
+
+    long : n * 8 ≤ length b
+    long = omega (arith, length-drop at (bitsOf s), length-bits s)
+
+    said : c ≡ cond (inLanguage english (bytesOf n b)) 0 4
+    said = is ∙ ap (λ x. cond (x && inLanguage english (bytesOf n b)) 0 4) (le-leb (at + n * 8) (length s * 8) fits)
+
+    go : (x : Bool) → orElse (unless x 4 0) good ≡ blamed (cond x 0 4) 0
+    go true = refl
+    go false = refl
+
+module _ (english : Bool) (s : List ℕ) (r : Walk) where
+  -- after a refusal nothing is looked at
+  pub closed-refused : (r .code ≡ 0 → ⊥) → ClosedIs english s r (record { walk = r; text = 0 })
+  closed-refused n = record {
+    on = λ {o} {all} {i} {us} x. record { so = x .so .so ∙ stuck r _ n ∙ sym (stuck r _ n); spots = λ z. absurd (n z); slim = x .so .slim };
+    fits = λ z. absurd (n z);
+  }
+
+  -- the rest is told, the text judged, the end reached
+  pub closed-text : (n c : ℕ) {g p q : Walk} → r .code ≡ 0 → length s ≤ 12_978 → n ≡ wholly s (r .at) → g ≡ onward 0 false (wholly s (r .at)) 0 0 r
+      → c ≡ cond (spanned (length s) (r .at) n && inLanguage english (bytesAt s (r .at) n)) 0 4 → p ≡ onward (n * 8) false 0 c 0 g → q ≡ ended s p
+      → ClosedIs english s r (record { walk = q; text = n })
+  closed-text n c {g} {p} {q} clean small is d e f k = record {
+    on = λ {o} {all} {i} {us} x.
+        let at = r .at in
+        let near : at ≤ length s * 8 = x .so .within clean in
+        let u = valueOf (bitsOf (bytesAt s at n)) in
+        let fits : at + n * 8 ≤ length s * 8 = omega (arith, is) in
+        let y = step-rest (omega arith) (x .so) d in
+        let y′ = subst⁻¹ (λ m. Reading o all i s (field (m * 8) (λ h b. unless (inLanguage english (bytesOf m b)) 4 0) kept end) (m ∷ x .past) at (λ vs. us ++ (m ∷ vs)) g) is y in
+        let z = subst⁻¹ (λ p. Reading o all i s end (u ∷ n ∷ x .past) (at + n * 8) (λ vs. us ++ (n ∷ u ∷ vs)) p) f (step-late 0 (omega arith) y′ (λ _ l. text-steps english s at n (n ∷ x .past) c fits small e)) in
+        same-values (ap (λ m. us ++ (m ∷ u ∷ [])) (sym (length-run s at n))) (finish (omega arith) z k);
+    fits = λ z. (clean, λ l. omega (arith, is));
+  }

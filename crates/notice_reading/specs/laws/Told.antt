@@ -1,0 +1,100 @@
+-- The record of a head's, areas' and text's values is these; and the three ways in which reading answers. Assumes nothing.
+use mathlib.Core.Path.{_≡_, refl, sym, ap, ap₂, _∙_}
+use mathlib.Core.Bool.{Bool, true, false, cond, _&&_}
+use mathlib.Core.List.{List, [], _∷_, _++_}
+use Prim.Native.Nat.{ℕ, _+_, _-_, _*_, _≤_, _<_}
+use native.Mathlib.Omega.{arith}
+use lib.Dec.{leb, eqb}
+use lib.ListN.{length, take, drop, getD, length-append}
+use lib.Seq.{take-at, getD-append-add}
+use borrow.Author.Tests.{le-leb, lt-leb, leb-true, eqb-true, eqb-false}
+use Rattle.bits.specs.Bits.{Bytes, valueOf, digits, bitsOf, bytesOf}
+use Rattle.bits.specs.laws.Bytes.{length-bits, bytes-bits}
+use Rattle.bits.specs.laws.Digits.{digits-value}
+use Rattle.format.specs.Fmt.{accepted, refused, orBad, check, also}
+use Rattle.format.specs.Message.{fault, codeOf, readMessage}
+use Rattle.format.specs.Promises.{readRecord}
+use Rattle.bits.specs.Bits.{bytesAt}
+use Rattle.bits.specs.laws.Runs.{bytes-run}
+use Rattle.format.specs.laws.Lead.{read-first, held-back}
+use Rattle.layout.specs.laws.Step.{clear, stuck}
+use Rattle.notice_areas.specs.Standing.{areasAt}
+use Rattle.notice_reading.specs.Notice.{notices, sizes}
+use Rattle.notice_reading.specs.Steps.{fieldsRead, FieldsAre}
+use Rattle.notice_reading.specs.declared.Course.{Course}
+use Rattle.notice_reading.specs.Promises.{housed, ahead, toldOf, Reads}
+use Rattle.notice_reading.specs.Record.{Whole, headed, texted, headOf, textOf, recordOf}
+use Rattle.notice_reading.specs.declared.Notice.{Notice}
+use Rattle.notice_reading.specs.declared.Answer.the-variants.{Good, Refused}
+
+-- a text is that of its number
+pub text-again : (t : List ℕ) → Bytes t → textOf (length t) (valueOf (bitsOf t)) ≡ t
+unfolding textOf
+text-again t fine = ap (bytesOf (length t)) (digits-value (length t * 8) (bitsOf t) (length-bits t)) ∙ bytes-bits t fine
+
+pub recorded : (r : Notice) (xs : List ℕ) (n v : ℕ) → recordOf (headed r (xs ++ (n ∷ v ∷ []))) ≡ (r, (xs, textOf n v))
+unfolding recordOf headOf
+recorded r xs n v =
+    let vs = headed r (xs ++ (n ∷ v ∷ [])) in
+    let long : length vs ≡ 8 + (length xs + 2) = let e = length-append xs (n ∷ v ∷ []) in omega (arith, e) in
+    let ten : length vs - 10 ≡ length xs = omega (arith, long) in
+    let two : length vs - 2 ≡ 8 + (length xs + 0) = omega (arith, long) in
+    let one : length vs - 1 ≡ 8 + (length xs + 1) = omega (arith, long) in
+    let areas : take (length vs - 10) (xs ++ (n ∷ v ∷ [])) ≡ xs = ap (λ k. take k (xs ++ (n ∷ v ∷ []))) ten ∙ take-at xs (n ∷ v ∷ []) (length xs) refl in
+    let size : getD vs (length vs - 2) 0 ≡ n = ap (λ k. getD vs k 0) two ∙ getD-append-add xs (n ∷ v ∷ []) 0 0 in
+    let number : getD vs (length vs - 1) 0 ≡ v = ap (λ k. getD vs k 0) one ∙ getD-append-add xs (n ∷ v ∷ []) 1 0 in
+    λ i. (r, (areas i, textOf (size i) (number i)))
+
+pub told : (r : Notice) (xs t : List ℕ) → Bytes t → recordOf (headed r (xs ++ texted t)) ≡ (r, (xs, t))
+told r xs t fine = recorded r xs (length t) (valueOf (bitsOf t)) ∙ ap (λ t. (r, (xs, t))) (text-again t fine)
+
+module _ (english : Bool) (s a t : List ℕ) where
+  pub reads-refused : {c p : ℕ} → readRecord (notices english) recordOf s ≡ refused c p → Reads english s a t (Refused c) a t
+  reads-refused e = rw e (refl, refl, refl)
+
+  module _ {x : Whole} (e : readRecord (notices english) recordOf s ≡ accepted x) where
+    pub reads-few : length a < length (x .1 .0) → Reads english s a t (Refused 6) a t
+    reads-few l = rw (e, lt-leb (length (x .1 .0)) (length a) l) (refl, refl, refl)
+
+    pub reads-short : length (x .1 .0) ≤ length a → length t < length (x .1 .1) → Reads english s a t (Refused 6) a t
+    reads-short k l = rw (e, le-leb (length (x .1 .0)) (length a) k, lt-leb (length (x .1 .1)) (length t) l) (refl, refl, refl)
+
+    pub reads-good : length (x .1 .0) ≤ length a → length (x .1 .1) ≤ length t → Reads english s a t (Good (toldOf x)) (ahead (x .1 .0) a) (ahead (x .1 .1) t)
+    reads-good k l = rw (e, le-leb (length (x .1 .0)) (length a) k, le-leb (length (x .1 .1)) (length t) l) (refl, refl, refl)
+
+-- ---- behind the first test
+
+pub sizes-small : (s : List ℕ) → sizes s ≡ 0 → length s ≤ 12_978
+sizes-small s = go (leb 8 (length s)) (leb (length s) 12_978) refl
+  where
+    go : (x y : Bool) → leb (length s) 12_978 ≡ y → _≡_ {A = ℕ} (cond x (cond (x && y) 0 1) 1) 0 → length s ≤ 12_978
+    go x true e z = leb-true (length s) 12_978 e
+    go true false e z = absurd (omega (arith, z))
+    go false false e z = absurd (omega (arith, z))
+
+pub read-on : (english : Bool) (s : List ℕ) {c : ℕ} → c ≡ sizes s → c ≡ 0 → readMessage (notices english) s ≡ fieldsRead english s
+unfolding notices
+read-on english s {c} e z = read-first (notices english) s e ∙ ap (λ c. check (fault c) 0 (fieldsRead english s)) z
+
+pub read-not : (english : Bool) (s : List ℕ) {c : ℕ} → c ≡ sizes s → (c ≡ 0 → ⊥) → readMessage (notices english) s ≡ refused c 0
+unfolding notices
+read-not english s {c} e n = read-first (notices english) s e ∙ held-back c (fieldsRead english s) n
+
+-- the walk over a whole notice: its record, or the refusal
+pub walked-good : (english : Bool) (i : ℕ) (s : List ℕ) (f : Course) {c : ℕ} → c ≡ sizes s → c ≡ 0 → FieldsAre english i s f → f .walk .code ≡ 0
+    → readRecord (notices english) recordOf s ≡ accepted (f .notice, (areasAt s (f .notice .count) 63, bytesAt s (f .at) (f .text)))
+walked-good english i s f e z x k =
+    ap (also recordOf) (read-on english s e z ∙ x .walked .so ∙ clear (f .walk) _ k)
+    ∙ ap accepted (told (f .notice) (areasAt s (f .notice .count) 63) (bytesAt s (f .at) (f .text)) (bytes-run s (f .at) (f .text)))
+
+pub walked-bad : (english : Bool) (i : ℕ) (s : List ℕ) (f : Course) {c : ℕ} → c ≡ sizes s → c ≡ 0 → FieldsAre english i s f → (f .walk .code ≡ 0 → ⊥)
+    → readMessage (notices english) s ≡ refused (f .walk .code) (f .walk .place)
+walked-bad english i s f e z x n = read-on english s e z ∙ x .walked .so ∙ stuck (f .walk) _ n
+
+-- the code of reading is the walk's
+pub walked-code : (english : Bool) (i : ℕ) (s : List ℕ) (f : Course) → FieldsAre english i s f → f .walk .code ≡ codeOf (fieldsRead english s)
+walked-code english i s f x = go (eqb (f .walk .code) 0) refl
+  where
+    go : (t : Bool) → eqb (f .walk .code) 0 ≡ t → f .walk .code ≡ codeOf (fieldsRead english s)
+    go true t = let z = eqb-true (f .walk .code) 0 t in z ∙ sym (ap codeOf (x .walked .so ∙ clear (f .walk) _ z))
+    go false t = sym (ap codeOf (x .walked .so ∙ stuck (f .walk) _ (eqb-false (f .walk .code) 0 t)))
