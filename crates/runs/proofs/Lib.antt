@@ -1,3 +1,4 @@
--- What the proofs of `slide` and `pour` cite.
+-- What the proofs of `byte`, `slide` and `pour` cite.
+mod Pairs
 mod Sliding
 mod Pouring

@@ -5,7 +5,7 @@ ghost use mathlib.Core.Path.{_≡_};
 ghost use Prim.Native.Nat.{_+_, _*_, _/_, _%_, _^_, _≤_, _<_};
 ghost use lib.ListN.{length, take, drop};
 ghost use Rattle.bits.specs.Answers.{spanned, gettable};
-ghost use Rattle.bits.specs.Bits.{bytesAt, putBytesAt};
+ghost use Rattle.bits.specs.Bits.{fieldAt, bytesAt, putBytesAt};
 
 // The `n` bytes that start at bit `at` of `s`, which need be no byte's first, into the front of `out`. Where they do not lie
 // within `s`, or `out` is too short, says so and leaves every byte.
@@ -38,7 +38,7 @@ pub fn put_bytes(buf: &mut [u8], at: usize, t: &[u8]) -> bool
 }
 
 // Whether the `n` bytes that start at bit `at` lie within a message of `len` bytes.
-fn spans(len: usize, at: usize, n: usize) -> bool
+pub fn spans(len: usize, at: usize, n: usize) -> bool
     ensures { λ r. ⌜ r ≡ spanned len at n ⌝ }
 {
     if n > len {
@@ -47,19 +47,15 @@ fn spans(len: usize, at: usize, n: usize) -> bool
     at / 8 + (at % 8 + 7) / 8 <= len - n
 }
 
-// The `n` bytes that start at bit `at` of `s`, into `out` from its byte `to` on. Each lies in two neighbour bytes of `s`, or
-// wholly in one, which then stands for both.
+// The `n` bytes that start at bit `at` of `s`, into `out` from its byte `to` on.
 fn slide(s: &[u8], at: usize, n: usize, out: &mut [u8], to: usize)
     requires { ⌜ (at + n * 8 ≤ length (now s) * 8) × (to + n ≤ length (now out)) ⌝ }
     ensures { λ _. ⌜ now (out .exit)
         ≡ take to (now (out .entry)) ++ (bytesAt (now (s .entry)) at n ++ drop (to + n) (now (out .entry))) ⌝ }
 {
-    let high = at / 8;
-    let low = high + (at % 8 + 7) / 8;
-    let spare = 8 - at % 8;
     let mut i = 0;
     while i < n {
-        out[to + i] = across(s[high + i], s[low + i], spare);
+        out[to + i] = byte(s, at, i);
         i += 1;
     }
 }
@@ -82,6 +78,18 @@ fn pour(buf: &mut [u8], at: usize, t: &[u8])
         left,
         bits::read(&t[whole..], first, left),
     );
+}
+
+// The byte `i` of the run that starts at bit `at` of `s`. It lies in two neighbour bytes of `s`, or wholly in one, which then
+// stands for both. In a loop over `i` the compiler works out once what hangs on `at` alone.
+pub fn byte(s: &[u8], at: usize, i: usize) -> u8
+    requires { ⌜ at + (i + 1) * 8 ≤ length (now s) * 8 ⌝ }
+    ensures { λ r. ⌜ r ≡ fieldAt (now (s .entry)) (at + i * 8) 8 ⌝ }
+{
+    let high = at / 8 + i;
+    let low = high + (at % 8 + 7) / 8;
+    let spare = 8 - at % 8;
+    across(s[high], s[low], spare)
 }
 
 // The eight bits that end `spare` bits before the end of two bytes.

@@ -2,13 +2,18 @@
 use mathlib.Core.Path.{_≡_, refl, sym, ap, _∙_, subst, subst⁻¹}
 use mathlib.Core.Bool.{Bool, true, false, cond, _&&_}
 use mathlib.Core.List.{List, [], _∷_, _++_, append-assoc, append-nil}
-use Prim.Native.Nat.{ℕ, _+_, _≤_}
+use Prim.Native.Nat.{ℕ, _+_, _≤_, _<_, _^_}
 use native.Mathlib.Omega.{arith}
+use native.Mathlib.Nat.{mod-eq-of-lt}
 use lib.Dec.{eqb}
 use lib.Seq.{append-snoc}
 use borrow.Author.Tests.{ne-eqb, eqb-true, eqb-false}
 use Rattle.format.specs.Fmt.{Out, accepted, refused, Judge, Fmt, field, also, read, spot}
+use Rattle.bits.specs.Answers.{got}
+use Rattle.format.specs.Words.{_‥_, num, deciding}
+use Rattle.layout.specs.Reading.{ranged}
 use Rattle.layout.specs.Walk.{onward}
+use Rattle.layout.specs.laws.Reading.{step-num, step-decide}
 use Rattle.layout.specs.laws.Step.{sticky, Reading, Steps, step, clean}
 use Rattle.layout.specs.declared.walk.Walk.{Walk}
 
@@ -107,3 +112,27 @@ module _ {s : List ℕ} {g g′ : Fmt → Fmt} {r : Walk} {vs : List ℕ} {r′ 
 
   pub dropped : (g″ : Fmt → Fmt) (ws : List ℕ) → (r′ .code ≡ 0 → ⊥) → Along s g g′ r vs r′ → Along s g g″ r ws r′
   dropped g″ ws n a = record { on = λ {o} {all} {i} {f} {us} x. go-refused (g″ f) (us ++ ws) n (a .on x) }
+
+-- ---- one number
+
+module _ {s : List ℕ} {r q : Walk} (w : ℕ) (some : 0 < w) (small : w ≤ 32) (reach : r .at + w < 2 ^ 64) (lo hi : ℕ) where
+  pub along-num : q ≡ ranged s w true lo hi 4 r → Along s (num w (lo ‥ hi)) (λ f. f) r (q .v ∷ []) q
+  along-num d = record { on = λ {o} {all} {i} {f} {us} x. go us (q .v) x (λ h e. step-num w some small reach lo hi e d) }
+
+  -- that decides what follows
+  pub along-decide : (g : ℕ → Fmt → Fmt) → q ≡ ranged s w false lo hi 4 r → Along s (λ f. deciding w (lo ‥ hi) λ n. g n f) (g (q .v)) r (q .v ∷ []) q
+  along-decide g d = record { on = λ {o} {all} {i} {f} {us} x. go us (q .v) x (λ h e. step-decide w some small reach 3 lo hi (lo ‥ hi) (λ v. refl) e d) }
+
+-- what a number's walk is: its value, its place, and that nothing was refused before it
+module _ (s : List ℕ) (r : Walk) {q : Walk} (w : ℕ) (b : Bool) (lo hi c : ℕ) (d : q ≡ ranged s w b lo hi c r) where
+  pub ranged-v : q .v ≡ got s (r .at) w
+  unfolding onward
+  ranged-v = ap (λ (q : Walk). q .v) d
+
+  pub ranged-at : r .at + w < 2 ^ 64 → q .at ≡ r .at + w
+  unfolding onward
+  ranged-at reach = ap (λ (q : Walk). q .at) d ∙ mod-eq-of-lt reach
+
+  pub ranged-clean : q .code ≡ 0 → r .code ≡ 0
+  unfolding onward
+  ranged-clean z = clean (r .code) _ (ap (λ (q : Walk). q .code) (sym d) ∙ z) .0

@@ -1,4 +1,4 @@
--- `bits::get_bytes` meets its contract: either test that fails leaves `out`.
+-- `runs::get_bytes` meets its contract: either test that fails leaves `out`.
 use mathlib.Core.Bool.{and-false}
 use mathlib.Core.Path.{refl, sym, _∙_}
 use Prim.Native.Nat.{_+_, _*_}

@@ -1,4 +1,4 @@
--- `bits::pour` meets its contract: its three parts are put in one behind the other (`poured`).
+-- `runs::pour` meets its contract: its three parts are put in one behind the other (`poured`).
 use Prim.Native.Nat.{_-_, _%_}
 use native.Mathlib.Omega.{arith}
 use lib.ListN.{length, take, drop}

@@ -1,4 +1,4 @@
--- `bits::put_bytes` meets its contract: where there is nothing to put, every byte stays.
+-- `runs::put_bytes` meets its contract: where there is nothing to put, every byte stays.
 use mathlib.Core.Path.{refl, sym, _∙_}
 use Prim.Native.Nat.{_+_, _*_}
 use native.Mathlib.Omega.{arith}

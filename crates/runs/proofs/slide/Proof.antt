@@ -1,47 +1,26 @@
--- `bits::slide` meets its contract: the first i bytes of the run stand in `out`.
+-- `runs::slide` meets its contract: the first i bytes of the run stand in `out`.
 use mathlib.Core.Path.{_≡_, refl}
 use Prim.Native.Nat.{_-_, _≤_}
 use native.Mathlib.Omega.{arith}
 use borrow.Author.Needs.{needs}
 use lib.ListN.{length, length-set}
-use Rattle.runs.proofs.Sliding.{slid, slid-none, slid-turn}
+use Rattle.runs.proofs.Sliding.{slid, slid-none, slid-next}
 use Rattle.runs.proofs.slide.Statement.{statement}
 use Rattle.runs.proofs.slide.Tie as tie
 
 abbrev Inv-loop : tie.InvT-loop
-Inv-loop s at n out₀ to high low spare i₀ out i = (i ≤ n) × (length out ≡ length out₀) × (out ≡ slid s at out₀ to i)
+Inv-loop s at n out₀ to i₀ out i = (i ≤ n) × (length out ≡ length out₀) × (out ≡ slid s at out₀ to i)
 
 abbrev μ-loop : tie.MeasureT-loop
-μ-loop s at n out₀ to high low spare i₀ out i = n - i
-
-add-low : tie.Need-add-low Inv-loop μ-loop
-add-low c = search needs
-
-add-low-2 : tie.Need-add-low-2 Inv-loop μ-loop
-add-low-2 c = search needs
-
-sub-spare : tie.Need-sub-spare Inv-loop μ-loop
-sub-spare c = search needs
+μ-loop s at n out₀ to i₀ out i = n - i
 
 loop-holds : tie.Need-loop-holds Inv-loop μ-loop
 loop-holds c =
     let a = c .before .before .args in
     (omega arith, refl, slid-none (a .s .now) (a .at) (a .out .now) (a .to))
 
-add-across : tie.Need-add-across Inv-loop μ-loop
-add-across c = search needs
-
-shared-slice-read-across : tie.Need-shared-slice-read-across Inv-loop μ-loop
-shared-slice-read-across c = search needs
-
-add-across-2 : tie.Need-add-across-2 Inv-loop μ-loop
-add-across-2 c = search needs
-
-shared-slice-read-across-2 : tie.Need-shared-slice-read-across-2 Inv-loop μ-loop
-shared-slice-read-across-2 c = search needs
-
-across-requires : tie.Need-across-requires Inv-loop μ-loop
-across-requires c κs = search needs
+byte-requires : tie.Need-byte-requires Inv-loop μ-loop
+byte-requires c κs = search needs
 
 add-out : tie.Need-add-out Inv-loop μ-loop
 add-out c = search needs
@@ -57,11 +36,10 @@ loop-less c = search needs
 
 loop-again : tie.Need-loop-again Inv-loop μ-loop
 loop-again c =
-    let l = c .before .before .before .before in
-    let p = l .before .before in
-    let a = p .before .args in
-    let turn = slid-turn (a .s .now) (a .at) (a .out .now) (a .to) (l .loop .i) (λ j. p .shared-slice-known .given j .fits) (omega arith) (omega arith) in
-    (omega arith, simp length-set (l .loop .inv .1), cc (turn, c .across .ensures))
+    let l = c .before .before in
+    let a = l .before .before .before .args in
+    let turn = slid-next (a .s .now) (a .at) (a .out .now) (a .to) (l .loop .i) (omega arith) in
+    (omega arith, simp length-set (l .loop .inv .1), cc (turn, c .byte .ensures))
 
 same-length : tie.Need-same-length Inv-loop μ-loop
 same-length c = search needs
@@ -75,15 +53,8 @@ slide-spec =
     (tie.spec
     Inv-loop
     μ-loop
-    add-low
-    add-low-2
-    sub-spare
     loop-holds
-    add-across
-    shared-slice-read-across
-    add-across-2
-    shared-slice-read-across-2
-    across-requires
+    byte-requires
     add-out
     slice-write-out
     add-i

@@ -1,4 +1,4 @@
--- `bits::spans` meets its contract: the bytes that hold the run end within the message just where its bits do.
+-- `runs::spans` meets its contract: the bytes that hold the run end within the message just where its bits do.
 use mathlib.Core.Path.{sym}
 use Prim.Native.Nat.{_+_, _*_, _-_, _/_, _%_}
 use native.Mathlib.Omega.{arith}

@@ -1,0 +1,26 @@
+-- `least` meets its contract: by the number of the kind.
+use mathlib.Core.Path.{_≡_, refl, sym, ap, _∙_}
+use mathlib.Core.Bool.{true, false}
+use borrow.Author.Tests.{eq-eqb, ne-eqb}
+use Rattle.layout.specs.Reading.{ranged}
+use Rattle.layout.specs.declared.walk.Walk.{Walk}
+use Rattle.notice_areas.specs.Areas.{leastOf}
+use Rattle.notice_areas.specs.Steps.{openedAs, closedAs}
+use Rattle.notice_areas.specs.declared.Opened.{Opened}
+use Rattle.notice_areas.specs.laws.Kinds.{kind-sea, kind-circle, kind-several, closed-plain}
+use Rattle.notice_areas.proofs.least.Statement.{statement}
+use Rattle.notice_areas.proofs.least.Tie as tie
+
+returns : tie.Need-returns
+returns c = rw (c .match .keys1) refl
+
+returns-2 : tie.Need-returns-2
+returns-2 c = rw (c .match .keys2) refl
+
+returns-3 : tie.Need-returns-3
+returns-3 c =
+    let n = c .match .rest in
+    rw (ne-eqb (c .before .args .kind) 1 (n .0 .1), ne-eqb (c .before .args .kind) 2 (n .1)) refl
+
+pub least-spec : {M : Type 1} → statement M
+least-spec = tie.close (tie.spec returns returns-2 returns-3)

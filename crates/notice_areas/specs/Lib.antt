@@ -1,0 +1,6 @@
+-- The areas of a notice: their layout, the numbers that stand in them, what the code's steps answer; and in `laws` that these are what reading says.
+pub mod Areas
+pub mod Standing
+pub mod Steps
+pub mod Walks
+pub mod laws

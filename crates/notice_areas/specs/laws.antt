@@ -1,0 +1,5 @@
+-- What is proved of them.
+pub mod Kinds
+pub mod Numbered
+pub mod Standing
+pub mod Walking

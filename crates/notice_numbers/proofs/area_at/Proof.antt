@@ -1,0 +1,104 @@
+-- `area_at` meets its contract: by the number of the kind, as `kindOf` goes.
+use Prim.Native.Nat.{ℕ, _+_, _-_, _*_, _≤_, _<_}
+use mathlib.Core.Path.{_≡_, refl, sym, ap, ap₂, _∙_}
+use mathlib.Core.List.{[], _∷_}
+use native.Mathlib.Omega.{arith}
+use native.Mathlib.Numerals.{add-one}
+use native.Mathlib.Nat.{zero-add}
+use borrow.Author.Needs.{needs}
+use lib.ListN.{length, set, length-set}
+use lib.Seq.{sets, length-sets}
+use Rattle.bits.specs.Answers.{got}
+use Rattle.layout.specs.laws.Reading.{got-lt}
+use Rattle.notice_areas.specs.Areas.{kindOf}
+use Rattle.notice_areas.specs.Standing.{pointsAt, areaAt, insideAt, areasAt, areasEnd}
+use Rattle.notice_areas.specs.laws.Kinds.{kind-sea, kind-circle, kind-several}
+use Rattle.notice_numbers.specs.Shapes.{shapeAs, shapeAt, numbersIn, pointsIn, extentAt}
+use Rattle.notice_numbers.specs.declared.Shape.{Shape}
+use Rattle.notice_numbers.specs.laws.Shapes.{points-long, area-numbers, area-small, area-within, numbers-in, area-next, numbers-more, points-more, next-more}
+use Rattle.notice_numbers.specs.laws.Rows.{points-turn, areas-turn, sea-stored, circle-stored, sea-long, circle-long, several-long, several-stored}
+use Rattle.notice_numbers.proofs.area_at.Statement.{statement}
+use Rattle.notice_numbers.proofs.area_at.Tie as tie
+
+get-requires : tie.Need-get-requires
+get-requires c κs = search needs
+
+add-t6 : tie.Need-add-t6
+add-t6 c = search needs
+
+add-t7 : tie.Need-add-t7
+add-t7 c = search needs
+
+returns : tie.Need-returns
+unfolding shapeAt
+returns c =
+    let g = c .before in
+    let a = g .before .before .args in
+    ap (λ k. shapeAs k (a .s .now) (a .at)) (sym (kind-sea (sym (g .get .ensures) ∙ c .if1 .taken)))
+
+add-t8 : tie.Need-add-t8
+add-t8 c = search needs
+
+add-t9 : tie.Need-add-t9
+add-t9 c = search needs
+
+returns-2 : tie.Need-returns-2
+unfolding shapeAt
+returns-2 c =
+    let g = c .before .before in
+    let a = g .before .before .args in
+    ap (λ k. shapeAs k (a .s .now) (a .at)) (sym (kind-circle (sym (g .get .ensures) ∙ c .if2 .taken)))
+
+add-get : tie.Need-add-get
+add-get c = search needs
+
+get-requires-2 : tie.Need-get-requires-2
+get-requires-2 c κs = search needs
+
+add-t11 : tie.Need-add-t11
+add-t11 c = search needs
+
+add-t12 : tie.Need-add-t12
+add-t12 c = search needs
+
+mul-t13 : tie.Need-mul-t13
+mul-t13 c = let a = c .before .before .before .before .before .args in omega (arith, got-lt (a .s .now) (a .at + 3) 4 (c .get2 .ensures))
+
+add-t14 : tie.Need-add-t14
+add-t14 c = let a = c .before .before .before .before .before .args in omega (arith, got-lt (a .s .now) (a .at + 3) 4 (c .get2 .ensures))
+
+mul-t15 : tie.Need-mul-t15
+mul-t15 c = let a = c .before .before .before .before .before .args in omega (arith, got-lt (a .s .now) (a .at + 3) 4 (c .get2 .ensures))
+
+add-t16 : tie.Need-add-t16
+add-t16 c = let a = c .before .before .before .before .before .args in omega (arith, got-lt (a .s .now) (a .at + 3) 4 (c .get2 .ensures))
+
+returns-3 : tie.Need-returns-3
+unfolding shapeAt
+returns-3 c =
+    let i = c .before in
+    let g = i .before .before in
+    let a = g .before .before .args in
+    ap (λ n. record { points = n; first = a .at + 7; next = a .at + 7 + n * 43; numbers = 2 + n * 2 }) (c .get2 .ensures)
+    ∙ ap (λ k. shapeAs k (a .s .now) (a .at)) (sym (kind-several (λ z. i .before .if1 .left (g .get .ensures ∙ z)) (λ z. i .if2 .left (g .get .ensures ∙ z))))
+
+pub area-at-spec : {M : Type 1} → statement M
+area-at-spec =
+    tie.close
+    (tie.spec
+    get-requires
+    add-t6
+    add-t7
+    returns
+    add-t8
+    add-t9
+    returns-2
+    add-get
+    get-requires-2
+    add-t11
+    add-t12
+    mul-t13
+    add-t14
+    mul-t15
+    add-t16
+    returns-3)

@@ -1,0 +1,101 @@
+-- `measure` meets its contract: what the first i areas have, and where they end.
+use Prim.Native.Nat.{ℕ, _+_, _-_, _*_, _≤_, _<_}
+use mathlib.Core.Path.{_≡_, refl, sym, ap, ap₂, _∙_}
+use mathlib.Core.List.{[], _∷_}
+use native.Mathlib.Omega.{arith}
+use native.Mathlib.Numerals.{add-one}
+use native.Mathlib.Nat.{zero-add}
+use borrow.Author.Needs.{needs}
+use lib.ListN.{length, set, length-set}
+use lib.Seq.{sets, length-sets}
+use Rattle.bits.specs.Answers.{got}
+use Rattle.layout.specs.laws.Reading.{got-lt}
+use Rattle.notice_areas.specs.Areas.{kindOf}
+use Rattle.notice_areas.specs.Standing.{pointsAt, areaAt, insideAt, areasAt, areasEnd}
+use Rattle.notice_areas.specs.laws.Kinds.{kind-sea, kind-circle, kind-several}
+use Rattle.notice_numbers.specs.Shapes.{shapeAs, shapeAt, numbersIn, pointsIn, extentAt}
+use Rattle.notice_numbers.specs.declared.Shape.{Shape}
+use Rattle.notice_numbers.specs.laws.Shapes.{points-long, area-numbers, area-small, area-within, numbers-in, area-next, numbers-more, points-more, next-more}
+use Rattle.notice_numbers.specs.laws.Rows.{points-turn, areas-turn, sea-stored, circle-stored, sea-long, circle-long, several-long, several-stored}
+use Rattle.notice_numbers.proofs.measure.Statement.{statement}
+use Rattle.notice_numbers.proofs.measure.Tie as tie
+
+abbrev Inv-loop : tie.InvT-loop
+Inv-loop s from count most numbers₀ points₀ at₀ i₀ numbers points at i = (i ≤ most) × (numbers ≡ numbersIn s i from) × (points ≡ pointsIn s i from) × (at ≡ areasEnd s i from) × (at ≤ from + i * 700) × (numbers ≤ i * 32) × (points ≤ i * 15)
+
+abbrev μ-loop : tie.MeasureT-loop
+μ-loop s from count most numbers₀ points₀ at₀ i₀ numbers points at i = most - i
+
+loop-holds : tie.Need-loop-holds Inv-loop μ-loop
+unfolding areasEnd numbersIn pointsIn
+loop-holds c = (omega arith, refl, refl, refl, omega arith, omega arith, omega arith)
+
+area-at-requires : tie.Need-area-at-requires Inv-loop μ-loop
+area-at-requires c κs = omega arith
+
+add-numbers : tie.Need-add-numbers Inv-loop μ-loop
+add-numbers c =
+    let l = c .before .before .before in
+    let a = l .before .before .args in
+    let x = c .before .area-at .ensures in
+    let (n, m, p) = area-small (a .s .now) (l .loop .at) in
+    omega (arith, m, ap (λ (r : Shape). r .numbers) x)
+
+add-points : tie.Need-add-points Inv-loop μ-loop
+add-points c =
+    let l = c .before .before .before .before in
+    let a = l .before .before .args in
+    let x = c .before .before .area-at .ensures in
+    let (n, m, p) = area-small (a .s .now) (l .loop .at) in
+    omega (arith, p, ap (λ (r : Shape). r .points) x)
+
+add-i : tie.Need-add-i Inv-loop μ-loop
+add-i c = omega arith
+
+loop-less : tie.Need-loop-less Inv-loop μ-loop
+loop-less c = omega arith
+
+loop-again : tie.Need-loop-again Inv-loop μ-loop
+loop-again c =
+    let l = c .before .before .before .before in
+    let a = l .before .before .args in
+    let x = c .before .before .area-at .ensures in
+    let s = a .s .now in
+    let i = l .loop .i in
+    let v = l .loop .inv in
+    let (n, m, p) = area-small s (l .loop .at) in
+    let numbers = ap (λ (r : Shape). r .numbers) x in
+    let points = ap (λ (r : Shape). r .points) x in
+    let next = ap (λ (r : Shape). r .next) x in
+    let one = add-one i in (
+      omega arith,
+      ap₂ _+_ (v .1) (numbers ∙ ap (λ p. shapeAt s p .numbers) (v .3)) ∙ sym (numbers-more s i (a .from)) ∙ ap (λ n. numbersIn s n (a .from)) (sym one),
+      ap₂ _+_ (v .2) (points ∙ ap (λ p. shapeAt s p .points) (v .3)) ∙ sym (points-more s i (a .from)) ∙ ap (λ n. pointsIn s n (a .from)) (sym one),
+      next ∙ ap (λ p. shapeAt s p .next) (v .3) ∙ next-more s i (a .from) ∙ ap (λ n. areasEnd s n (a .from)) (sym one),
+      omega (arith, n, next),
+      omega (arith, m, numbers),
+      omega (arith, p, points),
+    )
+
+returns : tie.Need-returns Inv-loop μ-loop
+returns c =
+    let l = c .before in
+    let a = l .before .before .args in
+    let e : l .loop .i ≡ a .count = omega arith in
+    let v = l .loop .inv in
+    λ y. record { numbers = (v .1 ∙ ap (λ n. numbersIn (a .s .now) n (a .from)) e) y; points = (v .2 ∙ ap (λ n. pointsIn (a .s .now) n (a .from)) e) y }
+
+pub measure-spec : {M : Type 1} → statement M
+measure-spec =
+    tie.close
+    (tie.spec
+    Inv-loop
+    μ-loop
+    loop-holds
+    area-at-requires
+    add-numbers
+    add-points
+    add-i
+    loop-less
+    loop-again
+    returns)

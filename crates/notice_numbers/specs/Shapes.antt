@@ -1,0 +1,28 @@
+-- What the bits of areas say of how they are told: how many points and numbers, and where they stand. Assumes nothing.
+use Prim.Native.Nat.{ℕ, zero, suc, _+_, _*_}
+use mathlib.Core.List.{List}
+use Rattle.bits.specs.Answers.{got}
+use Rattle.notice_areas.specs.Areas.{Kind, sea, circle, several, kindOf}
+use Rattle.notice_numbers.specs.declared.Shape.{Shape}
+use Rattle.notice_numbers.specs.declared.Extent.{Extent}
+
+abbrev pub shapeAs : Kind → List ℕ → ℕ → Shape
+shapeAs sea s at = record { points = 0; first = at + 11; next = at + 11; numbers = 2 }
+shapeAs circle s at = record { points = 1; first = at + 3; next = at + 58; numbers = 5 }
+shapeAs (several least) s at = let n = got s (at + 3) 4 in record { points = n; first = at + 7; next = at + 7 + n * 43; numbers = 2 + n * 2 }
+
+-- the area at a bit
+unfoldable pub shapeAt : List ℕ → ℕ → Shape
+shapeAt s at = shapeAs (kindOf (got s at 3)) s at
+
+-- n areas
+unfoldable pub numbersIn : List ℕ → ℕ → ℕ → ℕ
+numbersIn s zero at = 0
+numbersIn s (suc n) at = let a = shapeAt s at in a .numbers + numbersIn s n (a .next)
+
+unfoldable pub pointsIn : List ℕ → ℕ → ℕ → ℕ
+pointsIn s zero at = 0
+pointsIn s (suc n) at = let a = shapeAt s at in a .points + pointsIn s n (a .next)
+
+abbrev pub extentAt : List ℕ → ℕ → ℕ → Extent
+extentAt s n at = record { numbers = numbersIn s n at; points = pointsIn s n at }

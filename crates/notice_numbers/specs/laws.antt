@@ -1,0 +1,3 @@
+-- What is proved of them.
+pub mod Shapes
+pub mod Rows

@@ -1,0 +1,58 @@
+-- The bytes of a run that are still to be looked at, and what one more of them, or a pair, says of a text.
+use mathlib.Core.Bool.{Bool, true, false, _&&_, and-true, and-assoc}
+use mathlib.Core.List.{List, [], _∷_}
+use mathlib.Core.Path.{_≡_, refl, sym}
+use Prim.Native.Nat.{ℕ, suc, _+_, _*_, _-_, _≤_, _<_}
+use native.Mathlib.Omega.{arith}
+use lib.Seq.{drop-drop}
+use Rattle.bits.specs.Bits.{bitsOf, fieldAt, bytesAt}
+use Rattle.bits.specs.laws.Digits.{bytes-zero, bytes-suc}
+use Rattle.text.specs.Text.{plain, levelOne, english, chinese}
+
+-- the n bytes from bit `at`, without the first i
+abbrev pub left : List ℕ → ℕ → ℕ → ℕ → List ℕ
+left s at n i = bytesAt s (at + i * 8) (n - i)
+
+module _ (s : List ℕ) (at n : ℕ) where
+  pub left-all : left s at n 0 ≡ bytesAt s at n
+  left-all =
+      let place : at + 0 * 8 ≡ at = omega arith in
+      let count : n - 0 ≡ n = omega arith in
+      rw (place, count)
+
+  module _ (i : ℕ) where
+    pub left-next : {x : ℕ} → i < n → x ≡ fieldAt s (at + i * 8) 8 → left s at n i ≡ x ∷ left s at n (i + 1)
+    unfolding bytesAt fieldAt
+    left-next h e =
+        let count : n - i ≡ suc (n - (i + 1)) = omega arith in
+        let place : at + i * 8 + 8 ≡ at + (i + 1) * 8 = omega arith in
+        rw (e, count, bytes-suc, drop-drop 8 (at + i * 8) (bitsOf s), place)
+
+    pub left-none : n ≤ i → left s at n i ≡ []
+    unfolding bytesAt
+    left-none h = let count : n - i ≡ 0 = omega arith in rw (count, bytes-zero)
+
+pub english-none : (g : Bool) → (g && english []) ≡ g
+unfolding english
+english-none g = and-true g
+
+pub english-next : (g : Bool) (x : ℕ) (t : List ℕ) → (g && english (x ∷ t)) ≡ (g && plain x && english t)
+unfolding english
+english-next g x t = sym (and-assoc g (plain x) (english t))
+
+pub chinese-none : chinese [] ≡ true
+unfolding chinese
+chinese-none = refl
+
+pub chinese-plain : (x : ℕ) (t : List ℕ) → plain x ≡ true → chinese (x ∷ t) ≡ chinese t
+unfolding chinese
+chinese-plain x [] p = p
+chinese-plain x (y ∷ t) p = rw p
+
+pub chinese-half : (x : ℕ) → plain x ≡ false → chinese (x ∷ []) ≡ false
+unfolding chinese
+chinese-half x p = p
+
+pub chinese-pair : (x y : ℕ) (t : List ℕ) → plain x ≡ false → chinese (x ∷ y ∷ t) ≡ (levelOne x y && chinese t)
+unfolding chinese
+chinese-pair x y t p = rw p

@@ -1,0 +1,2 @@
+-- What the proofs of the two loops cite.
+mod Left

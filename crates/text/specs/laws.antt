@@ -1,0 +1,2 @@
+-- What is proved of text.
+pub mod Clean
