@@ -1,10 +1,7 @@
 // Reading: each kind of field, from the bytes.
-ghost use mathlib.Core.Bool.{cond, true, false, _&&_};
+ghost use mathlib.Core.Bool.{true, false};
 ghost use mathlib.Core.Path.{_≡_};
 ghost use Prim.Native.Nat.{_^_, _<_};
-ghost use lib.Dec.{eqb};
-ghost use lib.ListN.{length};
-ghost use Rattle.bits.specs.Answers.{within, got};
 ghost use Rattle.field.specs.Faults.{wholly};
 ghost use Rattle.layout.specs.Reading.{given, carried, blanked, ranged, signedly, parted, grouped, ended};
 ghost use Rattle.layout.specs.Walk.{onward};
@@ -150,19 +147,6 @@ impl Walk {
             spot: all.spot,
             width: all.width,
         }
-    }
-
-    // The walk past a field's parts where w zero bits are good too: from self, as it was before them.
-    pub fn or_zero(self, s: &[u8], w: usize, parts: Walk) -> Self
-        ensures { λ r. ⌜ r ≡ cond (within (length (now (s .entry))) (self .at) w && eqb (got (now (s .entry)) (self .at) w) 0) self parts ⌝ }
-    {
-        let at = self.at;
-        if bits::holds(s.len(), at, w) {
-            if bits::get(s, at, w) == 0 {
-                return self;
-            }
-        }
-        parts
     }
 
     // The end: zero bits up to a whole byte, then nothing.

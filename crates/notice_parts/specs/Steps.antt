@@ -1,6 +1,6 @@
 -- What the code answers: a subtype's limits, and its steps over an expiry and over an angle, read and judged. Assumes nothing.
 use Prim.Native.Nat.{ℕ}
-use mathlib.Core.Bool.{_||_, cond}
+use mathlib.Core.Bool.{false, _||_, cond}
 use mathlib.Core.List.{List}
 use lib.Dec.{eqb}
 use Rattle.bits.specs.Answers.{got}
@@ -42,8 +42,12 @@ angleJudged n d most v r = judgedAs (anglePieced n d most v) r
 abbrev pub angleParted : List ℕ → ℕ → ℕ → Walk → Walk
 angleParted s d most r = parted s 7 0 99 (parted s 6 0 60 (parted s d 0 most (parted s 1 0 1 r)))
 
+-- a walk at the bit `at`, with the refusal `code` at `place`, that has no value and seeks nothing
+abbrev pub bare : ℕ → ℕ → ℕ → Walk
+bare at code place = record { at = at; code = code; place = place; v = 0; seek = false; left = 0; spot = 0; width = 0 }
+
 abbrev pub angleRead : List ℕ → ℕ → ℕ → ℕ → Walk → Walk
-angleRead s n d most r = partwise s n (anglePieced n d most (got s (r .at) n)) (angleParted s d most r) r
+angleRead s n d most r = partwise s n (anglePieced n d most (got s (r .at) n)) (angleParted s d most (bare (r .at) (r .code) (r .place))) r
 
 abbrev pub latitudeRead : List ℕ → Walk → Walk
 latitudeRead s r = angleRead s 21 7 90 r

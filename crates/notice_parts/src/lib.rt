@@ -1,7 +1,7 @@
 // The notice's fields that have several parts, and the limits of its subtype (paper 01, "Notice and packet"): read, and judged.
 ghost use mathlib.Core.Path.{_≡_};
 ghost use Prim.Native.Nat.{_^_, _<_};
-ghost use Rattle.notice_parts.specs.Steps.{leastSubtype, mostSubtype, momentRead, expiryRead, angleRead, latitudeRead, longitudeRead, expiryJudged, angleJudged, latitudeJudged, longitudeJudged};
+ghost use Rattle.notice_parts.specs.Steps.{leastSubtype, mostSubtype, momentRead, expiryRead, bare, angleParted, latitudeRead, longitudeRead, expiryJudged, angleJudged, latitudeJudged, longitudeJudged};
 use field::pieces::Pieces;
 use layout::walk::Walk;
 
@@ -67,26 +67,42 @@ fn moment(s: &[u8], w: Walk) -> Walk
 pub fn latitude(s: &[u8], w: Walk) -> Walk
     ensures { λ r. ⌜ (r ≡ latitudeRead (now (s .entry)) w) × (r .v < 2 ^ 21) ⌝ }
 {
-    angle(s, w, LATITUDE, 7, 90)
+    let at = w.at;
+    if bits::holds(s.len(), at, LATITUDE) {
+        return judged_latitude(w, bits::get(s, at, LATITUDE));
+    }
+    let parts = cut_angle(s, at, w.code, w.place, 7, 90);
+    w.group(s, LATITUDE, parts)
 }
 
 pub fn longitude(s: &[u8], w: Walk) -> Walk
     ensures { λ r. ⌜ (r ≡ longitudeRead (now (s .entry)) w) × (r .v < 2 ^ 22) ⌝ }
 {
-    angle(s, w, LONGITUDE, 8, 180)
+    let at = w.at;
+    if bits::holds(s.len(), at, LONGITUDE) {
+        return judged_longitude(w, bits::get(s, at, LONGITUDE));
+    }
+    let parts = cut_angle(s, at, w.code, w.place, 8, 180);
+    w.group(s, LONGITUDE, parts)
 }
 
-// An angle of n bits: south or west, degrees of d bits and no more than `most`, minutes, hundredths.
-fn angle(s: &[u8], w: Walk, n: usize, d: usize, most: u64) -> Walk
-    ensures { λ r. ⌜ (r ≡ angleRead (now (s .entry)) n d most w) × (r .v < 2 ^ n) ⌝ }
+// An angle that is cut, at bit `at`, where `code` was refused at `place`. It takes no more of the walk than this, so that
+// the walk over the points need not stand in memory for its sake.
+fn cut_angle(s: &[u8], at: usize, code: u8, place: usize, d: usize, most: u64) -> Walk
+    ensures { λ r. ⌜ r ≡ angleParted (now (s .entry)) d most (bare at code place) ⌝ }
 {
-    let at = w.at;
-    if bits::holds(s.len(), at, n) {
-        return judged_angle(w, bits::get(s, at, n), n, d, most);
-    }
+    let w = Walk {
+        at,
+        code,
+        place,
+        v: 0,
+        seek: false,
+        left: 0,
+        spot: 0,
+        width: 0,
+    };
     let degrees = w.part(s, 1, 0, 1).part(s, d, 0, most);
-    let parts = degrees.part(s, 6, 0, MINUTES).part(s, 7, 0, HUNDREDTHS);
-    w.group(s, n, parts)
+    degrees.part(s, 6, 0, MINUTES).part(s, 7, 0, HUNDREDTHS)
 }
 
 // ---- judging what a record spells
@@ -114,6 +130,7 @@ pub fn judged_longitude(w: Walk, v: u64) -> Walk
     judged_angle(w, v, LONGITUDE, 8, 180)
 }
 
+// South or west, degrees of d bits and no more than `most`, minutes, hundredths: n bits.
 fn judged_angle(w: Walk, v: u64, n: usize, d: usize, most: u64) -> Walk
     ensures { λ r. ⌜ r ≡ angleJudged n d most v w ⌝ }
 {

@@ -8,7 +8,7 @@ use native.Mathlib.Nat.{add-assoc, mod-eq-of-lt}
 use lib.Dec.{leb, eqb}
 use lib.ListN.{length, take, drop, length-take, length-drop}
 use lib.Seq.{drop-drop, take-take}
-use borrow.Author.Tests.{le-leb, lt-leb, leb-true, leb-false, eq-eqb, ne-eqb, eqb-true}
+use borrow.Author.Tests.{le-leb, lt-leb, leb-true, leb-false, ne-eqb, eqb-true}
 use Rattle.bits.specs.Bits.{valueOf, bitsOf, fieldAt}
 use Rattle.bits.specs.Answers.{within, got}
 use Rattle.bits.specs.laws.Answers.{got-fits}
@@ -17,7 +17,7 @@ use Rattle.format.specs.Fmt.{Out, accepted, refused, Fault, good, bad, orBad, J
 use Rattle.layout.specs.Reading.{parted, grouped}
 use Rattle.field.specs.Faults.{ranging}
 use Rattle.layout.specs.Walk.{onward}
-use Rattle.format.specs.Words.{_‥_, Part, part, walk, wide, orElse, unless, orZero, free}
+use Rattle.format.specs.Words.{_‥_, Part, part, walk, wide, orElse, unless, free}
 use Rattle.format.specs.laws.Round.{clash}
 use Rattle.layout.specs.laws.Step.{sticky, clear, Reading, read-flaw, also-also, step-spots}
 use Rattle.format.specs.laws.Tells.{blamed as placed}
@@ -119,24 +119,6 @@ passed-clean r x at p e z = go (eqb (r .code) 0) refl x (e (accepted []) ∙ cle
     go false t x e = clash e
     go true t (bad c i) e = clash e
     go true t good e = (eqb-true (r .code) 0 t, refl)
-
--- w zero bits are good too: the walk is then as it was before the parts
-pub zero-passes : (s : List ℕ) (at n : ℕ) (j : Judge) (h : List ℕ) (r p : Walk) {q : Walk} → n ≤ 32 → 0 < n → r .at ≡ at → Passes r (j h (take n (drop at (bitsOf s)))) at p
-    → q ≡ cond (within (length s) (r .at) n && eqb (got s (r .at) n) 0) r p → Passes r (orZero n j h (take n (drop at (bitsOf s)))) at q
-unfolding orZero fieldAt
-zero-passes s at n j h r p {q} small some e pass d o = go (leb (at + n) (length s * 8)) refl (eqb (valueOf (take n (drop at (bitsOf s)))) 0) refl
-  where
-    long : length (take n (drop at (bitsOf s))) ≡ min n (length s * 8 - at)
-    long = length-take n (drop at (bitsOf s)) ∙ ap (min n) (length-drop at (bitsOf s) ∙ ap (_- at) (length-bits s))
-
-    go : (x : Bool) → leb (at + n) (length s * 8) ≡ x → (y : Bool) → eqb (valueOf (take n (drop at (bitsOf s)))) 0 ≡ y
-        → sticky r (check (orZero n j h (take n (drop at (bitsOf s)))) at o) ≡ sticky q o
-    go true ex true ey = let l = leb-true (at + n) (length s * 8) ex in
-        rw (d, e, le-leb n 32 small, ex, ey, eq-eqb (length (take n (drop at (bitsOf s)))) n (omega (arith, long))) refl
-    go true ex false ey = let l = leb-true (at + n) (length s * 8) ex in
-        rw (d, e, le-leb n 32 small, ex, ey, eq-eqb (length (take n (drop at (bitsOf s)))) n (omega (arith, long))) (pass o)
-    go false ex y ey = let l = leb-false (at + n) (length s * 8) ex in
-        rw (d, e, le-leb n 32 small, ex, ne-eqb (length (take n (drop at (bitsOf s)))) n (λ z. omega (arith, long))) (pass o)
 
 -- Past a field whose parts led from r to p.
 module _ {o : Out (List ℕ)} {all : Fmt} {i : ℕ} {s : List ℕ} {h : List ℕ} {at : ℕ} {k : List ℕ → List ℕ} {r : Walk} {n : ℕ} {j : Judge} {f : Fmt} (p : Walk)

@@ -19,7 +19,7 @@ use Rattle.layout.specs.laws.Pieces.{Pieced, piece-start, piece-step, piece-end
 use Rattle.layout.specs.laws.Step.{Reading}
 use Rattle.layout.specs.declared.walk.Walk.{Walk}
 use Rattle.notice_parts.specs.Parts.{moment, expiry, angle, latitude, longitude}
-use Rattle.notice_parts.specs.Steps.{expiryPieced, expiryJudged, momentRead, expiryRead, anglePieced, angleJudged, angleParted, angleRead, latitudeRead, longitudeRead, latitudeJudged, longitudeJudged}
+use Rattle.notice_parts.specs.Steps.{expiryPieced, expiryJudged, momentRead, expiryRead, anglePieced, angleJudged, angleParted, bare, angleRead, latitudeRead, longitudeRead, latitudeJudged, longitudeJudged}
 
 -- ---- the number's parts judged
 
@@ -69,9 +69,9 @@ moment-passes s h at r reach here =
     part-end (part-step s at 21 15 6 0 59 (lit≤ tt) (lit< tt) (lit≤ tt) _ [] reach p4 refl)
 
 angle-passes : (n d most : ℕ) (s : List ℕ) (h : List ℕ) (at : ℕ) (r : Walk) → 14 + d ≡ n → 0 < d → n ≤ 32 → at + n < 2 ^ 64 → r .at ≡ at
-    → Passes r (walk (angle d most) 0 h (take n (drop at (bitsOf s)))) at (angleParted s d most r)
+    → Passes r (walk (angle d most) 0 h (take n (drop at (bitsOf s)))) at (angleParted s d most (bare (r .at) (r .code) (r .place)))
 angle-passes n d most s h at r all some small reach here =
-    let p0 = part-start r at (take n (drop at (bitsOf s))) (angle d most) h here in
+    let p0 = part-start (bare (r .at) (r .code) (r .place)) at (take n (drop at (bitsOf s))) (angle d most) h here in
     let p1 = part-step s at n 0 1 0 1 (omega (arith, all)) (lit< tt) (lit≤ tt) h _ reach p0 refl in
     let p2 = part-step s at n 1 d 0 most (omega (arith, all)) some (omega (arith, all, small)) _ _ reach p1 refl in
     let p3 = part-step s at n (1 + d) 6 0 60 (omega (arith, all)) (lit< tt) (lit≤ tt) _ _ reach p2 refl in
@@ -87,7 +87,7 @@ module _ {o : Out (List ℕ)} {all : Fmt} {i : ℕ} {s : List ℕ} {h : List ℕ
   angle-read : (n d most : ℕ) → wide (angle d most) ≡ n → 14 + d ≡ n → 0 < d → n ≤ 32 → at + n < 2 ^ 64 → Reading o all i s (field n (walk (angle d most) 0) free f) h at k r
       → q ≡ angleRead s n d most r → Reading o all i s f (q .v ∷ h) (at + n) (λ vs. k (q .v ∷ vs)) q
   angle-read n d most parts long some small reach e x =
-      step-parts n (angle d most) (angleParted s d most r) parts (omega (arith, long)) small reach (λ _. refl)
+      step-parts n (angle d most) (angleParted s d most (bare (r .at) (r .code) (r .place))) parts (omega (arith, long)) small reach (λ _. refl)
       (angle-passes n d most s h at r long some small reach (e .here)) (angle-pieces n d most h (got s (r .at) n) parts) e x
 
   pub latitude-read : at + 21 < 2 ^ 64 → Reading o all i s (latitude f) h at k r → q ≡ latitudeRead s r → Reading o all i s f (q .v ∷ h) (at + 21) (λ vs. k (q .v ∷ vs)) q
@@ -111,11 +111,11 @@ module _ (s : List ℕ) (r : Walk) {q : Walk} where
 
   pub angle-v : (n d most : ℕ) → q ≡ angleRead s n d most r → q .v ≡ got s (r .at) n
   unfolding pieced
-  angle-v n d most x = parts-v s n (anglePieced n d most (got s (r .at) n)) (angleParted s d most r) r refl x
+  angle-v n d most x = parts-v s n (anglePieced n d most (got s (r .at) n)) (angleParted s d most (bare (r .at) (r .code) (r .place))) r refl x
 
   pub angle-at : (n d most : ℕ) → q ≡ angleRead s n d most r → q .at ≡ (r .at + n) % 2 ^ 64
   unfolding pieced
-  angle-at n d most x = parts-at s n (anglePieced n d most (got s (r .at) n)) (angleParted s d most r) r refl x
+  angle-at n d most x = parts-at s n (anglePieced n d most (got s (r .at) n)) (angleParted s d most (bare (r .at) (r .code) (r .place))) r refl x
 
   pub latitude-v : q ≡ latitudeRead s r → q .v ≡ got s (r .at) 21
   latitude-v d = angle-v 21 7 90 d
