@@ -4,7 +4,7 @@ use mathlib.Core.Bool.{true, false}
 use mathlib.Core.List.{List}
 use Rattle.layout.specs.Reading.{ranged}
 use Rattle.layout.specs.declared.walk.Walk.{Walk}
-use Rattle.notice_areas.specs.Areas.{Kind, sea, circle, several, kindOf}
+use Rattle.notice_areas.specs.Areas.{Kind, sea, circle, several}
 use Rattle.notice_areas.specs.declared.Opened.{Opened}
 
 -- of a kind, up to its points, and how many they are

@@ -6,7 +6,6 @@ use Prim.Native.Nat.{ℕ}
 use lib.Dec.{leb}
 use lib.ListN.{length, drop}
 use Rattle.format.specs.Fmt.{Out, accepted, check, orBad, after}
-use Rattle.format.specs.Message.{codeOf, readMessage}
 use Rattle.format.specs.Promises.{answered, readRecord}
 use Rattle.notice_reading.specs.Notice.{notices}
 use Rattle.notice_reading.specs.Record.{Whole, recordOf}

@@ -2,7 +2,7 @@
 use Prim.Native.Nat.{ℕ, _+_, _*_, _≤_}
 use mathlib.Core.Path.{_≡_}
 use mathlib.Core.Bool.{Bool}
-use mathlib.Core.List.{List, [], _∷_, _++_}
+use mathlib.Core.List.{List, [], _++_}
 use lib.ListN.{length}
 use Rattle.bits.specs.Bits.{bitsOf, bytesAt}
 use Rattle.format.specs.Fmt.{Out, Fmt, end, read}
@@ -10,10 +10,9 @@ use Rattle.format.specs.Words.{_▹_}
 use Rattle.layout.specs.laws.Along.{Going}
 use Rattle.layout.specs.laws.Walked.{Walked}
 use Rattle.layout.specs.declared.walk.Walk.{Walk}
-use Rattle.notice_areas.specs.Standing.{areasAt, areasEnd}
+use Rattle.notice_areas.specs.Standing.{areasAt}
 use Rattle.notice_reading.specs.Notice.{text, rest, notice}
 use Rattle.notice_reading.specs.Record.{headed, texted}
-use Rattle.notice_reading.specs.declared.Notice.{Notice}
 use Rattle.notice_reading.specs.declared.Opening.{Opening}
 use Rattle.notice_reading.specs.declared.Ending.{Ending}
 use Rattle.notice_reading.specs.declared.Course.{Course}

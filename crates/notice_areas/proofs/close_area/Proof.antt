@@ -1,13 +1,9 @@
 -- `close_area` meets its contract: a circle has two numbers behind its point.
-use mathlib.Core.Path.{_≡_, refl, sym, ap, _∙_}
-use mathlib.Core.Bool.{true, false}
-use borrow.Author.Tests.{eq-eqb, ne-eqb}
+use mathlib.Core.Path.{sym, ap, _∙_}
+use mathlib.Core.Bool.{true}
 use Rattle.layout.specs.Reading.{ranged}
-use Rattle.layout.specs.declared.walk.Walk.{Walk}
-use Rattle.notice_areas.specs.Areas.{leastOf}
-use Rattle.notice_areas.specs.Steps.{openedAs, closedAs}
-use Rattle.notice_areas.specs.declared.Opened.{Opened}
-use Rattle.notice_areas.specs.laws.Kinds.{kind-sea, kind-circle, kind-several, closed-plain}
+use Rattle.notice_areas.specs.Steps.{closedAs}
+use Rattle.notice_areas.specs.laws.Kinds.{kind-circle, closed-plain}
 use borrow.Author.Needs.{needs}
 use Rattle.notice_areas.proofs.close_area.Statement.{statement}
 use Rattle.notice_areas.proofs.close_area.Tie as tie

@@ -1,13 +1,6 @@
 -- `least` meets its contract: by the number of the kind.
-use mathlib.Core.Path.{_≡_, refl, sym, ap, _∙_}
-use mathlib.Core.Bool.{true, false}
-use borrow.Author.Tests.{eq-eqb, ne-eqb}
-use Rattle.layout.specs.Reading.{ranged}
-use Rattle.layout.specs.declared.walk.Walk.{Walk}
-use Rattle.notice_areas.specs.Areas.{leastOf}
-use Rattle.notice_areas.specs.Steps.{openedAs, closedAs}
-use Rattle.notice_areas.specs.declared.Opened.{Opened}
-use Rattle.notice_areas.specs.laws.Kinds.{kind-sea, kind-circle, kind-several, closed-plain}
+use mathlib.Core.Path.{refl}
+use borrow.Author.Tests.{ne-eqb}
 use Rattle.notice_areas.proofs.least.Statement.{statement}
 use Rattle.notice_areas.proofs.least.Tie as tie
 

@@ -1,13 +1,11 @@
 -- `open_area` meets its contract: by the number of the kind, as `kindOf` goes.
-use mathlib.Core.Path.{_≡_, refl, sym, ap, _∙_}
-use mathlib.Core.Bool.{true, false}
-use borrow.Author.Tests.{eq-eqb, ne-eqb}
+use mathlib.Core.Path.{_≡_, sym, ap, _∙_}
+use mathlib.Core.Bool.{false}
 use Rattle.layout.specs.Reading.{ranged}
 use Rattle.layout.specs.declared.walk.Walk.{Walk}
 use Rattle.notice_areas.specs.Areas.{leastOf}
-use Rattle.notice_areas.specs.Steps.{openedAs, closedAs}
-use Rattle.notice_areas.specs.declared.Opened.{Opened}
-use Rattle.notice_areas.specs.laws.Kinds.{kind-sea, kind-circle, kind-several, closed-plain}
+use Rattle.notice_areas.specs.Steps.{openedAs}
+use Rattle.notice_areas.specs.laws.Kinds.{kind-sea, kind-circle, kind-several}
 use borrow.Author.Needs.{needs}
 use Rattle.notice_areas.proofs.open_area.Statement.{statement}
 use Rattle.notice_areas.proofs.open_area.Tie as tie

@@ -1,5 +1,5 @@
 -- `walk` meets its contract: i areas are passed, and of the next one j points; the first bad point leaves both loops.
-use Prim.Native.Nat.{ℕ, _+_, _-_, _*_, _≤_, _<_, _^_}
+use Prim.Native.Nat.{_+_, _-_, _≤_}
 use mathlib.Core.Path.{_≡_, refl, subst}
 use mathlib.Core.Bool.{false}
 use native.Mathlib.Omega.{arith}

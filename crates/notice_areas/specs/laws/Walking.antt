@@ -1,18 +1,17 @@
 -- Areas walked: one point, what an area holds by its kind, one area; each is a stretch of reading, and the stretches are joined. Assumes nothing.
-use Prim.Native.Nat.{ℕ, zero, suc, _+_, _-_, _*_, _≤_, _<_, _^_}
+use Prim.Native.Nat.{ℕ, suc, _+_, _-_, _*_, _≤_, _<_, _^_}
 use mathlib.Core.Path.{_≡_, refl, sym, ap, ap₂, _∙_, subst, subst⁻¹}
-use mathlib.Core.Bool.{Bool, true, false}
-use mathlib.Core.List.{List, [], _∷_, _++_, append-assoc, append-nil}
+use mathlib.Core.Bool.{true, false}
+use mathlib.Core.List.{List, [], _∷_, _++_}
 use native.Mathlib.Omega.{arith}
 use native.Mathlib.Nat.{mod-eq-of-lt}
 use native.Mathlib.Numerals.{add-one}
-use lib.Dec.{eqb, lit<, lit≤}
-use borrow.Author.Tests.{eqb-true, eqb-false}
+use lib.Dec.{lit<, lit≤}
 use Rattle.bits.specs.Answers.{got}
 use Rattle.format.specs.Fmt.{Fmt}
 use Rattle.format.specs.Words.{_‥_, _▹_, num}
 use Rattle.layout.specs.Reading.{ranged}
-use Rattle.layout.specs.laws.Along.{Along, go, stay, then, under, dropped, along-num, along-decide, ranged-v, ranged-at, ranged-clean}
+use Rattle.layout.specs.laws.Along.{Along, go, stay, then, under, dropped, along-num, along-decide, ranged-v, ranged-at}
 use Rattle.layout.specs.laws.Reading.{got-lt}
 use Rattle.layout.specs.declared.walk.Walk.{Walk}
 use Rattle.notice_parts.specs.Steps.{latitudeRead, longitudeRead}

@@ -1,22 +1,16 @@
 -- `fill` meets its contract: the numbers of the first i areas stand in the row.
-use Prim.Native.Nat.{ℕ, _+_, _-_, _*_, _≤_, _<_}
+use Prim.Native.Nat.{_+_, _-_, _*_, _≤_}
 use mathlib.Core.Path.{_≡_, refl, sym, ap, ap₂, _∙_}
-use mathlib.Core.List.{[], _∷_}
 use native.Mathlib.Omega.{arith}
 use native.Mathlib.Numerals.{add-one}
 use native.Mathlib.Nat.{zero-add}
-use borrow.Author.Needs.{needs}
-use lib.ListN.{length, set, length-set}
+use lib.ListN.{length}
 use lib.Seq.{sets, length-sets}
-use Rattle.bits.specs.Answers.{got}
-use Rattle.layout.specs.laws.Reading.{got-lt}
-use Rattle.notice_areas.specs.Areas.{kindOf}
-use Rattle.notice_areas.specs.Standing.{pointsAt, areaAt, insideAt, areasAt, areasEnd}
-use Rattle.notice_areas.specs.laws.Kinds.{kind-sea, kind-circle, kind-several}
-use Rattle.notice_numbers.specs.Shapes.{shapeAs, shapeAt, numbersIn, pointsIn, extentAt}
+use Rattle.notice_areas.specs.Standing.{areaAt, areasAt, areasEnd}
+use Rattle.notice_numbers.specs.Shapes.{shapeAt, numbersIn}
 use Rattle.notice_numbers.specs.declared.Shape.{Shape}
-use Rattle.notice_numbers.specs.laws.Shapes.{points-long, area-numbers, area-small, area-within, numbers-in, area-next, numbers-more, points-more, next-more}
-use Rattle.notice_numbers.specs.laws.Rows.{points-turn, areas-turn, sea-stored, circle-stored, sea-long, circle-long, several-long, several-stored}
+use Rattle.notice_numbers.specs.laws.Shapes.{area-small, area-within, numbers-in, numbers-more, next-more}
+use Rattle.notice_numbers.specs.laws.Rows.{areas-turn}
 use Rattle.notice_numbers.proofs.fill.Statement.{statement}
 use Rattle.notice_numbers.proofs.fill.Tie as tie
 

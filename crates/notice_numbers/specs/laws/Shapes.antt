@@ -1,9 +1,9 @@
 -- An area's shape says where the next begins and how many numbers it has: by its kind; and of n areas, one more at the end. Assumes nothing.
 use Prim.Native.Nat.{ℕ, zero, suc, _+_, _*_, _≤_, _<_}
 use mathlib.Core.Path.{_≡_, refl, sym, ap, ap₂, _∙_}
-use mathlib.Core.List.{List, [], _∷_, _++_}
+use mathlib.Core.List.{List, [], _∷_}
 use native.Mathlib.Omega.{arith}
-use native.Mathlib.Nat.{add-assoc, zero-add}
+use native.Mathlib.Nat.{add-assoc}
 use lib.ListN.{length, length-append}
 use Rattle.bits.specs.Answers.{got}
 use Rattle.layout.specs.laws.Reading.{got-lt}

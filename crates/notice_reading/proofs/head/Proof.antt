@@ -1,39 +1,21 @@
 -- `head` walks up to the areas: one step a field, the subtype by its limits.
-use Prim.Native.Nat.{ℕ, _+_, _-_, _*_, _≤_, _<_, _^_}
-use mathlib.Core.Path.{_≡_, refl, sym, ap, ap₂, _∙_, subst, subst⁻¹}
-use mathlib.Core.Bool.{true, false, cond, _&&_}
-use mathlib.Core.List.{[], _∷_, _++_}
+use Prim.Native.Nat.{_-_, _≤_, _<_}
+use mathlib.Core.Path.{refl, ap₂, _∙_}
+use mathlib.Core.Bool.{true}
+use mathlib.Core.List.{[]}
 use native.Mathlib.Omega.{arith}
 use lib.Dec.{lit<, lit≤}
-use lib.ListN.{length, drop}
-use lib.Seq.{sets, sets-eq}
 use borrow.Author.Needs.{needs}
-use borrow.Author.Tests.{le-leb, lt-leb}
-use Rattle.bits.specs.Answers.{spanned}
-use Rattle.bits.specs.Bits.{bytesAt}
-use Rattle.bits.specs.laws.Runs.{length-run}
-use Rattle.format.specs.Fmt.{also}
-use Rattle.format.specs.Message.{codeOf}
 use Rattle.format.specs.Words.{_‥_}
 use Rattle.layout.specs.Reading.{ranged}
-use Rattle.layout.specs.Walk.{onward}
-use Rattle.layout.specs.laws.Along.{Going}
-use Rattle.layout.specs.laws.Reading.{start, step-num, step-limits, step-decide, got-lt}
-use Rattle.layout.specs.laws.Step.{Reading}
+use Rattle.layout.specs.laws.Along.{going}
+use Rattle.layout.specs.laws.Reading.{start, step-num, step-limits, step-decide}
 use Rattle.notice_parts.specs.laws.Subtypes.{subtype-limits}
 use Rattle.notice_parts.specs.laws.Walking.{expiry-read}
 use Rattle.notice_parts.specs.Parts.{subtype}
-use Rattle.notice_areas.specs.Standing.{areasAt}
-use Rattle.notice_numbers.specs.laws.Shapes.{numbers-in}
-use Rattle.notice_reading.specs.Notice.{notice, rest, sizes}
-use Rattle.notice_reading.specs.Promises.{Reads, ahead}
-use Rattle.notice_reading.specs.Record.{recordOf, headed, texted}
-use Rattle.notice_reading.specs.Steps.{fieldsRead, HeadIs, FieldsAre}
-use Rattle.notice_reading.specs.laws.Closing.{closed-refused, closed-text}
-use Rattle.notice_reading.specs.laws.Told.{reads-refused, reads-few, reads-short, reads-good, sizes-small, read-on, read-not, walked-good, walked-bad, walked-code}
+use Rattle.notice_reading.specs.Notice.{notice as Notice·notice}
+use Rattle.notice_reading.specs.Record.{headed}
 use Rattle.notice_reading.specs.declared.Notice.{Notice}
-use Rattle.notice_reading.specs.declared.Told.{Told}
-use Rattle.notice_reading.specs.declared.Answer.the-variants.{Good}
 use Rattle.notice_reading.proofs.head.Statement.{statement}
 use Rattle.notice_reading.proofs.head.Tie as tie
 
@@ -95,7 +77,7 @@ cast-t23 : tie.Need-cast-t23
 cast-t23 c = search needs
 
 returns : tie.Need-returns
-unfolding notice
+unfolding Notice·notice
 returns c =
     let d = c .before in
     let x = d .before .before in
@@ -111,21 +93,22 @@ returns c =
     let s = a .s .now in
     let kind = n5 .num5 .result .v in
     let limits = n6 .num6 .ensures .0 ∙ ap₂ (λ lo hi. ranged s 4 true lo hi 4 (n5 .num5 .result)) (m .before .least-subtype .ensures) (m .most-subtype .ensures) in
+    let notice : Notice = record { source = n1 .num .result .v; station = n2 .num2 .result .v; serial = n3 .num3 .result .v; year = n4 .num4 .result .v; kind = kind; subtype = n6 .num6 .result .v; expiry = x .expiry .result .v; count = d .decide .result .v } in
     λ english.
-        let r0 = start (notice english) (a .want) 0 s (b .begin .ensures) in
-        let r1 = step-num 5 (lit< tt) (lit≤ tt) (lit< tt) 1 21 r0 (n1 .num .ensures .0) in
-        let r2 = step-num 4 (lit< tt) (lit≤ tt) (lit< tt) 1 3 r1 (n2 .num2 .ensures .0) in
-        let r3 = step-num 14 (lit< tt) (lit≤ tt) (lit< tt) 1 9_999 r2 (n3 .num3 .ensures .0) in
-        let r4 = step-num 7 (lit< tt) (lit≤ tt) (lit< tt) 0 99 r3 (n4 .num4 .ensures .0) in
-        let r5 = step-num 4 (lit< tt) (lit≤ tt) (lit< tt) 1 8 r4 (n5 .num5 .ensures .0) in
-        let r6 = step-limits 4 (lit< tt) (lit≤ tt) (lit< tt) 3 _ _ subtype (λ v. subtype-limits kind _ v) r5 limits in
-        let r7 = expiry-read (lit< tt) r6 (x .expiry .ensures .0) in
-        let r8 = step-decide 4 (lit< tt) (lit≤ tt) (lit< tt) 3 0 15 (0 ‥ 15) (λ v. refl) r7 (d .decide .ensures .0) in
-        record {
-          going = record { past = _; so = subst⁻¹ (λ at. Reading _ _ _ s _ _ at _ (d .decide .result)) (r8 .here) r8 };
-          here = r8 .here;
-          few = omega (arith, d .decide .ensures .1);
-        }
+    let r0 = start (Notice·notice english) (a .want) 0 s (b .begin .ensures) in
+    let r1 = step-num 5 (lit< tt) (lit≤ tt) (lit< tt) 1 21 r0 (n1 .num .ensures .0) in
+    let r2 = step-num 4 (lit< tt) (lit≤ tt) (lit< tt) 1 3 r1 (n2 .num2 .ensures .0) in
+    let r3 = step-num 14 (lit< tt) (lit≤ tt) (lit< tt) 1 9_999 r2 (n3 .num3 .ensures .0) in
+    let r4 = step-num 7 (lit< tt) (lit≤ tt) (lit< tt) 0 99 r3 (n4 .num4 .ensures .0) in
+    let r5 = step-num 4 (lit< tt) (lit≤ tt) (lit< tt) 1 8 r4 (n5 .num5 .ensures .0) in
+    let r6 = step-limits 4 (lit< tt) (lit≤ tt) (lit< tt) 3 _ _ subtype (λ v. subtype-limits kind _ v) r5 limits in
+    let r7 = expiry-read (lit< tt) r6 (x .expiry .ensures .0) in
+    let r8 = step-decide 4 (lit< tt) (lit≤ tt) (lit< tt) 3 0 15 (0 ‥ 15) (λ v. refl) r7 (d .decide .ensures .0) in
+    record {
+      going = going (headed notice []) r8;
+      here = r8 .here;
+      few = omega (arith, d .decide .ensures .1);
+    }
 
 pub head-spec : {M : Type 1} → statement M
 head-spec =

@@ -2,7 +2,7 @@
 use mathlib.Core.Path.{_≡_, refl, sym, ap, _∙_, subst⁻¹}
 use mathlib.Core.Bool.{Bool, true, false, cond, _&&_, false≢true}
 use mathlib.Core.List.{List, [], _∷_, _++_}
-use Prim.Native.Nat.{ℕ, _+_, _-_, _*_, _/_, _≤_, _<_, _^_}
+use Prim.Native.Nat.{ℕ, _+_, _-_, _*_, _≤_}
 use native.Mathlib.Omega.{arith}
 use lib.Seq.{length-take-le}
 use lib.ListN.{length, take, drop, length-drop}
@@ -17,16 +17,13 @@ use Rattle.format.specs.Words.{orElse, unless, kept}
 use Rattle.format.specs.laws.Tells.{blamed}
 use Rattle.layout.specs.Reading.{ended}
 use Rattle.layout.specs.Walk.{onward}
-use Rattle.layout.specs.laws.Along.{Going}
 use Rattle.layout.specs.laws.Reading.{step-rest}
 use Rattle.layout.specs.laws.Step.{Steps, Reading, stuck, step-late}
-use Rattle.layout.specs.laws.Walked.{Walked, finish, same-values}
+use Rattle.layout.specs.laws.Walked.{finish, same-values}
 use Rattle.layout.specs.declared.walk.Walk.{Walk}
 use Rattle.text.specs.Text.{inLanguage}
 use Rattle.notice_reading.specs.Notice.{text}
-use Rattle.notice_reading.specs.Record.{texted}
 use Rattle.notice_reading.specs.Steps.{ClosedIs}
-use Rattle.notice_reading.specs.declared.Ending.{Ending}
 
 -- n bytes are packed from their own bits alone
 pub front-bytes : (n : ℕ) (b : List Bool) → n * 8 ≤ length b → bytesOf n (take (n * 8) b) ≡ bytesOf n b

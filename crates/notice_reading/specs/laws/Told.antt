@@ -1,28 +1,30 @@
 -- The record of a head's, areas' and text's values is these; and the three ways in which reading answers. Assumes nothing.
-use mathlib.Core.Path.{_≡_, refl, sym, ap, ap₂, _∙_}
+use mathlib.Core.Path.{_≡_, refl, sym, ap, _∙_}
 use mathlib.Core.Bool.{Bool, true, false, cond, _&&_}
 use mathlib.Core.List.{List, [], _∷_, _++_}
 use Prim.Native.Nat.{ℕ, _+_, _-_, _*_, _≤_, _<_}
 use native.Mathlib.Omega.{arith}
 use lib.Dec.{leb, eqb}
 use lib.ListN.{length, take, drop, getD, length-append}
-use lib.Seq.{take-at, getD-append-add}
+use lib.Seq.{sets, sets-eq, take-at, getD-drop, getD-append-add}
+use native.Mathlib.Nat.{zero-add}
 use borrow.Author.Tests.{le-leb, lt-leb, leb-true, eqb-true, eqb-false}
-use Rattle.bits.specs.Bits.{Bytes, valueOf, digits, bitsOf, bytesOf}
+use Rattle.bits.specs.Bits.{Bytes, valueOf, bitsOf, bytesOf}
 use Rattle.bits.specs.laws.Bytes.{length-bits, bytes-bits}
 use Rattle.bits.specs.laws.Digits.{digits-value}
-use Rattle.format.specs.Fmt.{accepted, refused, orBad, check, also}
+use Rattle.format.specs.Fmt.{accepted, refused, check, also}
 use Rattle.format.specs.Message.{fault, codeOf, readMessage}
 use Rattle.format.specs.Promises.{readRecord}
 use Rattle.bits.specs.Bits.{bytesAt}
-use Rattle.bits.specs.laws.Runs.{bytes-run}
+use Rattle.bits.specs.Answers.{gettable}
+use Rattle.bits.specs.laws.Runs.{length-run, bytes-run}
 use Rattle.format.specs.laws.Lead.{read-first, held-back}
 use Rattle.layout.specs.laws.Step.{clear, stuck}
 use Rattle.notice_areas.specs.Standing.{areasAt}
 use Rattle.notice_reading.specs.Notice.{notices, sizes}
 use Rattle.notice_reading.specs.Steps.{fieldsRead, FieldsAre}
 use Rattle.notice_reading.specs.declared.Course.{Course}
-use Rattle.notice_reading.specs.Promises.{housed, ahead, toldOf, Reads}
+use Rattle.notice_reading.specs.Promises.{ahead, toldOf, Reads}
 use Rattle.notice_reading.specs.Record.{Whole, headed, texted, headOf, textOf, recordOf}
 use Rattle.notice_reading.specs.declared.Notice.{Notice}
 use Rattle.notice_reading.specs.declared.Answer.the-variants.{Good, Refused}
@@ -41,8 +43,8 @@ recorded r xs n v =
     let two : length vs - 2 ≡ 8 + (length xs + 0) = omega (arith, long) in
     let one : length vs - 1 ≡ 8 + (length xs + 1) = omega (arith, long) in
     let areas : take (length vs - 10) (xs ++ (n ∷ v ∷ [])) ≡ xs = ap (λ k. take k (xs ++ (n ∷ v ∷ []))) ten ∙ take-at xs (n ∷ v ∷ []) (length xs) refl in
-    let size : getD vs (length vs - 2) 0 ≡ n = ap (λ k. getD vs k 0) two ∙ getD-append-add xs (n ∷ v ∷ []) 0 0 in
-    let number : getD vs (length vs - 1) 0 ≡ v = ap (λ k. getD vs k 0) one ∙ getD-append-add xs (n ∷ v ∷ []) 1 0 in
+    let size : getD vs (length vs - 2) 0 ≡ n = ap (λ k. getD vs k 0) two ∙ sym (getD-drop 8 vs (length xs + 0) 0) ∙ getD-append-add xs (n ∷ v ∷ []) 0 0 in
+    let number : getD vs (length vs - 1) 0 ≡ v = ap (λ k. getD vs k 0) one ∙ sym (getD-drop 8 vs (length xs + 1) 0) ∙ getD-append-add xs (n ∷ v ∷ []) 1 0 in
     λ i. (r, (areas i, textOf (size i) (number i)))
 
 pub told : (r : Notice) (xs t : List ℕ) → Bytes t → recordOf (headed r (xs ++ texted t)) ≡ (r, (xs, t))
@@ -61,6 +63,17 @@ module _ (english : Bool) (s a t : List ℕ) where
 
     pub reads-good : length (x .1 .0) ≤ length a → length (x .1 .1) ≤ length t → Reads english s a t (Good (toldOf x)) (ahead (x .1 .0) a) (ahead (x .1 .1) t)
     reads-good k l = rw (e, le-leb (length (x .1 .0)) (length a) k, le-leb (length (x .1 .1)) (length t) l) (refl, refl, refl)
+
+-- ---- what goes into what is lent
+
+pub stored : (row xs : List ℕ) → length xs ≤ length row → sets row 0 xs ≡ ahead xs row
+stored row xs l = sets-eq xs row 0 (omega arith) ∙ ap (λ n. xs ++ drop n row) (zero-add (length xs))
+
+-- the text from bit `at` on
+pub copied : (s : List ℕ) (at n : ℕ) (t : List ℕ) {b : Bool} {u : List ℕ} → at + n * 8 ≤ length s * 8 → n ≤ length t → (b ≡ gettable s at n t) × (u ≡ cond b (bytesAt s at n ++ drop n t) t) → u ≡ ahead (bytesAt s at n) t
+copied s at n t fits room x =
+    let e : gettable s at n t ≡ true = rw (le-leb (at + n * 8) (length s * 8) fits, le-leb n (length t) room) refl in
+    x .1 ∙ ap (λ b. cond b (bytesAt s at n ++ drop n t) t) (x .0 ∙ e) ∙ ap (λ m. bytesAt s at n ++ drop m t) (sym (length-run s at n))
 
 -- ---- behind the first test
 
