@@ -18,3 +18,4 @@ pub mod Entries
 pub mod Family
 pub mod Corrections
 pub mod Runs
+pub mod Written

@@ -3,3 +3,4 @@ pub mod Sound
 pub mod Correction
 pub mod Demands
 pub mod Shown
+pub mod Accepted

@@ -29,7 +29,7 @@ unfolding packet
 numbers = (only-numbered 8 1 _, (only-numbered 3 1 _, (only-numbered 1 3 _, (only-numbered 8 3 _, (only-numbered 6 3 _, (only-numbered 6 3 _, λ n. (only-numbered (n * 8) 3 _, tt)))))))
 
 -- a record's count of bytes is that of its content
-counted : (r : Packet × List ℕ) → Counted packet 0 (valuesOf r)
+pub counted : (r : Packet × List ℕ) → Counted packet 0 (valuesOf r)
 unfolding packet valuesOf
 counted r = (tt, λ b e. ap (_/ 8) (extent-lay _ 32 _ b e) ∙ omega arith)
 
