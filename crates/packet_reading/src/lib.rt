@@ -104,7 +104,8 @@ pub fn content(s: &[u8]) -> &[u8]
 pub fn lead(s: &[u8]) -> u8
     ensures { λ r. ⌜ r ≡ packets .lead (now (s .entry)) ⌝ }
 {
-    if s.len() < Packet::LEAST {
+    let size = s.len();
+    if size < Packet::LEAST {
         return format::SIZE;
     }
     if bits::get(s, 0, 8) != CODE {
@@ -113,7 +114,7 @@ pub fn lead(s: &[u8]) -> u8
     if bits::get(s, 8, 3) != VERSION {
         return format::KIND;
     }
-    if s.len() > Packet::GREATEST {
+    if size > Packet::GREATEST {
         return format::SIZE;
     }
     0
