@@ -78,11 +78,11 @@ pub fn good_draft_of(random: &mut Random, bytes: usize) -> Draft {
 
 /// A notice that is good but for its size at times, which is near the greatest.
 fn sized_draft(random: &mut Random) -> Draft {
-    draft_with(random, |random, before| match random.below(64) {
+    draft_with(random, |random, before| match random.below(96) {
         0 | 1 => Notice::GREATEST - 1 - before + random.below(5),
         2 => random.below(Notice::GREATEST - before),
-        3..=16 => 0,
-        17..=32 => random.below(200),
+        3..=24 => 0,
+        25..=48 => random.below(200),
         _ => random.below(30),
     })
 }

@@ -79,14 +79,14 @@ pub fn split(buf: &mut [u8], content: &[u8], language: u8, number: u8, packet: u
 
 /// All packets of a content.
 pub fn packets(content: &[u8], language: u8, number: u8) -> Result<Vec<Vec<u8>>, Refusal> {
-    if content.is_empty() {
-        return Err(Refusal::SIZE);
-    }
-    let packet = |(own, part): (usize, &[u8])| {
-        let mut packet = vec![0; Packet::HEAD + part.len()];
+    // A content without bytes has none, which the splitter itself refuses.
+    let total = content.len().div_ceil(Packet::CONTENT).max(1);
+    let packet = |own: usize| {
+        let bytes = (content.len() - Packet::CONTENT * own).min(Packet::CONTENT);
+        let mut packet = vec![0; Packet::HEAD + bytes];
         split(&mut packet, content, language, number, own).map(|()| packet)
     };
-    content.chunks(Packet::CONTENT).enumerate().map(packet).collect()
+    (0..total).map(packet).collect()
 }
 
 /// The message number that follows: after 255 comes 0.
