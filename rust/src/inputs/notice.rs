@@ -27,6 +27,8 @@ const HEAD: [Parts; 7] = [
 const KIND: usize = 4;
 const SUBTYPE: usize = 5;
 const EXPIRY: usize = 6;
+/// The expiry's first bit alone, which is no expiry.
+const NEXT_YEAR: i64 = 1 << 20;
 const COUNT: Field = field(4, 0, 15, &[1]);
 
 /// How many bits stand before the areas.
@@ -79,7 +81,7 @@ pub fn good_draft_of(random: &mut Random, bytes: usize) -> Draft {
 /// A notice that is good but for its size at times, which is near the greatest.
 fn sized_draft(random: &mut Random) -> Draft {
     draft_with(random, |random, before| match random.below(96) {
-        0 | 1 => Notice::GREATEST - 1 - before + random.below(5),
+        0 | 1 => Notice::GREATEST - 1 - before + random.below(8),
         2 => random.below(Notice::GREATEST - before),
         3..=24 => 0,
         25..=48 => random.below(200),
@@ -105,6 +107,7 @@ pub fn draft(random: &mut Random) -> Draft {
     match random.below(16) {
         0 | 1 => draft.put_head_at_edge(random),
         2..=4 => draft.put_entry_at_edge(random),
+        5 if random.one_in(2) => draft.drop_point(random),
         5 => draft.count = COUNT.edge(random),
         6 | 7 => text::spoil(random, &mut draft.text),
         8..=10 => draft.fill = 1 << random.below(8),
@@ -121,7 +124,8 @@ pub fn draft(random: &mut Random) -> Draft {
 impl Draft {
     fn put_head_at_edge(&mut self, random: &mut Random) {
         let at = random.below(HEAD.len());
-        self.head[at] = HEAD[at].edge(random);
+        let is_bare_year = at == EXPIRY && random.one_in(4);
+        self.head[at] = if is_bare_year { NEXT_YEAR } else { HEAD[at].edge(random) };
     }
 
     /// The head stands in for areas where there are none.
@@ -131,6 +135,16 @@ impl Draft {
         }
         let at = random.below(self.entries.len());
         self.entries[at].number = self.entries[at].parts.edge(random);
+    }
+
+    /// Takes a point out of an area, which may then have too few.
+    fn drop_point(&mut self, random: &mut Random) {
+        let counts: Vec<usize> = (0..self.entries.len()).filter(|at| self.entries[*at].is_count()).collect();
+        if !counts.is_empty() {
+            let at = random.pick(&counts);
+            self.entries[at].number -= 1;
+            self.entries.drain(at + 1..at + 3);
+        }
     }
 
     fn bits_before_text(&self) -> u32 {

@@ -103,7 +103,7 @@ impl Expiry {
 
     /// The time that a notice's number spells; none for 0.
     pub fn of_number(number: u32) -> Option<Expiry> {
-        (number != 0).then(|| Expiry {
+        (number != 0).then_some(Expiry {
             next_year: number >> 20 & 1 == 1,
             month: (number >> 16 & 15) as u8,
             day: (number >> 11 & 31) as u8,

@@ -25,6 +25,10 @@ static RADIUS: Parts = Parts(&[field(10, 0, 1_023, &[999])]);
 static UNIT: Parts = Parts(&[field(2, 0, 3, &[2])]);
 
 impl Entry {
+    pub fn is_count(&self) -> bool {
+        ptr::eq(self.parts, &COUNT)
+    }
+
     pub fn is_latitude(&self) -> bool {
         ptr::eq(self.parts, &LATITUDE)
     }

@@ -30,15 +30,22 @@ fn pair(random: &mut Random) -> [u8; 2] {
 const EDGES: [u8; 16] =
     [0x00, 0x1F, 0x20, 0x7E, 0x7F, 0x80, 0xA0, 0xA1, 0xAF, 0xB0, 0xD7, 0xD8, 0xF9, 0xFA, 0xFE, 0xFF];
 
-/// Makes one byte of a text another, takes it out or puts one in; a text without bytes gets one.
+/// Pairs just past the bounds of the rows.
+const BAD_PAIRS: [[u8; 2]; 6] = [[0xAF, 0xFE], [0xB0, 0xA0], [0xB0, 0xFF], [0xD7, 0xA0], [0xD7, 0xFA], [0xD8, 0xA1]];
+
+/// Makes one byte of a text another, takes it out or puts one in, or a bad pair; a text without bytes gets some.
 pub fn spoil(random: &mut Random, text: &mut Vec<u8>) {
     let at = random.below(text.len() + 1);
     let edge = random.pick(&EDGES);
-    match random.below(4) {
+    match random.below(5) {
         0 if at < text.len() => {
             text.remove(at);
         }
         1 => text.insert(at, edge),
+        2 => {
+            let pair = random.pick(&BAD_PAIRS);
+            text.splice(at..at, pair);
+        }
         _ if at < text.len() => text[at] = edge,
         _ => text.push(edge),
     }
