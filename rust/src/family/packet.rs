@@ -6,8 +6,8 @@ use crate::inputs::{packet as inputs, room, spare, Random};
 use crate::record::{code, Packet};
 use crate::{paper, relay};
 
-/// The family's calls, each as in C but for slices and the record. The number that follows another is asked by `numbers`
-/// for each of the 256 that there are.
+/// The family's calls, each as in C but for slices and the record. `numbers` asks what follows each of the 256 message
+/// numbers.
 pub trait Calls {
     fn read(packet: &[u8], row: &mut [i64]) -> u8;
     fn write(buf: &mut [u8], record: &Packet, content: &[u8]) -> u8;

@@ -227,48 +227,52 @@ fn not_written<C: Calls>(who: &str, tally: &mut Tally) {
     tally.same(&format!("{who}: an entry that is not asked for, written"), (code, &buf[..]), (0, &due[..]));
 }
 
-/// Case H, and corrections of areas' numbers, of what decides the layout, and of what is refused with the others.
+/// A correction: the field's number, its new value, and what is answered, with the bytes that are others then.
+type Corrected = (usize, u64, u8, &'static [(usize, u8)]);
+
+/// Case H, and what decides the layout or is refused with the other fields.
+const BARE_CORRECTIONS: [Corrected; 10] = [
+    (3, 25, 0, &[(3, 0x65)]),
+    (3, 100, 4, &[]),
+    (3, 128, 4, &[]),
+    (4, 1, 0, &[(3, 0x60), (4, 0x58)]),
+    (4, 2, 4, &[]),
+    (5, 0, 4, &[]),
+    (6, 2 << 16 | 31 << 11, 0, &[(5, 0x5F)]),
+    (6, 1 << 20, 4, &[]),
+    (7, 0, 10, &[]),
+    (8, 0, 10, &[]),
+];
+
+/// Of the areas' numbers too.
+const WARNING_CORRECTIONS: [Corrected; 13] = [
+    (6, 592_640, 0, &[(5, 0x21), (6, 0x60), (7, 0x0A)]),
+    (8, 0, 10, &[]),
+    (9, 255, 0, &[(8, 0x3F), (9, 0xC8)]),
+    (9, 256, 4, &[]),
+    (11, 1, 10, &[]),
+    (21, 8_192, 0, &[(27, 0x30), (28, 0x10), (30, 0x6D)]),
+    (21, 91 << 13, 4, &[]),
+    (23, 1_023, 0, &[(32, 0xC7), (33, 0xFF)]),
+    (24, 4, 4, &[]),
+    (25, 4, 10, &[]),
+    (32, 2_105_344, 0, &[(48, 0x2C), (49, 0x04)]),
+    (33, 0, 10, &[]),
+    (usize::MAX, 0, 10, &[]),
+];
+
 fn corrections<C: Calls>(who: &str, tally: &mut Tally) {
-    let mut correct = |message: &[u8], language: u8, field: usize, value: u64, due: u8, others: &[(usize, u8)]| {
+    let mut correct = |message: &[u8], language: u8, (field, value, due, others): Corrected| {
         let mut found = message.to_vec();
         let code = C::correct(&mut found, language, field, value);
         let case = format!("{who}: field {field} of {} bytes corrected to {value}", message.len());
         tally.same(&case, (code, found), (due, with_bytes(message, others)));
     };
-    correct(&BARE, CHINESE, 3, 25, 0, &[(3, 0x65)]);
-    for (field, value, due, others) in [
-        (3, 100, 4, &[][..]),
-        (3, 128, 4, &[]),
-        (4, 1, 0, &[(3, 0x60), (4, 0x58)]),
-        (4, 2, 4, &[]),
-        (5, 0, 4, &[]),
-        (6, 2 << 16 | 31 << 11, 0, &[(5, 0x5F)]),
-        (6, 1 << 20, 4, &[]),
-        (7, 0, 10, &[]),
-        (8, 0, 10, &[]),
-    ] {
-        correct(&BARE, CHINESE, field, value, due, others);
-    }
-    for (field, value, due, others) in [
-        (6, 592_640, 0, &[(5, 0x21), (6, 0x60), (7, 0x0A)][..]),
-        (8, 0, 10, &[]),
-        (9, 255, 0, &[(8, 0x3F), (9, 0xC8)]),
-        (9, 256, 4, &[]),
-        (11, 1, 10, &[]),
-        (21, 8_192, 0, &[(27, 0x30), (28, 0x10), (30, 0x6D)]),
-        (21, 91 << 13, 4, &[]),
-        (23, 1_023, 0, &[(32, 0xC7), (33, 0xFF)]),
-        (24, 4, 4, &[]),
-        (25, 4, 10, &[]),
-        (32, 2_105_344, 0, &[(48, 0x2C), (49, 0x04)]),
-        (33, 0, 10, &[]),
-        (usize::MAX, 0, 10, &[]),
-    ] {
-        correct(&WARNING, ENGLISH, field, value, due, others);
-    }
-    correct(&BARE, 2, 33, 0, 4, &[]);
-    correct(&BARE[..7], CHINESE, 33, 0, 1, &[]);
-    correct(&bare_with(&[0x61, 0x18, 0, 0, 0x01]), CHINESE, 33, 0, 5, &[]);
+    BARE_CORRECTIONS.into_iter().for_each(|corrected| correct(&BARE, CHINESE, corrected));
+    WARNING_CORRECTIONS.into_iter().for_each(|corrected| correct(&WARNING, ENGLISH, corrected));
+    correct(&BARE, 2, (33, 0, 4, &[]));
+    correct(&BARE[..7], CHINESE, (33, 0, 1, &[]));
+    correct(&bare_with(&[0x61, 0x18, 0, 0, 0x01]), CHINESE, (33, 0, 5, &[]));
 }
 
 /// Case L among the points of the notice of every area; a row too short; a notice without points.

@@ -113,7 +113,7 @@ impl Expiry {
     }
 }
 
-/// The number that parts of some width spell one behind another; where one is too wide, a number too wide for any field.
+/// The number that parts of some width spell together; where one is too wide, a number too wide for any field.
 fn spelled(parts: &[(u32, u8)]) -> u32 {
     let fit = parts.iter().all(|(width, part)| u32::from(*part) >> width == 0);
     if !fit {

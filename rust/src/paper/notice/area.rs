@@ -86,7 +86,7 @@ impl Part {
         self.degrees().is_some()
     }
 
-    /// A value is not too wide, and the parts of an angle are in their ranges. What hangs on the kind is not judged here.
+    /// A value is not too wide, and the parts of an angle are in their ranges. What hangs on the kind `walk` judges.
     pub fn good(self, value: u32) -> bool {
         let fits = value >> self.width() == 0;
         let Some((width, most)) = self.degrees() else { return fits };
@@ -106,7 +106,7 @@ impl Part {
         Ok(value)
     }
 
-    /// What refuses a number that the message is too short for: a bad part of an angle that is still there, or the size.
+    /// What refuses a number that the message is too short for: a bad part of an angle that is there, or the size.
     #[cold]
     fn cut(self, message: &[u8], mut at: usize) -> Refusal {
         let Some(degrees) = self.degrees() else { return Refusal::SIZE };
