@@ -1,11 +1,11 @@
 -- What judging and putting the areas that a row of numbers tells gives: stretches of writing, over points, one area and all of them. Assumes nothing.
-use Prim.Native.Nat.{ℕ, zero, suc, _+_, _*_, _≤_}
+use Prim.Native.Nat.{ℕ, suc, _+_, _*_, _≤_}
 use mathlib.Core.Path.{_≡_}
 use mathlib.Core.List.{List}
-use lib.ListN.{length, drop, getD}
+use lib.ListN.{drop}
 use Rattle.layout.specs.laws.Loops.{JudgesAlong, PutsAlong}
 use Rattle.layout.specs.declared.walk.Walk.{Walk}
-use Rattle.notice_areas.specs.Areas.{Kind, sea, circle, several, kindOf, points, areas}
+use Rattle.notice_areas.specs.Areas.{points, areas}
 use Rattle.notice_areas.specs.Row.{first, areaLong, areasLong, areasTold}
 use Rattle.areas_making.specs.declared.Stepped.{Stepped}
 use Rattle.areas_making.specs.declared.Laid.{Laid}
@@ -31,23 +31,6 @@ pub record AreasJudged (row : List ℕ) (n : ℕ) (r₀ : Walk) (r : Stepped) : 
   pub next : r .walk .code ≡ 0 → r .next ≡ areasLong n row
 
 -- ---- put
-
--- counted points are no more than 15
-abbrev pub few : Kind → ℕ → Type 0
-few sea c = Unit
-few circle c = Unit
-few (several l) c = c ≤ 15
-
-abbrev pub Few : List ℕ → ℕ → Type 0
-Few row k = few (kindOf (getD row k 0)) (getD row (k + 1) 0)
-
--- in each of n areas
-unfoldable pub fews : ℕ → List ℕ → Type 0
-fews zero row = Unit
-fews (suc n) row = Few row 0 × fews n (drop (areaLong row) row)
-
-abbrev pub Fews : List ℕ → ℕ → Type 0
-Fews row n = fews n row
 
 abbrev pub PointsPut : List ℕ → ℕ → ℕ → ℕ → List ℕ → List ℕ → Type 0
 PointsPut row k n at t t′ = PutsAlong (points n) (λ f. f) at (first (n * 2) (drop k row)) t (at + n * 43) t′

@@ -2,7 +2,8 @@
 ghost use mathlib.Core.Path.{_≡_};
 ghost use Prim.Native.Nat.{_+_, _*_, _≤_};
 ghost use lib.ListN.{getD};
-ghost use Rattle.areas_making.specs.Making.{PointsJudged, AreaJudged, AreasJudged, PointsPut, AreaPut, AreasPut, Few, Fews};
+ghost use Rattle.areas_making.specs.Making.{PointsJudged, AreaJudged, AreasJudged, PointsPut, AreaPut, AreasPut};
+ghost use Rattle.notice_areas.specs.Row.{Few, Fews};
 use layout::walk::Walk;
 use notice_areas::CIRCLE;
 use notice_areas::SEA;

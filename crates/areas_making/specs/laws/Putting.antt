@@ -14,9 +14,9 @@ use Rattle.format.specs.laws.Extent.{opens-field, opens-choice}
 use Rattle.format.specs.laws.Putting.{put-number}
 use Rattle.layout.specs.laws.Loops.{PutsAlong, puts-stay, puts-then, puts-under}
 use Rattle.notice_areas.specs.Areas.{Kind, sea, circle, several, kindOf, points, inside, areas}
-use Rattle.notice_areas.specs.Row.{first, areaLong, areasLong, areasTold}
+use Rattle.notice_areas.specs.Row.{first, areaLong, areasLong, areasTold, few, Few, fews}
 use Rattle.notice_areas.specs.laws.Row.{points-from, kind-at, next-at, sea-from, circle-from, several-from, sea-long, circle-long, several-long, long-more, told-more}
-use Rattle.areas_making.specs.Making.{areaFrom, few, Few, fews, PointsPut, AreaPut, AreasPut}
+use Rattle.areas_making.specs.Making.{areaFrom, PointsPut, AreaPut, AreasPut}
 use Rattle.areas_making.specs.declared.Laid.{Laid}
 
 -- ---- one number
