@@ -91,8 +91,11 @@ fn draw_points(s: &[u8], at: usize, n: usize, row: &mut [i32], k: usize)
 {
     let mut j: usize = 0;
     while j < n {
-        row[k + j * 2] = latitude_of(bits::get(s, at + j * 43, LATITUDE));
-        row[k + j * 2 + 1] = longitude_of(bits::get(s, at + j * 43 + 21, LONGITUDE));
+        let here = at + j * 43;
+        let latitude = bits::get(s, here, LATITUDE);
+        let longitude = bits::get(s, here + LATITUDE, LONGITUDE);
+        row[k + j * 2] = latitude_of(latitude);
+        row[k + j * 2 + 1] = longitude_of(longitude);
         j += 1;
     }
 }

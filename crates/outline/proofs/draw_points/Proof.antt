@@ -23,14 +23,20 @@ loop-holds : tie.Need-loop-holds Inv-loop μ-loop
 unfolding pointsDrawn
 loop-holds c = (omega arith, refl, refl)
 
-mul-get : tie.Need-mul-get Inv-loop μ-loop
-mul-get c = omega arith
+mul-here : tie.Need-mul-here Inv-loop μ-loop
+mul-here c = omega arith
+
+add-here : tie.Need-add-here Inv-loop μ-loop
+add-here c = omega arith
+
+get-requires : tie.Need-get-requires Inv-loop μ-loop
+get-requires c κs = search needs
 
 add-get : tie.Need-add-get Inv-loop μ-loop
 add-get c = omega arith
 
-get-requires : tie.Need-get-requires Inv-loop μ-loop
-get-requires c κs = search needs
+get-requires-2 : tie.Need-get-requires-2 Inv-loop μ-loop
+get-requires-2 c κs = search needs
 
 latitude-of-requires : tie.Need-latitude-of-requires Inv-loop μ-loop
 latitude-of-requires c κs = search needs
@@ -47,32 +53,20 @@ mul-row-2 c = omega arith
 slice-set-from-row : tie.Need-slice-set-from-row Inv-loop μ-loop
 slice-set-from-row c = omega arith
 
-mul-get-2 : tie.Need-mul-get-2 Inv-loop μ-loop
-mul-get-2 c = omega arith
-
-add-get-2 : tie.Need-add-get-2 Inv-loop μ-loop
-add-get-2 c = omega arith
-
-add-get-3 : tie.Need-add-get-3 Inv-loop μ-loop
-add-get-3 c = omega arith
-
-get-requires-2 : tie.Need-get-requires-2 Inv-loop μ-loop
-get-requires-2 c κs = search needs
-
 longitude-of-requires : tie.Need-longitude-of-requires Inv-loop μ-loop
 longitude-of-requires c κs = search needs
 
-mul-t10 : tie.Need-mul-t10 Inv-loop μ-loop
-mul-t10 c = omega arith
+mul-t14 : tie.Need-mul-t14 Inv-loop μ-loop
+mul-t14 c = omega arith
 
 add-t13 : tie.Need-add-t13 Inv-loop μ-loop
 add-t13 c = omega arith
 
-add-t16 : tie.Need-add-t16 Inv-loop μ-loop
-add-t16 c = omega arith
+add-t11 : tie.Need-add-t11 Inv-loop μ-loop
+add-t11 c = omega arith
 
-mul-t17 : tie.Need-mul-t17 Inv-loop μ-loop
-mul-t17 c = omega arith
+mul-t16 : tie.Need-mul-t16 Inv-loop μ-loop
+mul-t16 c = omega arith
 
 slice-set-from-row-2 : tie.Need-slice-set-from-row-2 Inv-loop μ-loop
 slice-set-from-row-2 c = simp length-set (omega arith)
@@ -85,9 +79,9 @@ loop-less c = omega arith
 
 loop-again : tie.Need-loop-again Inv-loop μ-loop
 loop-again c =
-    let g2 = c .before in
-    let w = g2 .before in
-    let g = w .before in
+    let w = c .before in
+    let g2 = w .before in
+    let g = g2 .before in
     let l = g .before .before in
     let a = l .before .before .args in
     let s = a .s .now in
@@ -116,23 +110,21 @@ draw-points-spec =
     Inv-loop
     μ-loop
     loop-holds
-    mul-get
-    add-get
+    mul-here
+    add-here
     get-requires
+    add-get
+    get-requires-2
     latitude-of-requires
     mul-row
     add-row
     mul-row-2
     slice-set-from-row
-    mul-get-2
-    add-get-2
-    add-get-3
-    get-requires-2
     longitude-of-requires
-    mul-t10
+    mul-t14
     add-t13
-    add-t16
-    mul-t17
+    add-t11
+    mul-t16
     slice-set-from-row-2
     add-j
     loop-less
