@@ -13,10 +13,10 @@ first (suc n) row = getD row 0 0 ∷ first n (drop 1 row)
 abbrev pub insideLong : Kind → ℕ → ℕ
 insideLong sea c = 1
 insideLong circle c = 4
-insideLong (several least) c = 1 + c * 2
+insideLong (several least) c = suc (c * 2)
 
 abbrev pub areaLong : List ℕ → ℕ
-areaLong row = 1 + insideLong (kindOf (getD row 0 0)) (getD row 1 0)
+areaLong row = suc (insideLong (kindOf (getD row 0 0)) (getD row 1 0))
 
 unfoldable pub areasLong : ℕ → List ℕ → ℕ
 areasLong zero row = 0

@@ -1,5 +1,6 @@
 -- What is proved of them.
 pub mod Kinds
 pub mod Numbered
+pub mod Row
 pub mod Standing
 pub mod Walking

@@ -2,5 +2,6 @@
 pub mod frames;
 pub mod messages;
 pub mod outlines;
+pub mod packets;
 pub mod report;
 pub mod sentences;

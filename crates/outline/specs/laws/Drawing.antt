@@ -3,14 +3,14 @@ use Prim.Native.Nat.{ℕ, zero, suc, _+_, _*_, _≤_, _<_}
 use mathlib.Core.Path.{_≡_, refl, sym, ap, ap₂, _∙_}
 use mathlib.Core.List.{List, [], _∷_, _++_, append-assoc, append-nil}
 use native.Mathlib.Omega.{arith}
-use native.Mathlib.Numerals.{add-one, one-add}
+use native.Mathlib.Numerals.{add-one}
 use lib.IntN.{ℤ}
 use lib.ListN.{length, drop, getD, set, length-append}
 use lib.Seq.{sets, drop-at}
 use Rattle.bits.specs.Answers.{got}
 use Rattle.notice_areas.specs.Areas.{Kind, sea, circle, several, kindOf}
 use Rattle.notice_areas.specs.Row.{insideLong, areaLong}
-use Rattle.notice_areas.specs.Standing.{pointsAt, insideAt, areaAt, areaWide, areasAt, areasEnd}
+use Rattle.notice_areas.specs.Standing.{pointsAt, insideAt, areaWide, areasAt, areasEnd}
 use Rattle.notice_numbers.specs.Shapes.{shapeAs, shapeAt, pointsIn}
 use Rattle.notice_numbers.specs.laws.Shapes.{points-long, area-next, area-small}
 use Rattle.notice_numbers.specs.laws.Rows.{sets-on}
@@ -71,9 +71,7 @@ module _ (s : List ℕ) where
   unfolding pointsAt
   inside-gone at l sea = refl
   inside-gone at l circle = refl
-  inside-gone at l (several m) =
-      let n = got s at 4 in
-      ap (λ i. drop i (insideAt (several m) s at ++ l)) (one-add (n * 2)) ∙ drop-at (pointsAt s n (at + 4)) l (n * 2) (points-long s n (at + 4))
+  inside-gone at l (several m) = let n = got s at 4 in drop-at (pointsAt s n (at + 4)) l (n * 2) (points-long s n (at + 4))
 
   pub outline-stands : (n at : ℕ) → outlineOf n (areasAt s n at) ≡ outlineAt s n at
   unfolding outlineOf outlineAt areasAt shapeAt
@@ -81,8 +79,7 @@ module _ (s : List ℕ) where
   outline-stands (suc n) at =
       let k = kindOf (got s at 3) in
       let l = areasAt s n (at + areaWide s at) in
-      let behind = ap (λ i. drop i (areaAt s at ++ l)) (one-add (insideLong k (getD (insideAt k s (at + 3) ++ l) 0 0))) ∙ inside-gone (at + 3) l k in
-      ap₂ _++_ (inside-drawn at l k) (ap (outlineOf n) behind ∙ outline-stands n (at + areaWide s at) ∙ ap (outlineAt s n) (sym (area-next s at)))
+      ap₂ _++_ (inside-drawn at l k) (ap (outlineOf n) (inside-gone (at + 3) l k) ∙ outline-stands n (at + areaWide s at) ∙ ap (outlineAt s n) (sym (area-next s at)))
 
   pub outline-at-long : (n at : ℕ) → length (outlineAt s n at) ≡ pointsIn s n at * 2
   unfolding outlineAt pointsIn
