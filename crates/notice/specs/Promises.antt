@@ -5,7 +5,6 @@ use mathlib.Core.List.{List, []}
 use Prim.Native.Nat.{ℕ}
 use lib.Dec.{leb, ltb}
 use lib.ListN.{length}
-use Rattle.format.specs.Fmt.{Out}
 use Rattle.format.specs.Message.{codeOf, leaves, into, writeMessage}
 use Rattle.notice_areas.specs.Row.{areasLong}
 use Rattle.notice_reading.specs.Notice.{notices}

@@ -21,13 +21,7 @@ pub fn write(buf: &mut [u8], r: Notice, areas: &[u32], text: &[u8], english: boo
     let judged = making::judged(r, areas, text, english);
     let walk = judged.walk;
     let room = room(areas.len(), judged.next, buf.len());
-    let code = walk.closes_before(
-        text.len(),
-        false,
-        Notice::LEAST,
-        Notice::GREATEST,
-        room,
-    );
+    let code = walk.closes_before(text.len(), false, Notice::LEAST, Notice::GREATEST, room);
     if code != 0 {
         return code;
     }

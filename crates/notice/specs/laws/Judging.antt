@@ -1,37 +1,36 @@
 -- The text of a notice judged as one field of whole bytes, however many a caller lends. Assumes nothing.
-use Prim.Native.Nat.{ℕ, _+_, _*_, _/_, _%_, _≤_, _<_, _^_}
+use Prim.Native.Nat.{ℕ, _+_, _*_, _%_, _<_, _^_}
 use mathlib.Core.Path.{_≡_, refl, sym, ap, _∙_, subst⁻¹}
 use mathlib.Core.Bool.{Bool, true, false, cond, _&&_}
-use mathlib.Core.List.{List, [], _∷_}
+use mathlib.Core.List.{List, []}
 use native.Mathlib.Omega.{arith}
 use native.Mathlib.Nat.{add-zero, mod-eq-of-lt}
-use lib.Dec.{eqb, leb, ltb}
-use lib.ListN.{length, take, drop}
-use lib.Seq.{take-length}
-use borrow.Author.Tests.{le-leb, lt-ltb, eqb-true, eqb-false, ne-eqb}
+use lib.Dec.{eqb}
+use lib.ListN.{length}
+use borrow.Author.Tests.{le-leb, lt-ltb, eqb-true, ne-eqb}
 use Rattle.bits.specs.Answers.{spanned}
-use Rattle.bits.specs.Bits.{Bytes, valueOf, digits, bitsOf, bytesOf, bytesAt}
+use Rattle.bits.specs.Bits.{Bytes, valueOf, bitsOf, bytesOf, bytesAt}
 use Rattle.bits.specs.laws.Bytes.{length-bits, bytes-bits}
 use Rattle.bits.specs.laws.Digits.{digits-value}
 use Rattle.bits.specs.laws.Runs.{bytes-value-lt}
 use Rattle.format.specs.Fmt.{Out, accepted, refused, Fmt, end, pad}
-use Rattle.format.specs.Words.{unless, orElse}
+use Rattle.format.specs.Words.{unless}
 use Rattle.format.specs.laws.Extent.{opens-field}
 use Rattle.format.specs.laws.Tells.{blamed, wrong}
 use Rattle.layout.specs.Judging.{beyond}
 use Rattle.layout.specs.Walk.{onward}
-use Rattle.layout.specs.laws.Judging.{Judged, judge-bytes, judge-beyond, judge-end, judge-refused}
+use Rattle.layout.specs.laws.Judging.{Judged, judge-bytes, judge-beyond, judge-end}
 use Rattle.layout.specs.laws.Loops.{Going}
-use Rattle.layout.specs.laws.Step.{sticky, stuck}
+use Rattle.layout.specs.laws.Step.{stuck}
 use Rattle.layout.specs.declared.walk.Walk.{Walk}
 use Rattle.text.specs.Text.{inLanguage}
 use Rattle.notice_reading.specs.Notice.{text}
 use Rattle.notice_reading.specs.Record.{texted}
 
 -- the fault of a text's number is its language's
-text-wrong : (english : Bool) (t : List ℕ) (h : List ℕ) → Bytes t
+text-wrong : (english : Bool) (t : List ℕ) → Bytes t
     → wrong (length t * 8) (λ b. unless (inLanguage english (bytesOf (length t) b)) 4 0) (valueOf (bitsOf t)) ≡ blamed (cond (inLanguage english t) 0 4) 0
-text-wrong english t h fine =
+text-wrong english t fine =
     let n = length t in
     rw (lt-ltb (valueOf (bitsOf t)) (2 ^ (n * 8)) (bytes-value-lt t), digits-value (n * 8) (bitsOf t) (length-bits t), bytes-bits t fine) (go (inLanguage english t))
   where
@@ -74,7 +73,7 @@ pub text-judged : {o : Out (List Bool)} (english : Bool) (t : List ℕ) (c : ℕ
 text-judged {o} english t c {r} {q} fine small is d x =
     let n = length t in
     let y = judge-bytes (omega arith) (x .is) in
-    let z = judge-beyond c opens-field (text-wrong english t _ fine ∙ ap (λ c. blamed c 0) (sym is)) y in
+    let z = judge-beyond c opens-field (text-wrong english t fine ∙ ap (λ c. blamed c 0) (sym is)) y in
     subst⁻¹ (λ q. Judged o (beyond (n * 8) 0 q)) d (same-judged (n * 8) c r small (judge-end z))
 
 -- after a refusal nothing more is judged

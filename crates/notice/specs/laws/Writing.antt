@@ -1,18 +1,15 @@
 -- What writing a notice answers, from its judging and its room: a row that is too short leaves no room. Assumes nothing.
-use Prim.Native.Nat.{ℕ, _+_, _*_, _/_, _≤_, _<_, _^_}
+use Prim.Native.Nat.{ℕ, _*_, _≤_}
 use mathlib.Core.Path.{_≡_, refl, sym, ap, _∙_}
-use mathlib.Core.Bool.{Bool, true, false, cond, _&&_, false≢true}
+use mathlib.Core.Bool.{Bool, true, false, cond, _&&_}
 use mathlib.Core.List.{List, []}
 use native.Mathlib.Omega.{arith}
-use lib.Dec.{eqb, leb, ltb}
+use lib.Dec.{eqb, leb}
 use lib.ListN.{length}
-use borrow.Author.Tests.{le-leb, lt-leb, leb-true, leb-false, lt-ltb, le-ltb, eqb-true, eqb-false, eq-eqb, ne-eqb}
+use borrow.Author.Tests.{leb-true, leb-false, lt-ltb, le-ltb, eqb-true, eqb-false, ne-eqb}
 use Rattle.format.specs.Fmt.{accepted, write}
-use Rattle.format.specs.Message.{writeMessage}
-use Rattle.format.specs.Promises.{Writes}
 use Rattle.format.specs.laws.Putting.{Puts}
 use Rattle.layout.specs.Judging.{bytesTo, beyond, closing}
-use Rattle.layout.specs.laws.Judging.{Judged}
 use Rattle.layout.specs.laws.Making.{write-refused, write-bare}
 use Rattle.layout.specs.laws.Step.{clear}
 use Rattle.layout.specs.declared.walk.Walk.{Walk}
@@ -59,10 +56,10 @@ before-text w r = go (eqb (r .code) 0) refl
 
 module _ (english : Bool) (s : List ℕ) (r : Notice) (areas text : List ℕ) (st : Stepped) (x : NoticeJudged english r areas text st) {room code : ℕ}
     (is : room ≡ roomFor (length areas) (st .next) (length s)) (e : code ≡ closing false 8 12_978 room (beyond (length text * 8) 0 (st .walk))) where
-  all : Walk
+  abbrev pub all : Walk
   all = beyond (length text * 8) 0 (st .walk)
 
-  values : List ℕ
+  abbrev pub values : List ℕ
   values = valuesOf (r, (areas, text))
 
   -- the room is the buffer's where the row has enough, else none
