@@ -8,10 +8,11 @@ use lib.ListN.{length, drop}
 use Rattle.format.specs.Fmt.{Out, accepted, orBad, check, after}
 use Rattle.format.specs.Message.{codeOf}
 use Rattle.format.specs.Promises.{readRecord, answered}
-use Rattle.rows.specs.Language.{languaged}
+use Rattle.rows.specs.Language.{spoken}
 use Rattle.notice_reading.specs.Notice.{notices}
 use Rattle.notice_reading.specs.Record.{Whole, recordOf as wholeOf}
 use Rattle.notice_reading.specs.Promises.{housed, ahead, toldOf}
+use Rattle.notice_reading.specs.declared.Notice.{Notice}
 use Rattle.notice_reading.specs.declared.Told.{Told}
 
 -- source, station, serial, year, type, subtype, expiry, how many areas; then how many numbers these have, and bytes the text
@@ -29,6 +30,19 @@ rowOf r =
     ∷ pos (r .text)
     ∷ []
 
+-- the record of the numbers that the writing call is given
+abbrev pub recordOf : ℕ → ℕ → ℕ → ℕ → ℕ → ℕ → ℕ → ℕ → Notice
+recordOf source station serial year kind subtype expiry count = record {
+  source = source;
+  station = station;
+  serial = serial;
+  year = year;
+  kind = kind;
+  subtype = subtype;
+  expiry = expiry;
+  count = count;
+}
+
 -- a record for a row of so many entries, which must be ten (6, tested last)
 abbrev pub roomy : ℕ → Out Whole → Out Whole
 roomy row o = after o (λ x. check (orBad (leb 10 row) 6) 0 (accepted x))
@@ -40,7 +54,7 @@ unroomed (suc c) = suc c
 
 -- the reading of the bytes s, for a row, areas and a text of these lengths
 abbrev pub reading : ℕ → List ℕ → (row areas text : ℕ) → Out Whole
-reading language s row areas text = languaged language (λ english. roomy row (housed areas text (readRecord (notices english) wholeOf s)))
+reading language s row areas text = spoken language (λ english. roomy row (housed areas text (readRecord (notices english) wholeOf s)))
 
 -- an answer's number, and what it leaves of the row, the areas and the text
 abbrev pub Lent : Out Whole → List ℤ → List ℕ → List ℕ → ℕ → List ℤ → List ℕ → List ℕ → Type 0

@@ -1,10 +1,10 @@
 // The notice as numbers in lent rows, with its language as a number.
 ghost use mathlib.Core.Path.{_≡_};
 ghost use Prim.Native.Nat.{_<_, _^_};
-ghost use Rattle.format.specs.Message.{codeOf, readMessage};
-ghost use Rattle.notice_reading.specs.Notice.{notices};
 ghost use Rattle.notice_rows.specs.Notice.{rowOf, unroomed, NoticeFills};
+ghost use Rattle.notice_rows.specs.Making.{WritesIn, CorrectsIn};
 use notice_reading::Answer;
+use notice_reading::Notice;
 use notice_reading::Told;
 
 // The greatest number of a language.
@@ -33,6 +33,26 @@ pub fn read(s: &[u8], language: u8, row: &mut [i64], areas: &mut [u32], text: &m
         },
         Answer::Refused(code) => code,
     }
+}
+
+// Writes the notice of this record, areas and text into the front of a lent buffer, for a language that is 0 or 1.
+pub fn write(buf: &mut [u8], areas: &[u32], text: &[u8], language: u8, r: Notice) -> u8
+    ensures { λ code. ⌜ WritesIn language (now (buf .entry)) r (now (areas .entry)) (now (text .entry)) code (now (buf .exit)) ⌝ }
+{
+    if language > ENGLISH {
+        return format::RANGE;
+    }
+    notice::write(buf, r, areas, text, language == ENGLISH)
+}
+
+// Makes field number `field` of the notice be `value`, or leaves every byte, for a language that is 0 or 1.
+pub fn correct(s: &mut [u8], language: u8, field: usize, value: u64) -> u8
+    ensures { λ code. ⌜ CorrectsIn language (now (s .entry)) field value code (now (s .exit)) ⌝ }
+{
+    if language > ENGLISH {
+        return format::RANGE;
+    }
+    notice::correct(s, language == ENGLISH, field, value)
 }
 
 // What a notice is answered for which the row is too short: its own refusal comes first.

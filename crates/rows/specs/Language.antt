@@ -5,5 +5,5 @@ use lib.Dec.{leb, eqb}
 use Rattle.format.specs.Fmt.{Out, orBad, check}
 
 -- what is answered in that language, English or not
-abbrev pub languaged : {A : Type 0} → ℕ → (Bool → Out A) → Out A
-languaged language o = check (orBad (leb language 1) 4) 0 (o (eqb language 1))
+abbrev pub spoken : {A : Type 0} → ℕ → (Bool → Out A) → Out A
+spoken language o = check (orBad (leb language 1) 4) 0 (o (eqb language 1))

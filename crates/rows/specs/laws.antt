@@ -1,4 +1,3 @@
--- What a promise to fill a row decides, and how a call meets it; what a language's number decides.
+-- What a promise to fill a row decides, and how a call meets it.
 pub mod Row
 pub mod Signed
-pub mod Language

@@ -1,5 +1,5 @@
 -- The four ways in which a notice is read as numbers: another language, a row too short, a good notice, a refused one. Each is the definition's by the answer's case. Assumes nothing.
-use mathlib.Core.Path.{_≡_, refl, sym, ap, subst, _∙_}
+use mathlib.Core.Path.{_≡_, refl, ap, _∙_}
 use mathlib.Core.Bool.{Bool, true, false, _&&_}
 use mathlib.Core.List.{List, _++_}
 use Prim.Native.Nat.{ℕ, zero, suc, _≤_, _<_}
@@ -14,14 +14,19 @@ use Rattle.format.specs.Promises.{readRecord, answered}
 use Rattle.format.specs.laws.Zero.{read-zero-message}
 use Rattle.rows.specs.Row.{Fills}
 use Rattle.rows.specs.laws.Row.{row-full, one-filling}
-use Rattle.rows.specs.laws.Language.{no-language, a-language}
 use Rattle.notice_reading.specs.Notice.{notices}
 use Rattle.notice_reading.specs.Record.{Whole, recordOf as wholeOf}
 use Rattle.notice_reading.specs.Promises.{housed, ahead, toldOf, answerOf, Reads}
 use Rattle.notice_reading.specs.laws.Sound.{judged}
 use Rattle.notice_reading.specs.declared.Told.{Told}
 use Rattle.notice_reading.specs.declared.Answer.the-variants.{Good, Refused}
-use Rattle.notice_rows.specs.Notice.{rowOf, roomy, unroomed, reading, Lent, NoticeFills}
+use Rattle.notice_rows.specs.Notice.{rowOf, roomy, unroomed, Lent, NoticeFills}
+
+-- a refusal leaves the row, the areas and the text as they were
+pub refused-lent : (o : Out Whole) (row : List ℤ) (areas text : List ℕ) (c : ℕ) (row′ : List ℤ) (areas′ text′ : List ℕ)
+    → Lent o row areas text c row′ areas′ text′ → (c ≡ 0 → ⊥) → (row′ ≡ row) × (areas′ ≡ areas) × (text′ ≡ text)
+refused-lent (accepted x) row areas text c row′ areas′ text′ l n = absurd (n (l .0))
+refused-lent (refused d p) row areas text c row′ areas′ text′ l n = (l .1, l .2, l .3)
 
 -- no notice is refused by 0
 named : (english : Bool) (s : List ℕ) (p : ℕ) → readMessage (notices english) s ≡ refused 0 p → ⊥
@@ -49,7 +54,7 @@ good-rooms english s areas text {r} = go (readRecord (notices english) wholeOf s
 
 module _ (language : ℕ) (s : List ℕ) (row : List ℤ) (areas text : List ℕ) where
   pub lent-not : 1 < language → NoticeFills language s row areas text 4 row areas text
-  lent-not h = rw (no-language language (λ english. roomy (length row) (housed (length areas) (length text) (readRecord (notices english) wholeOf s))) h) (refl, refl, refl, refl)
+  lent-not h = rw (lt-leb language 1 h) (refl, refl, refl, refl)
 
   module _ (either : language ≤ 1) where
     abbrev found : Out (List ℕ)
@@ -60,7 +65,7 @@ module _ (language : ℕ) (s : List ℕ) (row : List ℤ) (areas text : List ℕ
 
     -- what a reading in a language promises
     shown : {c : ℕ} {row′ : List ℤ} {areas′ text′ : List ℕ} → Lent (roomy (length row) (housing (also wholeOf found))) row areas text c row′ areas′ text′ → NoticeFills language s row areas text c row′ areas′ text′
-    shown {c} {row′} {areas′} {text′} = subst (λ o. Lent o row areas text c row′ areas′ text′) (sym (a-language language (λ english. roomy (length row) (housing (readRecord (notices english) wholeOf s))) either))
+    shown x = rw (le-leb language 1 either) x
 
     pub lent-short : length row < 10 → NoticeFills language s row areas text (unroomed (codeOf found)) row areas text
     lent-short few = shown (go found (named (eqb language 1) s))
