@@ -8,7 +8,7 @@ use Rattle.notice_rows.proofs.correct.Tie as tie
 
 returns : tie.Need-returns
 returns c =
-    rw (lt-leb (c .before .before .args .language) 1 (c .if1 .taken)) (refl, refl)
+    rw (lt-leb (c .before .before .args .language) 1 (omega (arith, c .if1 .taken))) (refl, refl)
 
 correct-requires : tie.Need-correct-requires
 correct-requires c κs = search needs

@@ -38,11 +38,13 @@ cast-t10 c = search needs
 
 cast-t11 : tie.Need-cast-t11
 cast-t11 c =
-    record { sfits = c .before .before .before .before .before .before .before .before .before .before .pre .0 }
+    let h = c .before .before .before .before .before .before .before .before .before .before .pre in
+    record { sfits = omega (arith, h .0, h .1) }
 
 cast-t12 : tie.Need-cast-t12
 cast-t12 c =
-    record { sfits = c .before .before .before .before .before .before .before .before .before .before .before .pre .1 }
+    let h = c .before .before .before .before .before .before .before .before .before .before .before .pre in
+    record { sfits = omega (arith, h .0, h .1) }
 
 returns : tie.Need-returns
 unfolding rowOf

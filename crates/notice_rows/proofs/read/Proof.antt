@@ -14,7 +14,7 @@ use Rattle.notice_rows.proofs.read.Tie as tie
 returns : tie.Need-returns
 returns c =
     let a = c .before .before .before .before .args in
-    lent-not (a .language) (a .s .now) (a .row .now) (a .areas .now) (a .text .now) (c .if1 .taken)
+    lent-not (a .language) (a .s .now) (a .row .now) (a .areas .now) (a .text .now) (omega (arith, c .if1 .taken))
 
 refusal-requires : tie.Need-refusal-requires
 refusal-requires c κs = search needs
@@ -29,7 +29,7 @@ returns-2 c =
     let test = short .before in
     let a = test .before .before .before .before .args in
     subst (λ d. NoticeFills (a .language) (a .s .now) (a .row .now) (a .areas .now) (a .text .now) d (a .row .now) (a .areas .now) (a .text .now)) (sym (c .unroomed .ensures ∙ ap unroomed (f .refusal .ensures)))
-    (lent-short (a .language) (a .s .now) (a .row .now) (a .areas .now) (a .text .now) (omega (arith, test .if1 .left)) (short .if2 .taken))
+    (lent-short (a .language) (a .s .now) (a .row .now) (a .areas .now) (a .text .now) (omega (arith, test .if1 .left)) (omega (arith, short .if2 .taken)))
 
 read-requires : tie.Need-read-requires
 read-requires c κs = search needs

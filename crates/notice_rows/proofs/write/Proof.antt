@@ -19,7 +19,7 @@ untouched false s = (refl, refl)
 returns : tie.Need-returns
 returns c =
     let a = c .before .before .before .before .args in
-    rw (lt-leb (a .language) 1 (c .if1 .taken)) (untouched (enough (a .r) (a .areas .now)) (a .buf .now))
+    rw (lt-leb (a .language) 1 (omega (arith, c .if1 .taken))) (untouched (enough (a .r) (a .areas .now)) (a .buf .now))
 
 write-requires : tie.Need-write-requires
 write-requires c κs = search needs
