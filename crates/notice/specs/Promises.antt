@@ -5,6 +5,7 @@ use mathlib.Core.List.{List, []}
 use Prim.Native.Nat.{ℕ}
 use lib.Dec.{leb, ltb}
 use lib.ListN.{length}
+use Rattle.format.specs.Fmt.{Out}
 use Rattle.format.specs.Message.{codeOf, leaves, into, writeMessage}
 use Rattle.notice_areas.specs.Row.{areasLong}
 use Rattle.notice_reading.specs.Notice.{notices}
@@ -18,6 +19,9 @@ roomFor has asked room = cond (ltb has asked) 0 room
 abbrev pub enough : Notice → List ℕ → Bool
 enough r areas = leb (areasLong (r .count) areas) (length areas)
 
+-- a writing's answer o in the buffer s, where the row has enough or not: the code, and t left of s
+abbrev pub Lays : Bool → Out (List ℕ) → List ℕ → ℕ → List ℕ → Type 0
+Lays has o s code t = (code ≡ codeOf (into (cond has s []) o)) × (t ≡ cond has (leaves (into s o) s) s)
+
 abbrev pub NoticeWrites : Bool → List ℕ → Notice → List ℕ → List ℕ → ℕ → List ℕ → Type 0
-NoticeWrites english s r areas text code t = let o = writeMessage (notices english) (valuesOf (r, (areas, text))) in
-    (code ≡ codeOf (into (cond (enough r areas) s []) o)) × (t ≡ cond (enough r areas) (leaves (into s o) s) s)
+NoticeWrites english s r areas text = Lays (enough r areas) (writeMessage (notices english) (valuesOf (r, (areas, text)))) s

@@ -7,11 +7,8 @@ use lib.Dec.{leb, eqb}
 use lib.IntN.{ℤ}
 use Rattle.format.specs.Fmt.{Out, accepted, refused, check, orBad, also}
 use Rattle.format.specs.Message.{codeOf, leaves}
+use Rattle.rows.specs.Language.{spoken}
 use Rattle.outline.specs.Promises.{drawn, pointsTold, counted}
-
--- in the language of a number: 0 Chinese, 1 English; any other is 4, before anything else
-abbrev pub spoken : {A : Type 0} → ℕ → (Bool → Out A) → Out A
-spoken language f = check (orBad (leb language 1) 4) 0 (f (eqb language 1))
 
 -- the call's number, and what it leaves of the row and of the lent number n
 abbrev pub OutlineTold : List ℕ → ℕ → List ℤ → ℕ → ℕ → List ℤ → ℕ → Type 0

@@ -2,13 +2,13 @@
 use Prim.Native.Nat.{ℕ}
 use mathlib.Core.List.{List}
 use mathlib.Core.Path.{_≡_}
-use lib.Dec.{leb, eqb}
-use Rattle.format.specs.Fmt.{Out, orBad, check}
+use Rattle.format.specs.Fmt.{Out}
 use Rattle.format.specs.Message.{codeOf, leaves}
+use Rattle.rows.specs.Language.{spoken}
 use Rattle.splitter.specs.Promises.{splitting}
 
 abbrev pub splittingIn : List ℕ → List ℕ → ℕ → ℕ → ℕ → Out (List ℕ)
-splittingIn s c language number k = check (orBad (leb language 1) 4) 0 (splitting s c (eqb language 1) number k)
+splittingIn s c language number k = spoken language (λ english. splitting s c english number k)
 
 -- the code, and t left of s
 abbrev pub SplitsIn : List ℕ → List ℕ → ℕ → ℕ → ℕ → ℕ → List ℕ → Type 0

@@ -1,0 +1,63 @@
+// The notice's calls. Language 0 is Chinese, 1 English; above that it is 4 before anything else.
+ghost use Rattle.notice_rows.specs.Notice.{recordOf, NoticeFills};
+ghost use Rattle.notice_rows.specs.Making.{WritesIn, CorrectsIn};
+use notice_reading::Notice;
+
+// Reads the notice into a row of 10: source, station, serial, year, type, subtype, expiry, how many areas, how many numbers
+// these have and how many bytes its text; the numbers of its areas and its text into the fronts of `areas` and `text`.
+#[no_mangle]
+pub extern "C" fn bellnewt_notice_read(
+    s: &[u8],
+    language: u8,
+    row: &mut [i64],
+    areas: &mut [u32],
+    text: &mut [u8],
+) -> u8
+    ensures { λ code. ⌜ NoticeFills language (now (s .entry)) (now (row .entry)) (now (areas .entry)) (now (text .entry)) code (now (row .exit)) (now (areas .exit)) (now (text .exit)) ⌝ }
+{
+    notice_rows::read(s, language, row, areas, text)
+}
+
+// Writes the notice of these numbers, areas and text into the front of a lent buffer.
+#[no_mangle]
+pub extern "C" fn bellnewt_notice_write(
+    buf: &mut [u8],
+    areas: &[u32],
+    text: &[u8],
+    language: u8,
+    source: u8,
+    station: u8,
+    serial: u16,
+    year: u8,
+    kind: u8,
+    subtype: u8,
+    expiry: u32,
+    count: u8,
+) -> u8
+    ensures { λ code. ⌜ WritesIn language (now (buf .entry)) (recordOf source station serial year kind subtype expiry count) (now (areas .entry)) (now (text .entry)) code (now (buf .exit)) ⌝ }
+{
+    let r = Notice {
+        source,
+        station,
+        serial,
+        year,
+        kind,
+        subtype,
+        expiry,
+        count,
+    };
+    notice_rows::write(buf, areas, text, language, r)
+}
+
+// Makes field number `field` of the notice be `value`, or leaves every byte.
+#[no_mangle]
+pub extern "C" fn bellnewt_notice_correct(
+    s: &mut [u8],
+    language: u8,
+    field: usize,
+    value: u64,
+) -> u8
+    ensures { λ code. ⌜ CorrectsIn language (now (s .entry)) field value code (now (s .exit)) ⌝ }
+{
+    notice_rows::correct(s, language, field, value)
+}
