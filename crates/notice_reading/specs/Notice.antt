@@ -9,6 +9,7 @@ use Rattle.format.specs.Message.{Layout, led, between}
 use Rattle.format.specs.Words.{_‥_, unless, kept, _▹_, num, deciding}
 use Rattle.notice_parts.specs.Parts.{subtype, expiry}
 use Rattle.notice_areas.specs.Areas.{areas}
+use Rattle.packet_reading.specs.Packet.{joined}
 use Rattle.text.specs.Text.{inLanguage}
 
 -- all whole bytes that are left
@@ -30,9 +31,9 @@ notice english =
     ▹ expiry
     ▹ deciding 4 (0 ‥ 15) (rest english)
 
--- 8 to 12,978 bytes
+-- 8 to 12,978 bytes: what 63 packets of 206 can carry
 abbrev pub sizes : List ℕ → ℕ
-sizes = led 8 (λ s. true) (λ s. between 8 12_978 (length s))
+sizes = led 8 (λ s. true) (λ s. between 8 joined (length s))
 
 -- a notice has no kind of its own
 unfoldable pub notices : Bool → Layout
@@ -40,7 +41,7 @@ notices english = record {
   lead = sizes;
   kind = λ vs. 0;
   least = 8;
-  most = 12_978;
+  most = joined;
   seal = false;
   fmt = notice english;
 }

@@ -59,7 +59,8 @@ impl Notice {
 
     pub const LEAST: usize = 8;
 
-    pub const GREATEST: usize = 12_978;
+    // What the packets of a notice can carry.
+    pub const GREATEST: usize = packet_reading::JOINED;
 
     // The fields that may be corrected, by their place among the notice's: those of the head, and from AREAS on the numbers of its
     // areas as they stand in the row (codes, latitudes, longitudes, radii and units).
