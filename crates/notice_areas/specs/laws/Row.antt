@@ -107,6 +107,9 @@ told-again n row vs =
 pub told-exact : (n : ℕ) (row : List ℕ) → areasLong n row ≡ length row → areasTold n row ≡ row
 told-exact n row e = first-take (areasLong n row) row (omega (arith, e)) ∙ take-all (areasLong n row) row (omega (arith, e))
 
+pub exact-more : (n : ℕ) (row us : List ℕ) → areasLong n row ≡ length row → areasLong n (row ++ us) ≡ length row
+exact-more n row us e = ap (λ l. areasLong n (l ++ us)) (sym (told-exact n row e)) ∙ long-again n row us ∙ e
+
 pub exact-told : (n : ℕ) (row : List ℕ) → areasLong n (areasTold n row) ≡ length (areasTold n row)
 exact-told n row = ap (areasLong n) (sym (append-nil (areasTold n row))) ∙ long-again n row [] ∙ sym (first-long (areasLong n row) row)
 
