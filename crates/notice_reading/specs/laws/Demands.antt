@@ -10,9 +10,10 @@ use lib.Seq.{take-at}
 use Rattle.bits.specs.Bits.{Bytes, digits, putAt, fieldAt}
 use Rattle.bits.specs.laws.Bytes.{length-bytes, bytes-below}
 use Rattle.bits.specs.laws.Fields.{length-put, field-put-before, field-put-after}
-use Rattle.format.specs.Fmt.{Out, accepted, refused, check, orBad, found, spot}
+use Rattle.format.specs.Fmt.{Out, accepted, refused, check, orBad, none, found, spot}
+use Rattle.format.specs.Message.{codeOf, leaves}
 use Rattle.format.specs.Promises.{answered, readRecord, Writes, Corrects}
-use Rattle.format.specs.laws.Family.{Family, written-read, read-written, record-values, accepted-correction, corrected-as-written}
+use Rattle.format.specs.laws.Family.{Family, written-read, read-written, record-values, accepted-correction, correction-none, corrected-as-written}
 use Rattle.format.specs.laws.Held.{Held}
 use Rattle.format.specs.laws.Runs.{run-value}
 use Rattle.notice_areas.specs.Row.{areasLong, areasTold}
@@ -139,6 +140,17 @@ module _ (english : Bool) (s row text : List ℕ) (a : Told) (row′ text′ : L
       → (code ≡ code′) × (code ≡ 0 → t ≡ take (length s) t′) × ((code ≡ 0 → ⊥) → t ≡ s)
   unfolding notices
   corrected = corrected-as-written (family english) s (wholeOf a row′ text′) fine (good english s row text a row′ text′ reads)
+
+  -- A field that may not be corrected is 10, and nothing differs;
+  pub corrected-none : (i v : ℕ) → spot (notice english) [] (valuesOf (wholeOf a row′ text′)) i ≡ none → (code : ℕ) (t : List ℕ) → Corrects (notices english) s i v code t → (code ≡ 10) × (t ≡ s)
+  unfolding notices
+  corrected-none i v e code t (x, y) =
+      let o = correction-none (family english) s (wholeOf a row′ text′) fine (good english s row text a row′ text′ reads) i v e in
+      (x ∙ ap codeOf o, y ∙ ap (λ o. leaves o s) o)
+
+  -- how many areas there are is one.
+  pub count-stays : (v code : ℕ) (t : List ℕ) → Corrects (notices english) s 7 v code t → (code ≡ 10) × (t ≡ s)
+  count-stays v = corrected-none 7 v (head-spotted english (wholeOf a row′ text′) 7 (lit< tt))
 
 -- A correction changes the field's bits alone.
 pub correction-bits : (english : Bool) (s : List ℕ) (i v : ℕ) (t : List ℕ) (e : Corrects (notices english) s i v 0 t) → let c = accepted-correction (family english) s i v t e in t ≡ putAt s (c .place) (c .width) v
