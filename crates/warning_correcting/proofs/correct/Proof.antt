@@ -10,8 +10,8 @@ use Rattle.warning_reading.specs.laws.Demands.{family, looked-stands}
 use Rattle.warning_reading.specs.laws.Sound.{sound, sized}
 use Rattle.warning_reading.specs.declared.Answer.the-variants.{Good, Refused}
 use borrow.Author.Needs.{needs}
-use Rattle.warning.proofs.correct.Statement.{statement}
-use Rattle.warning.proofs.correct.Tie as tie
+use Rattle.warning_correcting.proofs.correct.Statement.{statement}
+use Rattle.warning_correcting.proofs.correct.Tie as tie
 
 lead-requires : tie.Need-lead-requires
 lead-requires c κs = search needs

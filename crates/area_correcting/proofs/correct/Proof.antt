@@ -13,8 +13,8 @@ use Rattle.area_reading.specs.laws.Demands.{family, looked-stands}
 use Rattle.area_reading.specs.laws.Sound.{sized}
 use Rattle.area_reading.specs.declared.Answer.the-variants.{Good, Refused}
 use borrow.Author.Needs.{needs}
-use Rattle.area.proofs.correct.Statement.{statement}
-use Rattle.area.proofs.correct.Tie as tie
+use Rattle.area_correcting.proofs.correct.Statement.{statement}
+use Rattle.area_correcting.proofs.correct.Tie as tie
 
 lead-requires : tie.Need-lead-requires
 lead-requires c κs = search needs
