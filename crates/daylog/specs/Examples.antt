@@ -6,12 +6,13 @@ use Rattle.bits.specs.Bits.{bit, valueOf, digits, bitsOf, fieldAt}
 use Rattle.bits.specs.Xor.{xorOf}
 use Rattle.frame.specs.Frame.{leads}
 use Rattle.gljc_reading.specs.Gljc.{gljc, gljcs}
+use Rattle.packet_reading.specs.Packet.{packet as layout, packets}
 use Rattle.format.specs.Fmt.{readField, read}
 use Rattle.format.specs.Message.{readMessage}
 use Rattle.format.specs.Words.{walk}
 use Rattle.serial.specs.Serial.{codeAs, codeOf as serialCode}
 use Rattle.lines.specs.Text.{digitsBy, decimal, line}
-use Rattle.daylog.specs.Text.{head, serial, unknown, broken}
+use Rattle.daylog.specs.Text.{head, serial, packet, unknown, broken}
 use Rattle.daylog.specs.Log.{word, codeOf, after-all, entryLine, lines, listingFrom, listing}
 use Rattle.records.specs.Records.{front, recordsBy, records, sizeOf}
 
@@ -39,3 +40,12 @@ two-frames : listing (frame 0x2A (frame 0x0B []))
     ≡ head ++ ((0x31 ∷ 0x20 ∷ serial ++ (0x20 ∷ 0x30 ∷ 0x20 ∷ 0x31 ∷ 0x32 ∷ 0x0a ∷ [])) ++ (0x32 ∷ 0x20 ∷ serial ++ (0x20 ∷ 0x33 ∷ 0x20 ∷ 0x31 ∷ 0x32 ∷ 0x0a ∷ [])))
 unfolding listing listingFrom records recordsBy front lines after-all sizeOf entryLine line decimal digitsBy word codeOf serialCode codeAs leads readMessage gljcs gljc read readField walk fieldAt valueOf bit digits bitsOf xorOf
 two-frames = refl
+
+-- a packet of one byte, then the same with an own number that is not below its total: `1 packet 0 5`, `2 packet 4 5`
+abbrev part : ℕ → List ℕ → List ℕ
+part numbers rest = 0x09 ∷ 0x00 ∷ 0x02 ∷ 0x00 ∷ 0xE1 ∷ 0x20 ∷ 0x70 ∷ numbers ∷ 0x41 ∷ rest
+
+two-packets : listing (part 0x40 (part 0x41 []))
+    ≡ head ++ ((0x31 ∷ 0x20 ∷ packet ++ (0x20 ∷ 0x30 ∷ 0x20 ∷ 0x35 ∷ 0x0a ∷ [])) ++ (0x32 ∷ 0x20 ∷ packet ++ (0x20 ∷ 0x34 ∷ 0x20 ∷ 0x35 ∷ 0x0a ∷ [])))
+unfolding listing listingFrom records recordsBy front lines after-all sizeOf entryLine line decimal digitsBy word codeOf readMessage packets layout read readField walk fieldAt valueOf bit digits bitsOf
+two-packets = refl

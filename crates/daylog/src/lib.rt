@@ -7,6 +7,7 @@ ghost use Rattle.daylog.specs.Log.{codeOf, entryLine};
 ghost use Rattle.daylog.specs.Promises.{Lists, Ends, Heads};
 ghost use Rattle.format.specs.Message.{codeOf as Message·codeOf, readMessage};
 ghost use Rattle.distress_reading.specs.Report.{reports};
+ghost use Rattle.packet_reading.specs.Packet.{packets};
 use lines::line;
 use lines::text;
 use records::HEAD;
@@ -82,10 +83,18 @@ pub fn code(kind: u16, body: &[u8]) -> u8
 {
     match kind {
         1 => serial::code(body),
+        2 => packet(body),
         3 => report(body),
         4 => ais::code(body),
         _ => format::KIND,
     }
+}
+
+fn packet(body: &[u8]) -> u8
+    ensures { λ r. ⌜ r ≡ Message·codeOf (readMessage packets (now (body .entry))) ⌝ }
+{
+    let answer = packet_reading::read(body);
+    answer.refusal()
 }
 
 fn report(body: &[u8]) -> u8
@@ -105,6 +114,7 @@ fn entry(out: &mut [u8], at: usize, number: u64, kind: u16, body: &[u8]) -> usiz
     let bytes = body.len() as u64;
     match kind {
         1 => line(out, at, number, b"serial", code, bytes),
+        2 => line(out, at, number, b"packet", code, bytes),
         3 => line(out, at, number, b"distress", code, bytes),
         4 => line(out, at, number, b"ais", code, bytes),
         _ => line(out, at, number, b"unknown", code, bytes),

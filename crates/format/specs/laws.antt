@@ -17,3 +17,5 @@ pub mod Correcting
 pub mod Entries
 pub mod Family
 pub mod Corrections
+pub mod Runs
+pub mod Written

@@ -1,7 +1,8 @@
 // Judging a record's values, before anything is written.
 ghost use mathlib.Core.Bool.{true, false};
 ghost use mathlib.Core.Path.{_≡_};
-ghost use Rattle.layout.specs.Judging.{valued, filled, signedlyValued, made, closing};
+ghost use Prim.Native.Nat.{_*_};
+ghost use Rattle.layout.specs.Judging.{valued, filled, signedlyValued, made, beyond, closing};
 ghost use Rattle.layout.specs.Reading.{judgedAs};
 ghost use Rattle.layout.specs.Walk.{onward};
 use crate::walk::Walk;
@@ -58,15 +59,33 @@ impl Walk {
     pub fn closes(self, seal: bool, least: usize, most: usize, room: usize) -> u8
         ensures { λ r. ⌜ r ≡ closing seal least most room self ⌝ }
     {
+        self.closes_before(0, seal, least, most, room)
+    }
+
+    // The same where a caller's `more` bytes follow the values: they may be more than any message has.
+    pub fn closes_before(
+        self,
+        more: usize,
+        seal: bool,
+        least: usize,
+        most: usize,
+        room: usize,
+    ) -> u8
+        ensures { λ r. ⌜ r ≡ closing seal least most room (beyond (more * 8) 0 self) ⌝ }
+    {
         let code = self.code;
-        let n = self.bytes(seal);
+        let head = self.bytes(seal);
         if code != 0 {
             return code;
         }
-        if n < least {
+        if most < head {
             return format::SIZE;
         }
-        if most < n {
+        if most - head < more {
+            return format::SIZE;
+        }
+        let n = head + more;
+        if n < least {
             return format::SIZE;
         }
         if room < n {

@@ -9,6 +9,9 @@ use Rattle.daylog.proofs.code.Tie as tie
 code-requires : tie.Need-code-requires
 code-requires c κs = search needs
 
+packet-requires : tie.Need-packet-requires
+packet-requires c κs = search needs
+
 report-requires : tie.Need-report-requires
 report-requires c κs = search needs
 
@@ -21,15 +24,21 @@ returns c = rw (c .before .match .keys1) (c .code .ensures)
 
 returns-2 : tie.Need-returns-2
 unfolding codeOf
-returns-2 c = rw (c .before .match .keys2) (c .report .ensures)
+returns-2 c = rw (c .before .match .keys2) (c .packet .ensures)
 
 returns-3 : tie.Need-returns-3
 unfolding codeOf
-returns-3 c = rw (c .before .match .keys3) (c .code2 .ensures)
+returns-3 c = rw (c .before .match .keys3) (c .report .ensures)
 
 returns-4 : tie.Need-returns-4
 unfolding codeOf
-returns-4 c = rw (ne-eqb _ 1 (c .match .rest .0 .0 .1), ne-eqb _ 3 (c .match .rest .0 .1), ne-eqb _ 4 (c .match .rest .1)) refl
+returns-4 c = rw (c .before .match .keys4) (c .code2 .ensures)
+
+returns-5 : tie.Need-returns-5
+unfolding codeOf
+returns-5 c = rw (ne-eqb _ 1 (c .match .rest .0 .0 .0 .1), ne-eqb _ 2 (c .match .rest .0 .0 .1), ne-eqb _ 3 (c .match .rest .0 .1), ne-eqb _ 4 (c .match .rest .1)) refl
 
 pub code-spec : {M : Type 1} → statement M
-code-spec = tie.close (tie.spec code-requires report-requires code-requires-2 returns returns-2 returns-3 returns-4)
+code-spec =
+    tie.close
+    (tie.spec code-requires packet-requires report-requires code-requires-2 returns returns-2 returns-3 returns-4 returns-5)

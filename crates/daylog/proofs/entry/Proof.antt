@@ -9,7 +9,7 @@ use borrow.Author.Tests.{ne-eqb}
 use Rattle.daylog.specs.Log.{word, codeOf, entryLine}
 use Rattle.lines.specs.Stores.{Stores}
 use Rattle.lines.specs.Text.{line}
-use Rattle.daylog.specs.Text.{serial, distress, ais, unknown}
+use Rattle.daylog.specs.Text.{serial, packet, distress, ais, unknown}
 use Rattle.lines.specs.laws.Text.{line-few}
 use borrow.Author.Needs.{needs}
 use Rattle.daylog.proofs.entry.Statement.{statement}
@@ -21,6 +21,10 @@ serial-word : (k : ℕ) → k ≡ 1 → word k ≡ serial
 unfolding word
 serial-word k e = rw e refl
 
+packet-word : (k : ℕ) → k ≡ 2 → word k ≡ packet
+unfolding word
+packet-word k e = rw e refl
+
 distress-word : (k : ℕ) → k ≡ 3 → word k ≡ distress
 unfolding word
 distress-word k e = rw e refl
@@ -29,9 +33,9 @@ ais-word : (k : ℕ) → k ≡ 4 → word k ≡ ais
 unfolding word
 ais-word k e = rw e refl
 
-other-word : (k : ℕ) → (k ≡ 1 → ⊥) → (k ≡ 3 → ⊥) → (k ≡ 4 → ⊥) → word k ≡ unknown
+other-word : (k : ℕ) → (k ≡ 1 → ⊥) → (k ≡ 2 → ⊥) → (k ≡ 3 → ⊥) → (k ≡ 4 → ⊥) → word k ≡ unknown
 unfolding word
-other-word k a b c = rw (ne-eqb k 1 a, ne-eqb k 3 b, ne-eqb k 4 c) refl
+other-word k a b c d = rw (ne-eqb k 1 a, ne-eqb k 2 b, ne-eqb k 3 c, ne-eqb k 4 d) refl
 
 -- ---- a line with the word w
 
@@ -63,7 +67,7 @@ line-requires-2 : tie.Need-line-requires-2
 line-requires-2 c κs =
     let p = c .before .before .before in
     let s = p .before .before .before in
-    fits-line (s .args .number) (s .args .kind) (s .args .body .now) distress (p .code .result) (s .fits .number .fits) (lit≤ tt) (omega arith) (omega arith) (s .args .at) (s .args .out .now) (s .pre)
+    fits-line (s .args .number) (s .args .kind) (s .args .body .now) packet (p .code .result) (s .fits .number .fits) (lit≤ tt) (omega arith) (omega arith) (s .args .at) (s .args .out .now) (s .pre)
 
 slice-aggregate-line-3 : tie.Need-slice-aggregate-line-3
 slice-aggregate-line-3 c = search needs
@@ -72,13 +76,22 @@ line-requires-3 : tie.Need-line-requires-3
 line-requires-3 c κs =
     let p = c .before .before .before in
     let s = p .before .before .before in
-    fits-line (s .args .number) (s .args .kind) (s .args .body .now) ais (p .code .result) (s .fits .number .fits) (lit≤ tt) (omega arith) (omega arith) (s .args .at) (s .args .out .now) (s .pre)
+    fits-line (s .args .number) (s .args .kind) (s .args .body .now) distress (p .code .result) (s .fits .number .fits) (lit≤ tt) (omega arith) (omega arith) (s .args .at) (s .args .out .now) (s .pre)
 
 slice-aggregate-line-4 : tie.Need-slice-aggregate-line-4
 slice-aggregate-line-4 c = search needs
 
 line-requires-4 : tie.Need-line-requires-4
 line-requires-4 c κs =
+    let p = c .before .before .before in
+    let s = p .before .before .before in
+    fits-line (s .args .number) (s .args .kind) (s .args .body .now) ais (p .code .result) (s .fits .number .fits) (lit≤ tt) (omega arith) (omega arith) (s .args .at) (s .args .out .now) (s .pre)
+
+slice-aggregate-line-5 : tie.Need-slice-aggregate-line-5
+slice-aggregate-line-5 c = search needs
+
+line-requires-5 : tie.Need-line-requires-5
+line-requires-5 c κs =
     let p = c .before .before .before in
     let s = p .before .before .before in
     fits-line (s .args .number) (s .args .kind) (s .args .body .now) unknown (p .code .result) (s .fits .number .fits) (lit≤ tt) (omega arith) (omega arith) (s .args .at) (s .args .out .now) (s .pre)
@@ -105,7 +118,7 @@ returns-2 c =
     let p = m .before in
     let s = p .before .before .before in
     let a = s .args in
-    stored (a .number) (a .kind) (a .body .now) distress (p .code .result) (s .fits .number .fits) (lit≤ tt) (omega arith) (omega arith) (distress-word (a .kind) (m .match .keys2)) (p .code .ensures) (l .line2 .ensures)
+    stored (a .number) (a .kind) (a .body .now) packet (p .code .result) (s .fits .number .fits) (lit≤ tt) (omega arith) (omega arith) (packet-word (a .kind) (m .match .keys2)) (p .code .ensures) (l .line2 .ensures)
 
 same-length-3 : tie.Need-same-length-3
 same-length-3 c = search needs
@@ -117,7 +130,7 @@ returns-3 c =
     let p = m .before in
     let s = p .before .before .before in
     let a = s .args in
-    stored (a .number) (a .kind) (a .body .now) ais (p .code .result) (s .fits .number .fits) (lit≤ tt) (omega arith) (omega arith) (ais-word (a .kind) (m .match .keys3)) (p .code .ensures) (l .line3 .ensures)
+    stored (a .number) (a .kind) (a .body .now) distress (p .code .result) (s .fits .number .fits) (lit≤ tt) (omega arith) (omega arith) (distress-word (a .kind) (m .match .keys3)) (p .code .ensures) (l .line3 .ensures)
 
 same-length-4 : tie.Need-same-length-4
 same-length-4 c = search needs
@@ -129,7 +142,19 @@ returns-4 c =
     let p = m .before in
     let s = p .before .before .before in
     let a = s .args in
-    stored (a .number) (a .kind) (a .body .now) unknown (p .code .result) (s .fits .number .fits) (lit≤ tt) (omega arith) (omega arith) (other-word (a .kind) (m .match .rest .0 .0 .1) (m .match .rest .0 .1) (m .match .rest .1)) (p .code .ensures) (l .line4 .ensures)
+    stored (a .number) (a .kind) (a .body .now) ais (p .code .result) (s .fits .number .fits) (lit≤ tt) (omega arith) (omega arith) (ais-word (a .kind) (m .match .keys4)) (p .code .ensures) (l .line4 .ensures)
+
+same-length-5 : tie.Need-same-length-5
+same-length-5 c = search needs
+
+returns-5 : tie.Need-returns-5
+returns-5 c =
+    let l = c .before .before in
+    let m = l .before .before .before in
+    let p = m .before in
+    let s = p .before .before .before in
+    let a = s .args in
+    stored (a .number) (a .kind) (a .body .now) unknown (p .code .result) (s .fits .number .fits) (lit≤ tt) (omega arith) (omega arith) (other-word (a .kind) (m .match .rest .0 .0 .0 .1) (m .match .rest .0 .0 .1) (m .match .rest .0 .1) (m .match .rest .1)) (p .code .ensures) (l .line5 .ensures)
 
 pub entry-spec : {M : Type 1} → statement M
 entry-spec =
@@ -144,6 +169,8 @@ entry-spec =
     line-requires-3
     slice-aggregate-line-4
     line-requires-4
+    slice-aggregate-line-5
+    line-requires-5
     same-length
     returns
     same-length-2
@@ -151,4 +178,6 @@ entry-spec =
     same-length-3
     returns-3
     same-length-4
-    returns-4)
+    returns-4
+    same-length-5
+    returns-5)

@@ -9,7 +9,7 @@ use Rattle.bits.specs.Bits.{digits}
 use Rattle.bits.specs.laws.Digits.{length-digits}
 use Rattle.format.specs.Fmt.{Out, accepted, Judge, Fmt, end, field, choice, bytes, writeField, write, pad}
 use Rattle.format.specs.Message.{Layout, size}
-use Rattle.format.specs.laws.Round.{clash, accepted-inj, written, sized-inv}
+use Rattle.format.specs.laws.Round.{clash, accepted-inj, written, sized-inv, unjudged, lay, write-lay}
 
 -- f opens with a field or a choice of w bits; behind v stands g.
 pub record Opens (f : Fmt) (at v : ℕ) (vs : List ℕ) (w : ℕ) (j : Judge) (g : Fmt) : Type 0 where
@@ -36,16 +36,21 @@ extent-field w j h at v n o b k e =
     let y = written w j h at v o b e in
     ap length (sym (y .whole)) ∙ length-append (digits w v) (y .rest) ∙ omega (arith, length-digits w v, k (y .rest) (y .after))
 
+-- as its values are laid out, with no judging,
+pub extent-lay : (f : Fmt) (at : ℕ) (vs : List ℕ) (b : List Bool) → lay f at vs ≡ accepted b → length b ≡ extent f at vs
+unfolding lay
+extent-lay end at [] b e = ap length (sym (accepted-inj e)) ∙ length-digits (pad at) 0
+extent-lay end at (v ∷ vs) b e = clash e
+extent-lay (field w j m f) at [] b e = clash e
+extent-lay (field w j m f) at (v ∷ vs) b e = extent-field w unjudged [] at v _ _ b (extent-lay f (at + w) vs) e
+extent-lay (choice w j f) at [] b e = clash e
+extent-lay (choice w j f) at (v ∷ vs) b e = extent-field w unjudged [] at v _ _ b (extent-lay (f v) (at + w) vs) e
+extent-lay (bytes f) at [] b e = clash e
+extent-lay (bytes f) at (n ∷ vs) b e = extent-lay (f n) at vs b (sized-inv n at (lay (f n) at vs) e .0)
+
+-- and so as writing accepts them
 pub extent-laid : (f : Fmt) (h : List ℕ) (at : ℕ) (vs : List ℕ) (b : List Bool) → write f h at vs ≡ accepted b → length b ≡ extent f at vs
-unfolding write
-extent-laid end h at [] b e = ap length (sym (accepted-inj e)) ∙ length-digits (pad at) 0
-extent-laid end h at (v ∷ vs) b e = clash e
-extent-laid (field w j m f) h at [] b e = clash e
-extent-laid (field w j m f) h at (v ∷ vs) b e = extent-field w j h at v _ _ b (extent-laid f (v ∷ h) (at + w) vs) e
-extent-laid (choice w j f) h at [] b e = clash e
-extent-laid (choice w j f) h at (v ∷ vs) b e = extent-field w j h at v _ _ b (extent-laid (f v) (v ∷ h) (at + w) vs) e
-extent-laid (bytes f) h at [] b e = clash e
-extent-laid (bytes f) h at (n ∷ vs) b e = extent-laid (f n) (n ∷ h) at vs b (sized-inv n at (write (f n) (n ∷ h) at vs) e .0)
+extent-laid f h at vs b e = extent-lay f at vs b (write-lay f h at vs b e)
 
 -- A flat layout has the same bits in every message.
 abbrev pub flat : Fmt → Bool

@@ -9,8 +9,8 @@ use borrow.Author.Tests.{lt-ltb}
 use Rattle.bits.specs.Bits.{digits}
 use Rattle.bits.specs.laws.Digits.{length-digits, value-digits}
 use Rattle.format.specs.Fmt.{accepted, Fault, good, Fmt, end, field, choice, bytes, write}
-use Rattle.format.specs.Words.{_‥_, only}
-use Rattle.format.specs.laws.Tells.{wrong-narrow, only-one, blamed, Tells}
+use Rattle.format.specs.Words.{Test, _‥_, only}
+use Rattle.format.specs.laws.Tells.{wrong-narrow, only-one, only-tells, blamed, Tells}
 use Rattle.format.specs.laws.Round.{clash, written, sized-inv}
 
 -- as many values as fields, each narrow enough and judged good
@@ -51,3 +51,7 @@ told-good w v j {faultOf} x l e = go (faultOf v) (ap (λ u. blamed (faultOf u) 0
     go : (c : ℕ) → blamed c 0 ≡ good → c ≡ 0
     go zero e = refl
     go (suc c) e = let z : _≡_ {A = ℕ} 0 1 = cc in absurd (omega arith)
+
+-- a narrow value that passes its test is judged good
+pub passes : (w c : ℕ) (t : Test) (h : List ℕ) (v : ℕ) → v < 2 ^ w → t h v ≡ true → only w (suc c) t h (digits w v) ≡ good
+passes w c t h v l e = only-tells w c t h .whole (digits w v) (length-digits w v) ∙ rw (value-digits w l, e) refl

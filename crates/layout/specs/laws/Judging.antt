@@ -4,20 +4,20 @@ use mathlib.Core.Bool.{Bool, true, false, cond, _&&_, and-false}
 use mathlib.Core.List.{List, [], _∷_, _++_}
 use Prim.Native.Nat.{ℕ, zero, suc, _+_, _-_, _/_, _%_, _≤_, _<_, _^_}
 use native.Mathlib.Omega.{arith}
-use native.Mathlib.Nat.{le-refl, mod-eq-of-lt}
+use native.Mathlib.Nat.{add-zero, le-refl, mod-eq-of-lt}
 use lib.Dec.{leb, ltb, eqb}
 use lib.ListN.{length, length-append}
-use borrow.Author.Tests.{le-leb, lt-leb, ltb-true, ltb-false, eqb-true, ne-eqb}
+use borrow.Author.Tests.{le-leb, lt-leb, leb-true, ltb-true, ltb-false, eqb-true, eqb-false, ne-eqb}
 use Rattle.bits.specs.Bits.{digits}
 use Rattle.bits.specs.laws.Digits.{length-digits}
 use Rattle.format.specs.Fmt.{Out, accepted, refused, Fault, good, bad, orBad, Judge, Fmt, end, field, bytes, check, also, sized, writeField, write, pad}
-use Rattle.layout.specs.Judging.{valued, signedlyValued}
+use Rattle.layout.specs.Judging.{valued, signedlyValued, beyond}
 use Rattle.format.specs.Message.{fault}
 use Rattle.layout.specs.Walk.{begun, onward}
 use Rattle.format.specs.Words.{Test, _‥_, signed, orElse, only, num, deciding, code}
 use Rattle.format.specs.laws.Extent.{Opens, opens-field, opens-choice, extent, extent-laid}
 use Rattle.format.specs.laws.Round.{sized-at}
-use Rattle.layout.specs.laws.Step.{sticky, stuck}
+use Rattle.layout.specs.laws.Step.{sticky, stuck, clean}
 use Rattle.format.specs.laws.Tells.{blamed, Tells, wrong, wrong-tells, wrong-narrow, wrong-wide}
 use Rattle.layout.specs.declared.walk.Walk.{Walk}
 
@@ -30,6 +30,15 @@ pub record Judging (o : Out (List Bool)) (f : Fmt) (h : List ℕ) (at : ℕ) (vs
 
 -- ---- one step
 
+-- two faults at one place
+two-checks : {A : Type 0} (x y : Fault) (at : ℕ) (o : Out A) → check x at (check y at o) ≡ check (orElse x y) at o
+two-checks good y at o = refl
+two-checks (bad d i) y at o = refl
+
+deeper : (k : List Bool → List Bool) (m : List Bool) (o : Out (List Bool)) → also k (also (m ++_) o) ≡ also (λ l. k (m ++ l)) o
+deeper k m (accepted l) = refl
+deeper k m (refused d p) = refl
+
 -- past a field or a choice: the code's fault c, i bits in, is the value's
 pub judge : {o : Out (List Bool)} {f g : Fmt} {h : List ℕ} {at v : ℕ} {vs : List ℕ} {r q : Walk} {w : ℕ} {j : Judge} (b : Bool) (u c i : ℕ) → i ≤ w → at + w < 2 ^ 64 → Opens f at v vs w j g
     → wrong w (j h) v ≡ blamed c i → Judging o f h at (v ∷ vs) r → q ≡ onward w b u c i r → Judging o g (v ∷ h) (at + w) vs q
@@ -37,33 +46,36 @@ unfolding writeField onward
 judge {o} {f} {g} {h} {at} {v} {vs} {r} {w = w} {j} b u c i inner reach opens x e d = subst⁻¹ (λ q. Judging o g (v ∷ h) (at + w) vs q) d (record {
   k = λ l. e .k (digits w v ++ l);
   so = e .so ∙ ap (λ y. sticky r (also (e .k) y)) (opens .is h) ∙ go (eqb (r .code) 0) refl c refl (write g (v ∷ h) (at + w) vs);
-  here = λ z. ap (λ a. (a + w) % 2 ^ 64) (e .here (clean z)) ∙ mod-eq-of-lt reach;
-  long = λ z l. e .long (clean z) (digits w v ++ l) ∙ omega (arith, length-append (digits w v) l, length-digits w v);
+  here = λ z. ap (λ a. (a + w) % 2 ^ 64) (e .here (clean (r .code) c z .0)) ∙ mod-eq-of-lt reach;
+  long = λ z l. e .long (clean (r .code) c z .0) (digits w v ++ l) ∙ omega (arith, length-append (digits w v) l, length-digits w v);
 })
   where
-    clean : cond (eqb (r .code) 0) c (r .code) ≡ 0 → r .code ≡ 0
-    clean = go (eqb (r .code) 0) refl
-      where
-        go : (t : Bool) → eqb (r .code) 0 ≡ t → cond t c (r .code) ≡ 0 → r .code ≡ 0
-        go true t z = eqb-true (r .code) 0 t
-        go false t z = z
-
-    whole : (a y : Fault) (o : Out (List Bool)) → check a at (check y at o) ≡ check (orElse a y) at o
-    whole good y o = refl
-    whole (bad d i) y o = refl
-
-    deeper : (o : Out (List Bool)) → also (e .k) (also (digits w v ++_) o) ≡ also (λ l. e .k (digits w v ++ l)) o
-    deeper (accepted l) = refl
-    deeper (refused d p) = refl
-
     go : (t : Bool) → eqb (r .code) 0 ≡ t → (d : ℕ) → c ≡ d → (n : Out (List Bool))
         → sticky r (also (e .k) (writeField w j h at v n)) ≡ sticky (onward w b u c i r) (also (λ l. e .k (digits w v ++ l)) n)
     go false t d z n = simp t
     go true t zero z n =
-        rw (t, z, whole (orBad (ltb v (2 ^ w)) 4) (j h (digits w v)) (also (digits w v ++_) n), x, z) (deeper n)
+        rw (t, z, two-checks (orBad (ltb v (2 ^ w)) 4) (j h (digits w v)) at (also (digits w v ++_) n), x, z) (deeper (e .k) (digits w v) n)
     go true t (suc d) z n =
         let l : at + i < 2 ^ 64 = omega arith in
-        rw (t, z, whole (orBad (ltb v (2 ^ w)) 4) (j h (digits w v)) (also (digits w v ++_) n), x, z, e .here (eqb-true (r .code) 0 t), mod-eq-of-lt l, ne-eqb (suc d) 0 (λ z. omega arith)) refl
+        rw (t, z, two-checks (orBad (ltb v (2 ^ w)) 4) (j h (digits w v)) at (also (digits w v ++_) n), x, z, e .here (eqb-true (r .code) 0 t), mod-eq-of-lt l, ne-eqb (suc d) 0 (λ z. omega arith)) refl
+
+-- past a field that the code takes no walk over, as many bits as it has
+pub judge-beyond : {o : Out (List Bool)} {f g : Fmt} {h : List ℕ} {at v : ℕ} {vs : List ℕ} {r : Walk} {w : ℕ} {j : Judge} (c : ℕ) → Opens f at v vs w j g → wrong w (j h) v ≡ blamed c 0
+    → Judging o f h at (v ∷ vs) r → Judging o g (v ∷ h) (at + w) vs (beyond w c r)
+unfolding writeField beyond
+judge-beyond {o} {f} {g} {h} {at} {v} {vs} {r} {w} {j} c opens x e = record {
+  k = λ l. e .k (digits w v ++ l);
+  so = e .so ∙ ap (λ y. sticky r (also (e .k) y)) (opens .is h) ∙ go (eqb (r .code) 0) refl c refl (write g (v ∷ h) (at + w) vs);
+  here = λ z. ap (_+ w) (e .here (clean (r .code) c z .0));
+  long = λ z l. e .long (clean (r .code) c z .0) (digits w v ++ l) ∙ omega (arith, length-append (digits w v) l, length-digits w v);
+}
+  where
+    go : (t : Bool) → eqb (r .code) 0 ≡ t → (d : ℕ) → c ≡ d → (n : Out (List Bool))
+        → sticky r (also (e .k) (writeField w j h at v n)) ≡ sticky (beyond w c r) (also (λ l. e .k (digits w v ++ l)) n)
+    go false t d z n = simp t
+    go true t zero z n = rw (t, z, two-checks (orBad (ltb v (2 ^ w)) 4) (j h (digits w v)) at (also (digits w v ++_) n), x, z) (deeper (e .k) (digits w v) n)
+    go true t (suc d) z n =
+        rw (t, z, two-checks (orBad (ltb v (2 ^ w)) 4) (j h (digits w v)) at (also (digits w v ++_) n), x, z, e .here (eqb-true (r .code) 0 t), ne-eqb (suc d) 0 (λ z. omega arith)) (ap (refused (suc d)) (add-zero at))
 
 -- a byte count, which is the one that reading will find
 pub judge-bytes : {o : Out (List Bool)} {f : ℕ → Fmt} {h : List ℕ} {at n : ℕ} {vs : List ℕ} {r : Walk} → extent (f n) at vs / 8 ≡ n → Judging o (bytes f) h at (n ∷ vs) r → Judging o (f n) (n ∷ h) at vs r
@@ -126,6 +138,35 @@ module _ {o : Out (List Bool)} {h : List ℕ} {at v : ℕ} {vs : List ℕ} {r g 
       go : (t : Bool) → ltb v (2 ^ w) ≡ t → wrong w (only w 4 (signed w m x) h) v ≡ blamed (cond t (cond (signed w m x h v) 0 4) 4) 0
       go true e = wrong-narrow w 3 (signed w m x) h v (ltb-true v (2 ^ w) e)
       go false e = wrong-wide w 3 (signed w m x) h v (ltb-false v (2 ^ w) e)
+
+-- limits that hold only where nothing was refused before, as those that an earlier value sets
+pub judge-late : {o : Out (List Bool)} {h : List ℕ} {at v : ℕ} {vs : List ℕ} {r g : Walk} {f : Fmt} (w : ℕ) (t : Test) (lo hi : ℕ) → at + w < 2 ^ 64 → (r .code ≡ 0 → (hi < 2 ^ w) × Limits w t h v lo hi)
+    → Judging o (num w t f) h at (v ∷ vs) r → g ≡ valued w v lo hi r → Judging o f (v ∷ h) (at + w) vs g
+unfolding onward
+judge-late {o} {h} {at} {v} {vs} {r} {g} {f} w t lo hi reach x e d = go (eqb (r .code) 0) refl
+  where
+    late : (r .code ≡ 0 → ⊥) → valued w v lo hi r .code ≡ 0 → ⊥
+    late n = rw (ne-eqb (r .code) 0 n) n
+
+    go : (y : Bool) → eqb (r .code) 0 ≡ y → Judging o f (v ∷ h) (at + w) vs g
+    go true y = let (n, k) = x (eqb-true (r .code) 0 y) in judge-limits w reach t lo hi n k e d
+    go false y = let n = eqb-false (r .code) 0 y in subst⁻¹ (λ q. Judging o f (v ∷ h) (at + w) vs q) d (record {
+      k = e .k;
+      so = e .so ∙ rw (y, y) refl;
+      here = λ z. absurd (late n z);
+      long = λ z l. absurd (late n z);
+    })
+
+-- a value that was judged good lies between its limits
+pub valued-between : {g : Walk} (r : Walk) (w v lo hi : ℕ) → g ≡ valued w v lo hi r → g .code ≡ 0 → (lo ≤ v) × (v ≤ hi)
+unfolding onward
+valued-between r w v lo hi d z = go (eqb (r .code) 0) (leb lo v) (leb v hi) refl refl refl (sym (ap (λ q. q .code) d) ∙ z)
+  where
+    go : (x y u : Bool) → eqb (r .code) 0 ≡ x → leb lo v ≡ y → leb v hi ≡ u → cond x (cond (y && u) 0 4) (r .code) ≡ 0 → (lo ≤ v) × (v ≤ hi)
+    go false y u ex ey eu z = absurd (eqb-false (r .code) 0 ex z)
+    go true true true ex ey eu z = (leb-true lo v ey, leb-true v hi eu)
+    go true true false ex ey eu z = absurd (omega (arith, z))
+    go true false u ex ey eu z = absurd (omega (arith, z))
 
 -- a field whose judge tells the number c of the record's value, which has at most w bits
 pub judge-tells : {o : Out (List Bool)} {f g : Fmt} {h : List ℕ} {at v : ℕ} {vs : List ℕ} {r q : Walk} {j : Judge} {faultOf : ℕ → ℕ} (w : ℕ) (b : Bool) (u c : ℕ) → at + w < 2 ^ 64 → v < 2 ^ w

@@ -12,7 +12,7 @@ use Rattle.bits.specs.Bits.{bytesOf}
 use Rattle.bits.specs.laws.Bytes.{length-bytes}
 use Rattle.bits.specs.Xor.{xorOf}
 use Rattle.format.specs.Fmt.{Out, accepted, refused, Fault, good, bad, check, after, write}
-use Rattle.layout.specs.Judging.{bytesTo, made, closing}
+use Rattle.layout.specs.Judging.{beyond, bytesTo, made, verdict, closing}
 use Rattle.format.specs.Promises.{Writes}
 use Rattle.format.specs.Sealing.{stamped}
 use Rattle.format.specs.Message.{Layout, fault, between, size, sealed, closed, into, refuses, accepts, writeMessage}
@@ -34,6 +34,19 @@ drop-made true at s t e = sym (drop-drop 1 (bytesTo at) t) ∙ ap (drop 1) e ∙
 made-above : (z : Bool) (at : ℕ) → bytesTo at ≤ made z at
 made-above false at = omega arith
 made-above true at = omega arith
+
+-- a caller's m bytes behind the walk r
+pub closing-beyond : (z : Bool) (least most room m : ℕ) (r : Walk) → closing z least most room (beyond (m * 8) 0 r) ≡ verdict (r .code) least most room (made z (r .at) + m)
+unfolding beyond
+closing-beyond z least most room m r = ap₂ (λ c n. verdict c least most room n) (own (eqb (r .code) 0) refl) (more z)
+  where
+    own : (x : Bool) → eqb (r .code) 0 ≡ x → cond x 0 (r .code) ≡ r .code
+    own true e = sym (eqb-true (r .code) 0 e)
+    own false e = refl
+
+    more : (z : Bool) → made z (r .at + m * 8) ≡ made z (r .at) + m
+    more false = omega arith
+    more true = omega arith
 
 module _ (l : Layout) (vs s : List ℕ) {r : Walk} (j : Judged (check (fault (l .kind vs)) 0 (write (l .fmt) [] 0 vs)) r) where
   abbrev n : ℕ

@@ -1,0 +1,42 @@
+-- The numbers of a good packet are its record's and its content's place and size; a refused one has its refusal. Assumes nothing.
+use mathlib.Core.Path.{_≡_, refl, sym, ap, _∙_}
+use mathlib.Core.List.{List}
+use Prim.Native.Nat.{ℕ, _-_, _≤_}
+use native.Mathlib.Omega.{arith}
+use lib.IntN.{ℤ}
+use lib.ListN.{length, take, drop, length-drop}
+use lib.Seq.{length-take-le}
+use Rattle.bits.specs.Bits.{Bytes}
+use Rattle.format.specs.Fmt.{Out, accepted, refused, also}
+use Rattle.format.specs.Message.{readMessage}
+use Rattle.format.specs.Promises.{readRecord}
+use Rattle.format.specs.laws.Answers.{numbered}
+use Rattle.packet_reading.specs.Packet.{packets, recordOf, answerOf, numberOf}
+use Rattle.packet_reading.specs.Promises.{Reads}
+use Rattle.packet_reading.specs.laws.Demands.{good}
+use Rattle.packet_reading.specs.laws.Shown.{shown}
+use Rattle.packet_reading.specs.laws.Sound.{read-sized}
+use Rattle.packet_reading.specs.declared.Packet.{Packet}
+use Rattle.packet_reading.specs.declared.Answer.the-variants.{Good, Refused}
+use Rattle.rows.specs.Row.{Fills}
+use Rattle.rows.specs.laws.Row.{row-refused}
+use Rattle.packet_rows.specs.Packet.{rowOf, numbersOf}
+
+module _ (s : List ℕ) (r : Packet) (reads : Reads s (Good r)) where
+  -- a good packet has 5 to 210 bytes
+  pub good-size : (5 ≤ length s) × (length s ≤ 210)
+  good-size = read-sized s (sym (ap numberOf reads ∙ numbered (λ r. Good (r .0)) Refused recordOf numberOf (λ r. refl) (λ c. refl) (readMessage packets s)))
+
+  pub good-numbers : Bytes s → numbersOf s ≡ accepted (rowOf r (length s - 4))
+  good-numbers fine =
+      let (n, is) = shown s reads refl fine refl in
+      let c = take (length s - 4) (drop 4 s) in
+      let long : length c ≡ length s - 4 = length-take-le (length s - 4) (drop 4 s) (omega (arith, length-drop 4 s)) in
+      ap (also (λ r. rowOf (r .0) (length (r .1)))) (good s r c reads is) ∙ ap (λ n. accepted (rowOf r n)) long
+
+pub refused-numbers : (s : List ℕ) (row : List ℤ) (d : ℕ) → Reads s (Refused d) → Fills (numbersOf s) row d row
+refused-numbers s row d e = let (p, is) = go (readRecord packets recordOf s) e in row-refused row (ap (also (λ r. rowOf (r .0) (length (r .1)))) is)
+  where
+    go : (o : Out (Packet × List ℕ)) → Refused d ≡ answerOf o → (p : ℕ) × (o ≡ refused d p)
+    go (accepted q) e = let z : _≡_ {A = ℕ} 0 1 = cc in absurd (omega arith)
+    go (refused c p) e = let k : c ≡ d = cc in (p, ap (λ c. refused c p) k)

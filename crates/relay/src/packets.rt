@@ -1,0 +1,68 @@
+// The packet's calls, and the splitter's.
+ghost use mathlib.Core.Path.{_≡_};
+ghost use Rattle.rows.specs.Row.{Fills};
+ghost use Rattle.packet_rows.specs.Packet.{numbersOf, recordOf};
+ghost use Rattle.packet_rows.specs.Split.{SplitsIn};
+ghost use Rattle.packet_reading.specs.Packet.{packets, valuesOf};
+ghost use Rattle.splitter.specs.Splitter.{nextNumber};
+ghost use Rattle.format.specs.Promises.{Writes, Corrects};
+use packet::Packet;
+
+// Reads the packet into a row of 6: language, number, total, own, where the content begins and its bytes.
+#[no_mangle]
+pub extern "C" fn bellnewt_packet_read(s: &[u8], row: &mut [i64]) -> u8
+    ensures { λ code. ⌜ Fills (numbersOf (now (s .entry))) (now (row .entry)) code (now (row .exit)) ⌝ }
+{
+    packet_rows::read(s, row)
+}
+
+// Writes the packet of these numbers and content into the front of a lent buffer.
+#[no_mangle]
+pub extern "C" fn bellnewt_packet_write(
+    buf: &mut [u8],
+    content: &[u8],
+    language: u8,
+    number: u8,
+    total: u8,
+    own: u8,
+) -> u8
+    ensures { λ code. ⌜ Writes packets (now (buf .entry)) code (now (buf .exit)) (valuesOf (recordOf language number total own, now (content .entry))) ⌝ }
+{
+    let r = Packet {
+        language,
+        number,
+        total,
+        own,
+    };
+    packet::write(buf, r, content)
+}
+
+// Makes field number `field` of the packet be `value`, or leaves every byte.
+#[no_mangle]
+pub extern "C" fn bellnewt_packet_correct(s: &mut [u8], field: usize, value: u64) -> u8
+    ensures { λ code. ⌜ Corrects packets (now (s .entry)) field value code (now (s .exit)) ⌝ }
+{
+    packet::correct(s, field, value)
+}
+
+// Writes packet number `packet` of the content into the front of a lent buffer; a language above 1 is 4 before anything else.
+#[no_mangle]
+pub extern "C" fn bellnewt_split(
+    buf: &mut [u8],
+    content: &[u8],
+    language: u8,
+    number: u8,
+    packet: usize,
+) -> u8
+    ensures { λ code. ⌜ SplitsIn (now (buf .entry)) (now (content .entry)) language number packet code (now (buf .exit)) ⌝ }
+{
+    packet_rows::split(buf, content, language, number, packet)
+}
+
+// The next message number: after 255 it is 0.
+#[no_mangle]
+pub extern "C" fn bellnewt_next_number(number: u8) -> u8
+    ensures { λ r. ⌜ r ≡ nextNumber number ⌝ }
+{
+    splitter::next_number(number)
+}
