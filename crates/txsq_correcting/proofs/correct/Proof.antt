@@ -13,8 +13,8 @@ use Rattle.txsq_reading.specs.declared.Txsq.{Txsq}
 use Rattle.txsq_reading.specs.declared.Answer.{Answer}
 use Rattle.txsq_reading.specs.declared.Answer.the-variants.{Good, Refused}
 use borrow.Author.Needs.{needs}
-use Rattle.txsq.proofs.correct.Statement.{statement}
-use Rattle.txsq.proofs.correct.Tie as tie
+use Rattle.txsq_correcting.proofs.correct.Statement.{statement}
+use Rattle.txsq_correcting.proofs.correct.Tie as tie
 
 -- the answer of an accepted record, whose content is shown beside it
 abbrev Shown : Txsq × List ℕ → Answer

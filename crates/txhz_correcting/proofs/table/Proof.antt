@@ -2,8 +2,8 @@
 use mathlib.Core.List.{[], _∷_}
 use Rattle.txhz_reading.specs.Steps.{tableOf}
 use borrow.Author.Needs.{needs}
-use Rattle.txhz.proofs.table.Statement.{statement}
-use Rattle.txhz.proofs.table.Tie as tie
+use Rattle.txhz_correcting.proofs.table.Statement.{statement}
+use Rattle.txhz_correcting.proofs.table.Tie as tie
 
 width-requires : tie.Need-width-requires
 width-requires c κs = search needs

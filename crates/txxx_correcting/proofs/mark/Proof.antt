@@ -4,8 +4,8 @@ use mathlib.Core.Bool.{and-false}
 use native.Mathlib.Omega.{arith}
 use borrow.Author.Tests.{le-leb, lt-leb}
 use borrow.Author.Needs.{needs}
-use Rattle.txxx.proofs.mark.Statement.{statement}
-use Rattle.txxx.proofs.mark.Tie as tie
+use Rattle.txxx_correcting.proofs.mark.Statement.{statement}
+use Rattle.txxx_correcting.proofs.mark.Tie as tie
 
 returns : tie.Need-returns
 returns c = rw (lt-leb 20 (c .before .args .len) (c .if1 .taken)) refl

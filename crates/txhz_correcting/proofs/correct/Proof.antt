@@ -13,8 +13,8 @@ use Rattle.txhz_reading.specs.laws.Correction.{looked-stands, looked-slim}
 use Rattle.txhz_reading.specs.laws.Demands.{family}
 use Rattle.txhz_reading.specs.declared.Answer.the-variants.{Good, Refused}
 use borrow.Author.Needs.{needs}
-use Rattle.txhz.proofs.correct.Statement.{statement}
-use Rattle.txhz.proofs.correct.Tie as tie
+use Rattle.txhz_correcting.proofs.correct.Statement.{statement}
+use Rattle.txhz_correcting.proofs.correct.Tie as tie
 
 read-requires : tie.Need-read-requires
 read-requires c κs = search needs

@@ -1,8 +1,8 @@
 -- `width` is the test of the count.
 use mathlib.Core.Path.{refl}
 use borrow.Author.Tests.{lt-ltb, le-ltb}
-use Rattle.txhz.proofs.width.Statement.{statement}
-use Rattle.txhz.proofs.width.Tie as tie
+use Rattle.txhz_correcting.proofs.width.Statement.{statement}
+use Rattle.txhz_correcting.proofs.width.Tie as tie
 
 returns : tie.Need-returns
 returns c = rw (lt-ltb _ _ (c .if1 .taken)) refl

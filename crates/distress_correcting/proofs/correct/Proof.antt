@@ -9,15 +9,15 @@ use Rattle.format.specs.Message.{readMessage}
 use Rattle.format.specs.laws.Family.{record-values}
 use Rattle.format.specs.laws.Correcting.{admitted-clean, correct-early, correct-late}
 use Rattle.format.specs.laws.Spots.{spotsAlong, slim, table-stands, table-slim}
-use Rattle.distress_reading.specs.Report.{report, reports, reportOf, numberOf}
+use Rattle.distress_reading.specs.Report.{reports, reportOf, numberOf}
 use Rattle.distress_reading.specs.declared.report.Answer.the-variants.{Good, Refused}
 use Rattle.format.specs.laws.Answers.{fields-code, whole-code, clean-lead}
 use Rattle.distress_reading.specs.laws.Correction.{places, widths, along}
 use Rattle.distress_reading.specs.laws.Demands.{family}
 use Rattle.distress_reading.specs.laws.Sound.{sound, sized}
 use borrow.Author.Needs.{needs}
-use Rattle.distress.proofs.report.correct.Statement.{statement}
-use Rattle.distress.proofs.report.correct.Tie as tie
+use Rattle.distress_correcting.proofs.correct.Statement.{statement}
+use Rattle.distress_correcting.proofs.correct.Tie as tie
 
 -- the field stands where the table says
 stands : (s : List ℕ) (i : ℕ) {p w : ℕ} → (p ≡ getD places i 0) × (w ≡ getD widths i 0) → (vs : List ℕ) → readMessage reports s ≡ accepted vs → spot (reports .fmt) [] vs i ≡ standing p w

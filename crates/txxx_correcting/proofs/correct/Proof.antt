@@ -14,8 +14,8 @@ use Rattle.txxx_reading.specs.declared.Txxx.{Txxx}
 use Rattle.txxx_reading.specs.declared.Answer.{Answer}
 use Rattle.txxx_reading.specs.declared.Answer.the-variants.{Good, Refused}
 use borrow.Author.Needs.{needs}
-use Rattle.txxx.proofs.correct.Statement.{statement}
-use Rattle.txxx.proofs.correct.Tie as tie
+use Rattle.txxx_correcting.proofs.correct.Statement.{statement}
+use Rattle.txxx_correcting.proofs.correct.Tie as tie
 
 -- the answer of an accepted record, whose content is shown beside it
 abbrev Shown : Txxx × List ℕ → Answer

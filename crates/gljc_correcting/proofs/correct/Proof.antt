@@ -14,8 +14,8 @@ use Rattle.gljc_reading.specs.laws.Correction.{places, widths, along}
 use Rattle.gljc_reading.specs.laws.Demands.{family}
 use Rattle.gljc_reading.specs.declared.Answer.the-variants.{Good, Refused}
 use borrow.Author.Needs.{needs}
-use Rattle.gljc.proofs.correct.Statement.{statement}
-use Rattle.gljc.proofs.correct.Tie as tie
+use Rattle.gljc_correcting.proofs.correct.Statement.{statement}
+use Rattle.gljc_correcting.proofs.correct.Tie as tie
 
 read-requires : tie.Need-read-requires
 read-requires c κs = search needs
