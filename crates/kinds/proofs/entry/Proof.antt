@@ -6,14 +6,14 @@ use native.Mathlib.Omega.{arith}
 use lib.Dec.{lit≤}
 use lib.ListN.{length}
 use borrow.Author.Tests.{ne-eqb}
-use Rattle.daylog.specs.Log.{word, codeOf, entryLine}
+use Rattle.kinds.specs.Kinds.{word, codeOf, entryLine}
 use Rattle.lines.specs.Stores.{Stores}
 use Rattle.lines.specs.Text.{line}
-use Rattle.daylog.specs.Text.{serial, packet, distress, ais, unknown}
+use Rattle.kinds.specs.Words.{serial, packet, distress, ais, unknown}
 use Rattle.lines.specs.laws.Text.{line-few}
 use borrow.Author.Needs.{needs}
-use Rattle.daylog.proofs.entry.Statement.{statement}
-use Rattle.daylog.proofs.entry.Tie as tie
+use Rattle.kinds.proofs.entry.Statement.{statement}
+use Rattle.kinds.proofs.entry.Tie as tie
 
 -- ---- the words
 

@@ -1,10 +1,10 @@
 -- `code` takes the arm that `codeOf` takes.
 use mathlib.Core.Path.{refl}
 use borrow.Author.Tests.{ne-eqb}
-use Rattle.daylog.specs.Log.{codeOf}
+use Rattle.kinds.specs.Kinds.{codeOf}
 use borrow.Author.Needs.{needs}
-use Rattle.daylog.proofs.code.Statement.{statement}
-use Rattle.daylog.proofs.code.Tie as tie
+use Rattle.kinds.proofs.code.Statement.{statement}
+use Rattle.kinds.proofs.code.Tie as tie
 
 code-requires : tie.Need-code-requires
 code-requires c κs = search needs

@@ -5,8 +5,8 @@ use Rattle.packet_reading.specs.Packet.{packets, recordOf, numberOf}
 use Rattle.packet_reading.specs.declared.Answer.the-variants.{Good, Refused}
 use Rattle.format.specs.laws.Answers.{numbered}
 use borrow.Author.Needs.{needs}
-use Rattle.daylog.proofs.packet.Statement.{statement}
-use Rattle.daylog.proofs.packet.Tie as tie
+use Rattle.kinds.proofs.packet.Statement.{statement}
+use Rattle.kinds.proofs.packet.Tie as tie
 
 read-requires : tie.Need-read-requires
 read-requires c κs = search needs

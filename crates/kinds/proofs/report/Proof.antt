@@ -5,8 +5,8 @@ use Rattle.distress_reading.specs.Report.{reports, reportOf, numberOf}
 use Rattle.distress_reading.specs.declared.report.Answer.the-variants.{Good, Refused}
 use Rattle.format.specs.laws.Answers.{numbered}
 use borrow.Author.Needs.{needs}
-use Rattle.daylog.proofs.report.Statement.{statement}
-use Rattle.daylog.proofs.report.Tie as tie
+use Rattle.kinds.proofs.report.Statement.{statement}
+use Rattle.kinds.proofs.report.Tie as tie
 
 read-requires : tie.Need-read-requires
 read-requires c κs = search needs
