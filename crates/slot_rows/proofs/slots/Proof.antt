@@ -1,11 +1,11 @@
--- `slots` hands on the answer of `ais::slots`.
+-- `slots` hands on the answer of `slots::slots`.
 use mathlib.Core.Path.{_≡_, refl, sym, _∙_}
 use Prim.Native.Nat.{ℕ}
 use native.Mathlib.Omega.{arith}
 use Rattle.format.specs.Fmt.{Out, accepted, refused}
 use Rattle.format.specs.Message.{codeOf, leaves}
-use Rattle.ais.specs.Slots.{slotsFor, answerOf}
-use Rattle.ais.specs.declared.Needed.the-variants.{Slots, Refused}
+use Rattle.slots.specs.Slots.{slotsFor, answerOf}
+use Rattle.slots.specs.declared.Needed.the-variants.{Slots, Refused}
 use borrow.Author.Needs.{needs}
 use Rattle.slot_rows.proofs.slots.Statement.{statement}
 use Rattle.slot_rows.proofs.slots.Tie as tie

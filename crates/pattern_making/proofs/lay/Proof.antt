@@ -1,12 +1,12 @@
 -- `lay`: five parts put one after another, the sum taken of what stands.
 use borrow.Author.Needs.{needs}
 use Rattle.pattern.specs.laws.Front.{all-laid}
 use mathlib.Core.Path.{refl, ap, _∙_}
 use Rattle.spelling.specs.Spelling.{closingOf}
 use Prim.Native.Nat.{_+_}
 use lib.ListN.{length}
-use Rattle.pattern.proofs.lay.Statement.{statement}
-use Rattle.pattern.proofs.lay.Tie as tie
+use Rattle.pattern_making.proofs.lay.Statement.{statement}
+use Rattle.pattern_making.proofs.lay.Tie as tie
 
 hex-requires : tie.Need-hex-requires
 hex-requires c κs = search needs

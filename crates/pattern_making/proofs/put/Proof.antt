@@ -6,8 +6,8 @@ use native.Mathlib.Numerals.{add-one}
 use native.Mathlib.Omega.{arith}
 use lib.ListN.{length, getD, set, length-set}
 use lib.Seq.{paste, paste-zero, paste-suc}
-use Rattle.pattern.proofs.put.Statement.{statement}
-use Rattle.pattern.proofs.put.Tie as tie
+use Rattle.pattern_making.proofs.put.Statement.{statement}
+use Rattle.pattern_making.proofs.put.Tie as tie
 
 abbrev Inv-loop : tie.InvT-loop
 Inv-loop buf₀ at part i₀ buf i = (i ≤ length part) × (length buf ≡ length buf₀) × (buf ≡ paste buf₀ at part i)
