@@ -601,6 +601,218 @@ uint8_t bellnewt_area_correct(uint8_t *s, size_t len, size_t field, uint64_t val
  */
 uint8_t bellnewt_slots(uint8_t message, size_t bytes, uint8_t *slots);
 
+/*
+ * Packets carry a notice, of which each has at most 206 bytes: type 0xE1, version 1, the language of the notice's text,
+ * its message number, how many packets it has, which of them this is, counted from 0, and the content.
+ */
+enum bellnewt_packet_size {
+    BELLNEWT_PACKET_HEAD = 4,      /* without the content */
+    BELLNEWT_PACKET_CONTENT = 206, /* the most bytes of content */
+    BELLNEWT_PACKET_GREATEST = 210,
+    BELLNEWT_PACKET_ROW = 6
+};
+
+enum bellnewt_language { BELLNEWT_CHINESE = 0, BELLNEWT_ENGLISH = 1 };
+
+/*
+ * What stands in the row of a packet. The content is a part of the caller's own packet: row[BYTES] bytes from
+ * packet + row[START] on.
+ */
+enum bellnewt_packet_entry {
+    BELLNEWT_PACKET_ENTRY_LANGUAGE = 0, /* one of bellnewt_language */
+    BELLNEWT_PACKET_ENTRY_NUMBER = 1,
+    BELLNEWT_PACKET_ENTRY_TOTAL = 2,
+    BELLNEWT_PACKET_ENTRY_OWN = 3,
+    BELLNEWT_PACKET_ENTRY_START = 4,
+    BELLNEWT_PACKET_ENTRY_BYTES = 5
+};
+
+/* The numbers of the fields that can be corrected. */
+enum bellnewt_packet_field {
+    BELLNEWT_PACKET_LANGUAGE = 2, /* 1 bit */
+    BELLNEWT_PACKET_NUMBER = 3,   /* 8 bits */
+    BELLNEWT_PACKET_TOTAL = 4,    /* 6 bits, 1 to 63 */
+    BELLNEWT_PACKET_OWN = 5       /* 6 bits, 0 to total - 1 */
+};
+
+/*
+ * Reads a packet into the first 6 entries of a row; entries past them stay.
+ *
+ * 1  fewer than 5 bytes
+ * 2  the type is not 0xE1, or the version not 1
+ * 1  more than 210 bytes
+ * 4  the total is 0, or the own number not below the total
+ * 6  the row has fewer than 6 entries
+ *
+ * A refusal leaves the row as it was.
+ */
+uint8_t bellnewt_packet_read(const uint8_t *s, size_t len, int64_t *row, size_t row_len);
+
+/*
+ * Writes a packet into the first 4 + content_len bytes of a buffer; bytes past them stay.
+ *
+ * 4  the language is above 1, the total not 1 to 63, or the own number not below the total
+ * 1  the content has not 1 to 206 bytes
+ * 6  the buffer has fewer than 4 + content_len bytes
+ *
+ * A refusal leaves the buffer as it was.
+ */
+uint8_t bellnewt_packet_write(uint8_t *buf, size_t buf_len, const uint8_t *content, size_t content_len,
+                              uint8_t language, uint8_t number, uint8_t total, uint8_t own);
+
+/*
+ * Corrects one field of a packet where it stands. The buffer is the packet alone, so there is no 6.
+ *
+ * 1, 2, 4  the packet itself is refused, in the order of bellnewt_packet_read
+ * 10  the number is none of bellnewt_packet_field
+ * 4   the value is wider than the field, the total 0, or the own number not below the total
+ *
+ * A refusal leaves the packet as it was; otherwise only that field's bits change.
+ */
+uint8_t bellnewt_packet_correct(uint8_t *s, size_t len, size_t field, uint64_t value);
+
+/*
+ * Splits a content: writes its packet of number `packet`, counted from 0, into the front of a buffer; bytes past it
+ * stay. Each packet has 206 bytes of content, so 210 in all; the last has the rest.
+ *
+ * 4  the language is above 1
+ * 1  the content has not 1 to 12,978 bytes
+ * 4  the content has no packet of that number
+ * 6  the buffer is shorter than the packet
+ *
+ * A refusal leaves the buffer as it was.
+ */
+uint8_t bellnewt_split(uint8_t *buf, size_t buf_len, const uint8_t *content, size_t content_len, uint8_t language,
+                       uint8_t number, size_t packet);
+
+/* Answers the message number that follows another: after 255 comes 0. There is no refusal. */
+uint8_t bellnewt_next_number(uint8_t number);
+
+/*
+ * A notice, 8 to 12,978 bytes, is what the contents of its packets are together. Its language stands in them, so every
+ * call is told it; one above 1 is refused by 4 before anything else.
+ *
+ * Source, station, serial, year, type, subtype, expiry, how many areas; the areas; the text, which takes all whole
+ * bytes that are left; a fill of 0 to 7 bits.
+ */
+enum bellnewt_notice_size {
+    BELLNEWT_NOTICE_LEAST = 8,
+    BELLNEWT_NOTICE_GREATEST = 12978,
+    BELLNEWT_NOTICE_ROW = 10,
+    BELLNEWT_NOTICE_ENTRIES = 480, /* the most entries of areas: 15 of 15 points */
+    BELLNEWT_NOTICE_TEXT = 12970,  /* the most bytes of text */
+    BELLNEWT_OUTLINE_ROW = 450     /* the most entries of an outline: 225 points */
+};
+
+/* What stands in the row of a notice. */
+enum bellnewt_notice_entry {
+    BELLNEWT_NOTICE_ENTRY_SOURCE = 0,
+    BELLNEWT_NOTICE_ENTRY_STATION = 1,
+    BELLNEWT_NOTICE_ENTRY_SERIAL = 2,
+    BELLNEWT_NOTICE_ENTRY_YEAR = 3,
+    BELLNEWT_NOTICE_ENTRY_TYPE = 4,
+    BELLNEWT_NOTICE_ENTRY_SUBTYPE = 5,
+    BELLNEWT_NOTICE_ENTRY_EXPIRY = 6,
+    BELLNEWT_NOTICE_ENTRY_COUNT = 7, /* how many areas */
+    BELLNEWT_NOTICE_ENTRY_AREAS = 8, /* how many entries of `areas` they take */
+    BELLNEWT_NOTICE_ENTRY_TEXT = 9   /* how many bytes of text */
+};
+
+/*
+ * The kinds of area, and what stands in `areas`: one area behind another, each opened by its kind. A point is its
+ * latitude, then its longitude.
+ *
+ * SEA                    kind, code, 8 bits
+ * POINTS, LINE, POLYGON  kind, how many points, the points: at least 1, 2 and 3, at most 15
+ * CIRCLE                 kind, the centre, radius, 10 bits, unit, 2 bits
+ *
+ * A latitude is the number that its 21 bits spell: south 1, degrees 7 (0 to 90), minutes 6 (0 to 60), hundredths 7 (0
+ * to 99). A longitude is that of 22: west 1, degrees 8 (0 to 180), minutes 6, hundredths 7.
+ */
+enum bellnewt_notice_area {
+    BELLNEWT_NOTICE_AREA_SEA = 0,
+    BELLNEWT_NOTICE_AREA_POINTS = 1,
+    BELLNEWT_NOTICE_AREA_LINE = 2,
+    BELLNEWT_NOTICE_AREA_CIRCLE = 3,
+    BELLNEWT_NOTICE_AREA_POLYGON = 4
+};
+
+/*
+ * The numbers of the fields that can be corrected. From FIRST_ENTRY on they are those of the entries of `areas`, as
+ * reading gives them: entry j is FIRST_ENTRY + j. Kinds of area and how many points there are decide the layout (10).
+ */
+enum bellnewt_notice_field {
+    BELLNEWT_NOTICE_SOURCE = 0,  /* 5 bits, 1 to 21 */
+    BELLNEWT_NOTICE_STATION = 1, /* 4 bits, 1 to 3 */
+    BELLNEWT_NOTICE_SERIAL = 2,  /* 14 bits, 1 to 9,999 */
+    BELLNEWT_NOTICE_YEAR = 3,    /* 7 bits, 0 to 99 */
+    BELLNEWT_NOTICE_TYPE = 4,    /* 4 bits, 1 to 8 */
+    BELLNEWT_NOTICE_SUBTYPE = 5, /* 4 bits; type 1: 1 to 10; 4 and 6: 1 to 13; 5: 1 to 8; else 0 */
+    BELLNEWT_NOTICE_EXPIRY = 6,  /* 21 bits: next year 1, month 4, day 5, hour 5, minute 6; 0 for not known */
+    BELLNEWT_NOTICE_FIRST_ENTRY = 8
+};
+
+/*
+ * Reads a notice: its numbers into the first 10 entries of a row, its areas into the first entries of `areas`, its text
+ * into the first bytes of `text`. The row says how many; entries and bytes past them stay.
+ *
+ * 4  the language is above 1
+ * 1  not 8 to 12,978 bytes
+ * 4  source, station, serial, year, type, subtype or a part of the expiry is outside its range
+ * 1  the notice ends before a number of an area, or before a part of a latitude or longitude
+ * 4  a kind of area above 4, too few points, or a part of a latitude or longitude outside its range
+ * 4  a character of the text: not 0x20 to 0x7E, and in Chinese no pair of GB 2312 level one either
+ * 5  a fill bit isn't zero
+ * 6  the row has fewer than 10 entries, or `areas` or `text` is shorter than what it is to hold
+ *
+ * The areas are walked in bit order, so that of the 1 and 4 that they give the first comes. A refusal leaves all three
+ * as they were.
+ */
+uint8_t bellnewt_notice_read(const uint8_t *s, size_t len, uint8_t language, int64_t *row, size_t row_len,
+                             uint32_t *areas, size_t areas_len, uint8_t *text, size_t text_len);
+
+/*
+ * Writes a notice of `count` areas into the front of a buffer; bytes past it stay. `kind` is its type. It has 63 bits,
+ * 11 for a sea area, 7 and 43 a point for points, a line or a polygon, 58 for a circle, and 8 a byte of text, rounded
+ * up to bytes.
+ *
+ * 4  the language is above 1
+ * 4  a value outside its field's range, or wider than the field; more than 15 areas or points; a bad character. Entries
+ *    that `areas` is too short for count as 0 here; entries past those of `count` areas are not looked at
+ * 1  more than 12,978 bytes
+ * 6  the buffer is shorter than the notice, or `areas` than its areas ask
+ *
+ * A refusal leaves the buffer as it was.
+ */
+uint8_t bellnewt_notice_write(uint8_t *buf, size_t buf_len, const uint32_t *areas, size_t areas_len,
+                              const uint8_t *text, size_t text_len, uint8_t language, uint8_t source, uint8_t station,
+                              uint16_t serial, uint8_t year, uint8_t kind, uint8_t subtype, uint32_t expiry,
+                              uint8_t count);
+
+/*
+ * Corrects one field of a notice where it stands. The new value is the plain number that the field's bits shall spell.
+ * The buffer is the notice alone, so there is no 6.
+ *
+ * 4, 1, 4, 5  the language or the notice itself is refused, in the order of bellnewt_notice_read
+ * 10  the number is none of bellnewt_notice_field, that of a kind or of how many points, or past the last entry
+ * 4   the value is wider than the field or outside its range, or the subtype is none of the type's
+ *
+ * A refusal leaves the notice as it was; otherwise only that field's bits change.
+ */
+uint8_t bellnewt_notice_correct(uint8_t *s, size_t len, uint8_t language, size_t field, uint64_t value);
+
+/*
+ * Puts the points of a notice into the first entries of a row, and how many there are into *points: latitude, then
+ * longitude, in hundredths of a minute, south and west negative. A circle gives its centre, a sea area nothing. Entries
+ * past 2 * *points stay.
+ *
+ * 4, 1, 4, 5  the language or the notice itself is refused, in the order of bellnewt_notice_read
+ * 6  the row is shorter than two entries a point
+ *
+ * A refusal leaves the row and *points as they were.
+ */
+uint8_t bellnewt_outline(const uint8_t *s, size_t len, uint8_t language, int32_t *row, size_t row_len, size_t *points);
+
 #ifdef __cplusplus
 }
 #endif

@@ -1,5 +1,5 @@
 /*
- * Reads, writes and corrects a message of each kind, and counts slots. Build:
+ * Reads, writes and corrects a message of each kind, counts slots, draws an outline and splits a notice. Build:
  *   cc -Wall -Wextra -Werror -I include include/example.c target/staticlib/librelay.a -o example
  */
 #include <inttypes.h>
@@ -215,6 +215,88 @@ static void slots(void)
     }
 }
 
+static void show_notice(const uint8_t *notice, size_t size)
+{
+    static const char *const names[] = {"source",  "station", "serial", "year",    "type",
+                                        "subtype", "expiry",  "count",  "entries", "bytes"};
+    int64_t row[BELLNEWT_NOTICE_ROW];
+    uint32_t areas[BELLNEWT_NOTICE_ENTRIES];
+    uint8_t text[BELLNEWT_NOTICE_TEXT];
+
+    uint8_t code = bellnewt_notice_read(notice, size, BELLNEWT_ENGLISH, row, BELLNEWT_NOTICE_ROW, areas,
+                                        BELLNEWT_NOTICE_ENTRIES, text, sizeof text);
+    if (!show(code, names, row, BELLNEWT_NOTICE_ROW))
+        return;
+    printf("  areas    ");
+    for (int64_t i = 0; i < row[BELLNEWT_NOTICE_ENTRY_AREAS]; i++)
+        printf(" %" PRIu32, areas[i]);
+    printf("\n  text      %.*s\n", (int)row[BELLNEWT_NOTICE_ENTRY_TEXT], (const char *)text);
+}
+
+/* The number that the bits of a latitude spell; of a longitude, with 21 for 20. */
+static uint32_t angle(int sign_bit, uint32_t negative, uint32_t degrees, uint32_t minutes, uint32_t hundredths)
+{
+    return negative << sign_bit | degrees << 13 | minutes << 7 | hundredths;
+}
+
+static void show_outline(const uint8_t *notice, size_t size)
+{
+    int32_t row[BELLNEWT_OUTLINE_ROW];
+    size_t points = 0;
+
+    printf("outline into one entry: %d\n", bellnewt_outline(notice, size, BELLNEWT_ENGLISH, row, 1, &points));
+    printf("outline: %d\n",
+           bellnewt_outline(notice, size, BELLNEWT_ENGLISH, row, BELLNEWT_OUTLINE_ROW, &points));
+    for (size_t i = 0; i < points; i++)
+        printf("  point     %" PRId32 " %" PRId32 "\n", row[2 * i], row[2 * i + 1]);
+}
+
+/* A sea area and a circle around a point south and west: written, its expiry corrected, its outline. */
+static void notice(uint8_t *message, size_t size)
+{
+    const uint32_t south = angle(20, 1, 0, 0, 1), west = angle(21, 1, 180, 60, 99);
+    const uint32_t areas[] = {BELLNEWT_NOTICE_AREA_SEA, 17, BELLNEWT_NOTICE_AREA_CIRCLE, south, west, 25, 2};
+    static const uint8_t text[] = {'K', 'E', 'E', 'P', ' ', 'C', 'L', 'E', 'A', 'R'};
+    const uint32_t august = 8 << 16 | 27 << 11 | 6 << 6 | 30, september = 9 << 16 | 1 << 11 | 12 << 6;
+
+    printf("notice\n");
+    printf("write: %d\n",
+           bellnewt_notice_write(message, size, areas, sizeof areas / sizeof areas[0], text, sizeof text,
+                                 BELLNEWT_ENGLISH, 11, 2, 123, 24, 4, 11, august, 2));
+    show_bytes("notice", message, size);
+    show_notice(message, size);
+    printf("correct the expiry to 1 September, 12:00: %d\n",
+           bellnewt_notice_correct(message, size, BELLNEWT_ENGLISH, BELLNEWT_NOTICE_EXPIRY, september));
+    printf("correct the expiry to month 13: %d\n",
+           bellnewt_notice_correct(message, size, BELLNEWT_ENGLISH, BELLNEWT_NOTICE_EXPIRY, 13 << 16 | 1 << 11));
+    printf("correct the circle's radius to 30: %d\n",
+           bellnewt_notice_correct(message, size, BELLNEWT_ENGLISH, BELLNEWT_NOTICE_FIRST_ENTRY + 5, 30));
+    printf("correct the second area's kind: %d\n",
+           bellnewt_notice_correct(message, size, BELLNEWT_ENGLISH, BELLNEWT_NOTICE_FIRST_ENTRY + 2, 0));
+    show_notice(message, size);
+    show_outline(message, size);
+}
+
+/* The packet that a notice fits in, and a second one that there is not. */
+static void packet(const uint8_t *content, size_t size)
+{
+    static const char *const names[] = {"language", "number", "total", "own"};
+    uint8_t buf[BELLNEWT_PACKET_GREATEST];
+    int64_t row[BELLNEWT_PACKET_ROW];
+
+    printf("packet\n");
+    printf("split: %d\n", bellnewt_split(buf, sizeof buf, content, size, BELLNEWT_ENGLISH, 7, 0));
+    printf("split off a second: %d\n", bellnewt_split(buf, sizeof buf, content, size, BELLNEWT_ENGLISH, 7, 1));
+    size_t len = BELLNEWT_PACKET_HEAD + size;
+    printf("correct the number to %d: %d\n", bellnewt_next_number(255),
+           bellnewt_packet_correct(buf, len, BELLNEWT_PACKET_NUMBER, bellnewt_next_number(255)));
+    printf("correct the own number to 1, of 1: %d\n",
+           bellnewt_packet_correct(buf, len, BELLNEWT_PACKET_OWN, 1));
+    uint8_t code = bellnewt_packet_read(buf, len, row, BELLNEWT_PACKET_ROW);
+    if (show(code, names, row, BELLNEWT_PACKET_ENTRY_START))
+        show_bytes("content", buf + row[BELLNEWT_PACKET_ENTRY_START], (size_t)row[BELLNEWT_PACKET_ENTRY_BYTES]);
+}
+
 int main(void)
 {
     distress();
@@ -225,5 +307,8 @@ int main(void)
     warning();
     area();
     slots();
+    uint8_t message[27]; /* as many as the notice takes */
+    notice(message, sizeof message);
+    packet(message, sizeof message);
     return 0;
 }

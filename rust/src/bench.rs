@@ -2,20 +2,26 @@
 
 pub mod ais;
 pub mod distress;
+pub mod notice;
+pub mod packet;
 pub mod serial;
 
 use crate::inputs::Random;
+use crate::record::notice::Notice;
 use crate::record::Refusal;
 use std::hint::black_box;
 
-/// How many distinct messages a row has.
+/// How many distinct messages a row has, unless they are long.
 pub const MESSAGES: usize = 20_000;
 
 /// Memory that the calls write to, the same for every message.
 pub struct Scratch {
-    pub bytes: [u8; 256],
+    pub bytes: [u8; Notice::GREATEST],
     pub row: [i64; 32],
     pub size: usize,
+    pub areas: [u32; Notice::ENTRIES],
+    pub text: [u8; Notice::TEXT],
+    pub outline: [i32; 2 * Notice::AREAS * Notice::POINTS],
 }
 
 /// A message, and a correction that it takes. The second round puts in what stands there already, which costs the same.
@@ -51,6 +57,7 @@ pub struct Rounds {
 /// A call, and what makes its messages and rounds.
 pub struct Row {
     pub name: &'static str,
+    pub messages: usize,
     pub rounds: Box<dyn FnOnce() -> Rounds>,
 }
 
@@ -61,22 +68,40 @@ pub fn row<T: Clone + 'static>(
     proved: impl Fn(&mut T, &mut Scratch) -> u8 + 'static,
     paper: impl Fn(&mut T, &mut Scratch) -> u8 + 'static,
 ) -> Row {
+    row_of(name, MESSAGES, message, proved, paper)
+}
+
+/// A row of so many messages: fewer where they are long, so that all of them stay near the processor.
+pub fn row_of<T: Clone + 'static>(
+    name: &'static str,
+    count: usize,
+    message: fn(&mut Random) -> T,
+    proved: impl Fn(&mut T, &mut Scratch) -> u8 + 'static,
+    paper: impl Fn(&mut T, &mut Scratch) -> u8 + 'static,
+) -> Row {
     let rounds = move || {
-        let messages = messages(name, message);
+        let messages = messages(name, count, message);
         Rounds { proved: round(messages.clone(), proved), paper: round(messages, paper) }
     };
-    Row { name, rounds: Box::new(rounds) }
+    Row { name, messages: count, rounds: Box::new(rounds) }
 }
 
 /// The messages of the row of that name.
-fn messages<T>(name: &str, message: fn(&mut Random) -> T) -> Vec<T> {
+fn messages<T>(name: &str, count: usize, message: fn(&mut Random) -> T) -> Vec<T> {
     let random = &mut Random::new(1, name, 0);
-    (0..MESSAGES).map(|_| message(random)).collect()
+    (0..count).map(|_| message(random)).collect()
 }
 
 /// A round is compiled for its call, so that nothing but the call stands between two messages.
 fn round<T: 'static>(mut messages: Vec<T>, call: impl Fn(&mut T, &mut Scratch) -> u8 + 'static) -> Box<dyn FnMut()> {
-    let mut scratch = Scratch { bytes: [0; 256], row: [0; 32], size: 0 };
+    let mut scratch = Box::new(Scratch {
+        bytes: [0; Notice::GREATEST],
+        row: [0; 32],
+        size: 0,
+        areas: [0; Notice::ENTRIES],
+        text: [0; Notice::TEXT],
+        outline: [0; 2 * Notice::AREAS * Notice::POINTS],
+    });
     Box::new(move || {
         for message in &mut messages {
             assert_eq!(call(black_box(message), &mut scratch), 0, "the messages are good");
@@ -87,5 +112,5 @@ fn round<T: 'static>(mut messages: Vec<T>, call: impl Fn(&mut T, &mut Scratch) -
 
 /// The rows of every family.
 pub fn rows() -> Vec<Row> {
-    distress::rows().into_iter().chain(serial::rows()).chain(ais::rows()).collect()
+    [distress::rows(), serial::rows(), ais::rows(), packet::rows(), notice::rows()].into_iter().flatten().collect()
 }

@@ -3,6 +3,8 @@
 
 pub mod ais;
 pub mod distress;
+pub mod notice;
+pub mod packet;
 pub mod serial;
 
 use crate::harness::{self, Options, Tally};
@@ -19,4 +21,6 @@ pub fn run(options: &Options, tally: &mut Tally) {
     harness::run::<distress::Distress>(options, tally);
     serial::run(options, tally);
     ais::run(options, tally);
+    harness::run::<packet::Packets>(options, tally);
+    harness::run::<notice::Notices>(options, tally);
 }

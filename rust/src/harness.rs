@@ -12,34 +12,42 @@ pub struct Guarded<T> {
     end: usize,
 }
 
-impl<T> Guarded<T> {
+/// What lent memory is made of.
+pub trait Cell {
+    fn any(random: &mut Random) -> Self;
+}
+
+macro_rules! cells {
+    ($($number:ty)*) => {
+        $(impl Cell for $number {
+            fn any(random: &mut Random) -> $number {
+                random.word() as $number
+            }
+        })*
+    };
+}
+
+cells!(u8 u32 i32 i64 usize);
+
+impl<T: Cell> Guarded<T> {
     /// Guards a part. The front guard's length varies, so that the part starts at every alignment.
-    pub fn new(random: &mut Random, part: Vec<T>, cell: fn(&mut Random) -> T) -> Guarded<T> {
+    pub fn new(random: &mut Random, part: Vec<T>) -> Guarded<T> {
         let start = 16 + random.below(8);
         let end = start + part.len();
-        let mut cells: Vec<T> = (0..start).map(|_| cell(random)).collect();
+        let mut cells: Vec<T> = (0..start).map(|_| T::any(random)).collect();
         cells.extend(part);
-        cells.extend((0..24).map(|_| cell(random)));
+        cells.extend((0..24).map(|_| T::any(random)));
         Guarded { cells, start, end }
+    }
+
+    /// A part of so many cells, which hold any numbers.
+    pub fn any(random: &mut Random, count: usize) -> Guarded<T> {
+        let part = (0..count).map(|_| T::any(random)).collect();
+        Guarded::new(random, part)
     }
 
     pub fn part(&mut self) -> &mut [T] {
         &mut self.cells[self.start..self.end]
-    }
-}
-
-impl Guarded<u8> {
-    pub fn bytes(random: &mut Random, bytes: Vec<u8>) -> Guarded<u8> {
-        Guarded::new(random, bytes, Random::byte)
-    }
-}
-
-impl Guarded<i64> {
-    /// A row of so many entries, which hold any numbers.
-    pub fn row(random: &mut Random, entries: usize) -> Guarded<i64> {
-        let entry = |random: &mut Random| random.word() as i64;
-        let row = (0..entries).map(|_| entry(random)).collect();
-        Guarded::new(random, row, entry)
     }
 }
 

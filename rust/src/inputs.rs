@@ -4,6 +4,8 @@ pub mod ais;
 pub mod daylog;
 pub mod distress;
 mod field;
+pub mod notice;
+pub mod packet;
 pub mod serial;
 
 /// SplitMix64: one word of state, every seed good.
@@ -82,6 +84,15 @@ pub fn damage(random: &mut Random, message: &mut Vec<u8>) {
             let size = random.below(2 * LONGEST_TAIL);
             *message = random.bytes(size);
         }
+    }
+}
+
+/// A language: mostly the one that is meant, else the other, or a number that is none.
+fn language(random: &mut Random, meant: u8) -> u8 {
+    match random.below(24) {
+        0 => meant ^ 1,
+        1 => random.pick(&[2, 3, 0x80 | meant, 0xFF]),
+        _ => meant,
     }
 }
 

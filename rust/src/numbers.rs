@@ -2,6 +2,8 @@
 
 pub mod ais;
 pub mod distress;
+pub mod notice;
+pub mod packet;
 pub mod serial;
 
 use crate::harness::Tally;
@@ -10,4 +12,6 @@ pub fn run(tally: &mut Tally) {
     serial::run(tally);
     distress::run(tally);
     ais::run(tally);
+    packet::run(tally);
+    notice::run(tally);
 }

@@ -4,6 +4,8 @@
 pub mod ais;
 pub mod daylog;
 pub mod distress;
+pub mod notice;
+pub mod packet;
 pub mod serial;
 
 use crate::record::Refusal;
@@ -16,6 +18,11 @@ fn need(holds: bool, refusal: Refusal) -> Result<(), Refusal> {
     } else {
         Err(refusal)
     }
+}
+
+/// The `width` bits of a number that have `below` bits below them.
+fn field(number: u64, below: u32, width: u32) -> u64 {
+    number >> below & ((1 << width) - 1)
 }
 
 /// A corrected field's new value, if its bits can spell it.

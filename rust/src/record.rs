@@ -2,10 +2,14 @@
 
 mod ais;
 mod distress;
+/// By its own name, since its areas are others than those of AIS.
+pub mod notice;
+mod packet;
 mod serial;
 
 pub use ais::{Ais, Area, Body, Shape, ShortTime, Time, Warning};
 pub use distress::Report;
+pub use packet::{Packet, CHINESE, ENGLISH};
 pub use serial::{Frame, Gljc, Txhz, Txsq, Txxx};
 
 /// A refusal by its number in 01, "Refusal numbers".

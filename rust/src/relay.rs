@@ -5,6 +5,8 @@
 
 pub mod ais;
 pub mod distress;
+pub mod notice;
+pub mod packet;
 pub mod serial;
 
 use crate::record::Refusal;

@@ -1,8 +1,10 @@
 //! The sample day log, samples/day.log. `cargo run --release --offline --bin sample` writes it and its listing.
 
-use crate::inputs::daylog::{record, AIS, DISTRESS, SERIAL};
+use crate::inputs::daylog::{record, AIS, DISTRESS, PACKET, SERIAL};
 use crate::numbers::ais::{with_bytes, AREAS, WARNINGS};
 use crate::numbers::distress::{example_with_longitude, EXAMPLE};
+use crate::numbers::notice::{BARE, CHINESE_NOTICE, WARNING};
+use crate::numbers::packet::{packet, HEAD, LAST_HEAD};
 use crate::numbers::serial::{CHECK, CHECK_AS_PRINTED, REQUEST};
 use crate::paper::serial::Kind;
 use crate::paper::{distress, serial};
@@ -131,15 +133,37 @@ fn messages() -> [Vec<u8>; 16] {
     ]
 }
 
-/// Serial frames, distress reports, AIS messages, records of other kinds, and a cut record at the end.
+/// Packets of every answer: three that hold a whole notice each, the last of 63, and refused ones.
+fn packets() -> [Vec<u8>; 12] {
+    let english = [0xE1, 0x30, 0x80, 0x40];
+    let bare = packet(HEAD, &BARE);
+    let long = packet(LAST_HEAD, &[0x20; 207]);
+    let other_type = with_bytes(&bare, &[(0, 0xE2)]);
+    let version_2 = with_bytes(&bare, &[(1, 0x40)]);
+    let total_0 = with_bytes(&bare, &[(3, 0x00)]);
+    let past_the_total = with_bytes(&bare, &[(3, 0x41)]);
+    [
+        bare,
+        packet(HEAD, &CHINESE_NOTICE),
+        packet(english, &WARNING),
+        packet(LAST_HEAD, &[0x20; 206]),
+        packet(HEAD, &[0x20]),
+        packet(HEAD, &[]),
+        other_type,
+        version_2,
+        long,
+        total_0,
+        past_the_total,
+        Vec::new(),
+    ]
+}
+
+/// Serial frames, packets, distress reports, AIS messages, records of other kinds, and a cut record at the end.
 pub fn day_log() -> Vec<u8> {
-    let others = [
-        record(2, &[0xE1, 0x20, 0x70, 0x40, 0x20]),
-        record(0x0103, &EXAMPLE),
-        record(DISTRESS, &EXAMPLE)[..10].to_vec(),
-    ];
+    let others = [record(5, &packet(HEAD, &BARE)), record(0x0103, &EXAMPLE), record(DISTRESS, &EXAMPLE)[..10].to_vec()];
     let frames = frames().map(|body| record(SERIAL, &body));
+    let packets = packets().map(|body| record(PACKET, &body));
     let reports = reports().map(|body| record(DISTRESS, &body));
     let messages = messages().map(|body| record(AIS, &body));
-    [frames.concat(), reports.concat(), messages.concat(), others.concat()].concat()
+    [frames.concat(), packets.concat(), reports.concat(), messages.concat(), others.concat()].concat()
 }

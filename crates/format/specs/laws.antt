@@ -5,6 +5,7 @@ pub mod Whole
 pub mod Zero
 pub mod Tells
 pub mod Held
+pub mod Past
 pub mod Extent
 pub mod First
 pub mod Places

@@ -25,7 +25,11 @@ mostPackets = 63
 abbrev pub partBytes : ℕ
 partBytes = 206
 
--- and so in a whole notice
+-- the greatest size of a packet: 4 bytes before its content
+abbrev pub greatest : ℕ
+greatest = 4 + partBytes
+
+-- the most bytes of content in a whole notice
 abbrev pub joined : ℕ
 joined = mostPackets * partBytes
 
@@ -48,10 +52,10 @@ packet =
 -- the smallest size, 5 (1); 0xE1 and the version (2); the greatest size (1)
 unfoldable pub packets : Layout
 packets = record {
-  lead = led 5 (λ s. eqb (fieldAt s 0 8) 0xE1 && eqb (fieldAt s 8 3) version) (λ s. between 5 (4 + partBytes) (length s));
+  lead = led 5 (λ s. eqb (fieldAt s 0 8) 0xE1 && eqb (fieldAt s 8 3) version) (λ s. between 5 greatest (length s));
   kind = λ vs. 0;
   least = 5;
-  most = 4 + partBytes;
+  most = greatest;
   seal = false;
   fmt = packet;
 }

@@ -8,7 +8,7 @@ ghost use lib.ListN.{length};
 ghost use Rattle.bits.specs.Bits.{bitsOf};
 ghost use Rattle.format.specs.Fmt.{also, check, read as Fmt·read};
 ghost use Rattle.format.specs.Message.{fault};
-ghost use Rattle.packet_reading.specs.Packet.{packet, packets, recordOf, answerOf, numberOf};
+ghost use Rattle.packet_reading.specs.Packet.{greatest, packet, packets, recordOf, answerOf, numberOf};
 ghost use Rattle.packet_reading.specs.Promises.{Reads, Shows};
 ghost use Rattle.packet_reading.specs.declared.Answer.the-variants.{Good, Refused};
 
@@ -122,7 +122,7 @@ pub fn lead(s: &[u8]) -> u8
 
 // The fields in bit order, after the first tests' answer. Once the size is known here, no field has to be tested for it.
 pub fn fields(s: &[u8], lead: u8) -> Answer
-    requires { ⌜ (lead ≡ 0 → (5 ≤ length (now s)) × (length (now s) ≤ 210)) ⌝ }
+    requires { ⌜ (lead ≡ 0 → (5 ≤ length (now s)) × (length (now s) ≤ greatest)) ⌝ }
     ensures { λ r. ⌜ r ≡ answerOf (also recordOf (check (fault lead) 0 (Fmt·read packet [] 0 (bitsOf (now (s .entry)))))) ⌝ }
 {
     if s.len() < Packet::LEAST {

@@ -2,6 +2,7 @@
 ghost use mathlib.Core.Path.{_≡_};
 ghost use Prim.Native.Nat.{_≤_};
 ghost use Rattle.rows.specs.Row.{Fills};
+ghost use Rattle.packet_reading.specs.Packet.{partBytes};
 ghost use Rattle.packet_rows.specs.Packet.{rowOf, numbersOf};
 ghost use Rattle.packet_rows.specs.Split.{SplitsIn};
 use packet_reading::Answer;
@@ -35,7 +36,7 @@ pub fn split(buf: &mut [u8], content: &[u8], language: u8, number: u8, packet: u
 }
 
 fn numbers(r: Packet, bytes: usize) -> [i64; 6]
-    requires { ⌜ bytes ≤ 206 ⌝ }
+    requires { ⌜ bytes ≤ partBytes ⌝ }
     ensures { λ xs. ⌜ xs ≡ rowOf r bytes ⌝ }
 {
     [

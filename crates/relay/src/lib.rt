@@ -1,6 +1,7 @@
 // What C and Rust link: the calls over numbers and lent slices. Each one hands on what the family's own call promises.
 pub mod frames;
 pub mod messages;
+pub mod outlines;
 pub mod packets;
 pub mod report;
 pub mod sentences;

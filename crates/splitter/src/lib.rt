@@ -3,6 +3,7 @@ ghost use mathlib.Core.Bool.{cond};
 ghost use mathlib.Core.Path.{_≡_};
 ghost use Prim.Native.Nat.{_*_, _≤_, _<_};
 ghost use lib.ListN.{length};
+ghost use Rattle.packet_reading.specs.Packet.{mostPackets, partBytes};
 ghost use Rattle.splitter.specs.Splitter.{partOf, nextNumber};
 ghost use Rattle.splitter.specs.Promises.{Splits};
 use packet::JOINED;
@@ -45,7 +46,7 @@ pub fn next_number(number: u8) -> u8
 
 // The bytes of that packet: as many as a packet holds, or the rest.
 fn part(content: &[u8], packet: usize) -> &[u8]
-    requires { ⌜ (packet < 63) × (packet * 206 ≤ length (now content)) ⌝ }
+    requires { ⌜ (packet < mostPackets) × (packet * partBytes ≤ length (now content)) ⌝ }
     ensures { λ r. ⌜ now r ≡ partOf (now (content .entry)) packet ⌝ }
 {
     let rest = &content[packet * PART..];

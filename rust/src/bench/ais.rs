@@ -1,6 +1,6 @@
 //! The AIS messages and their slots.
 
-use super::{messages, row, Correction, Row, Scratch};
+use super::{messages, row, Correction, Row, Scratch, MESSAGES};
 use crate::family::ais::{Calls, Kind, SlotCall};
 use crate::family::{Paper, Proved};
 use crate::inputs::{ais as inputs, Random};
@@ -22,11 +22,11 @@ pub fn rows() -> Vec<Row> {
 
 /// The messages of the two rows that read.
 pub fn warnings() -> Vec<Vec<u8>> {
-    messages(WARNING_READ, message::<Warning>)
+    messages(WARNING_READ, MESSAGES, message::<Warning>)
 }
 
 pub fn areas() -> Vec<Vec<u8>> {
-    messages(AREA_READ, message::<Area>)
+    messages(AREA_READ, MESSAGES, message::<Area>)
 }
 
 fn of_message<M: Kind + 'static>([read_name, write_name, correct_name]: [&'static str; 3]) -> [Row; 3] {

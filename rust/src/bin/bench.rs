@@ -39,14 +39,16 @@ fn table() {
     println!();
     let mut proved = HashMap::new();
     for row in rows() {
-        let pair = times((row.rounds)());
+        let pair = times((row.rounds)(), row.messages);
         print!("{:<20}", row.name);
         print_pair(Some(pair));
-        print_pair(instructions(row.name));
+        print_pair(instructions(row.name, row.messages));
         println!();
         proved.insert(row.name, pair[0]);
     }
-    println!("{MESSAGES} good messages a row; ns: best of {TIMED_ROUNDS} rounds, the two programs in turn.");
+    println!(
+        "{MESSAGES} good messages a row, fewer long ones; ns: best of {TIMED_ROUNDS} rounds, the two programs in turn."
+    );
     println!("instructions: by valgrind; '-' where it is missing.");
     println!("The library's calls can't be inlined, so the independent program's are not either (inline(never)).");
     if cfg!(not(target_arch = "x86_64")) {
@@ -96,27 +98,27 @@ fn print_pair(pair: Option<[f64; 2]>) {
 }
 
 /// Nanoseconds a message, proved and paper.
-fn times(mut rounds: Rounds) -> [f64; 2] {
+fn times(mut rounds: Rounds, messages: usize) -> [f64; 2] {
     let mut best = [f64::INFINITY; 2];
     for _ in 0..TIMED_ROUNDS {
         for (best, round) in best.iter_mut().zip([&mut rounds.proved, &mut rounds.paper]) {
             let start = Instant::now();
             round();
-            *best = best.min(start.elapsed().as_nanos() as f64 / MESSAGES as f64);
+            *best = best.min(start.elapsed().as_nanos() as f64 / messages as f64);
         }
     }
     best
 }
 
 /// Instructions a message, proved and paper, where valgrind is there to count them.
-fn instructions(row: &str) -> Option<[f64; 2]> {
-    Some([instructions_of(row, "proved")?, instructions_of(row, "paper")?])
+fn instructions(row: &str, messages: usize) -> Option<[f64; 2]> {
+    Some([instructions_of(row, "proved", messages)?, instructions_of(row, "paper", messages)?])
 }
 
-fn instructions_of(row: &str, side: &str) -> Option<f64> {
+fn instructions_of(row: &str, side: &str, messages: usize) -> Option<f64> {
     let [few, many] = COUNTED_ROUNDS;
     let extra = collected(row, side, many)? - collected(row, side, few)?;
-    Some(extra / ((many - few) * MESSAGES) as f64)
+    Some(extra / ((many - few) * messages) as f64)
 }
 
 /// All instructions of a run, as cachegrind says in a line `I refs: 1,234`.

@@ -140,7 +140,7 @@ impl<M: Kind> Family for Message<M> {
             let (field, value) = inputs::correction::<M>(random, variant);
             (Input::Correct { field, value }, inputs::message_to_correct::<M>(random, variant), 0)
         };
-        (input, Lent { bytes: Guarded::bytes(random, bytes), row: Guarded::row(random, row) })
+        (input, Lent { bytes: Guarded::new(random, bytes), row: Guarded::any(random, row) })
     }
 
     fn proved(input: &Input<M>, lent: &mut Lent) -> u8 {
@@ -162,8 +162,7 @@ impl Family for Slots {
     type Lent = Guarded<u8>;
 
     fn input(_: usize, random: &mut Random) -> ((u8, usize), Guarded<u8>) {
-        let slots = vec![random.byte()];
-        (inputs::slots(random), Guarded::bytes(random, slots))
+        (inputs::slots(random), Guarded::any(random, 1))
     }
 
     fn proved(&(message, bytes): &(u8, usize), slots: &mut Guarded<u8>) -> u8 {

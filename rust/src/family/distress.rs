@@ -83,12 +83,7 @@ pub struct Lent {
 
 impl Lent {
     fn new(random: &mut Random, bytes: Vec<u8>, row: usize) -> Lent {
-        let size = vec![random.word() as usize];
-        Lent {
-            bytes: Guarded::bytes(random, bytes),
-            row: Guarded::row(random, row),
-            size: Guarded::new(random, size, |random| random.word() as usize),
-        }
+        Lent { bytes: Guarded::new(random, bytes), row: Guarded::any(random, row), size: Guarded::any(random, 1) }
     }
 }
 

@@ -114,11 +114,8 @@ impl<F: Kind> Family for Serial<F> {
                 (Input::Correct { field, value }, inputs::frame_to_correct::<F>(random), Vec::new(), 0)
             }
         };
-        let lent = Lent {
-            bytes: Guarded::bytes(random, bytes),
-            run: Guarded::bytes(random, run),
-            row: Guarded::row(random, row),
-        };
+        let lent =
+            Lent { bytes: Guarded::new(random, bytes), run: Guarded::new(random, run), row: Guarded::any(random, row) };
         (input, lent)
     }
 

@@ -1,8 +1,9 @@
 //! Day logs, good and damaged.
 
-use super::{ais, distress, serial, Random};
+use super::{ais, distress, packet, serial, Random};
 
 pub const SERIAL: u16 = 1;
+pub const PACKET: u16 = 2;
 pub const DISTRESS: u16 = 3;
 pub const AIS: u16 = 4;
 
@@ -17,9 +18,10 @@ pub fn record(kind: u16, body: &[u8]) -> Vec<u8> {
 
 /// A record whose length is good: a body of its kind, or any bytes.
 fn good_record(random: &mut Random) -> Vec<u8> {
-    let (own, body) = match random.below(3) {
+    let (own, body) = match random.below(4) {
         0 => (SERIAL, serial::any_frame(random)),
-        1 => (DISTRESS, distress::message(random)),
+        1 => (PACKET, packet::packet(random)),
+        2 => (DISTRESS, distress::message(random)),
         _ => (AIS, ais::any_message(random)),
     };
     let kind = match random.below(8) {
@@ -63,7 +65,7 @@ pub fn log(random: &mut Random) -> Vec<u8> {
             let left = 1 + random.below(3);
             log.extend(random.bytes(left));
         }
-        3 => log.extend(record(random.pick(&[SERIAL, DISTRESS, AIS]), &[0; GREATEST - HEAD])),
+        3 => log.extend(record(random.pick(&[SERIAL, PACKET, DISTRESS, AIS]), &[0; GREATEST - HEAD])),
         _ => (),
     }
     log

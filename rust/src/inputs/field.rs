@@ -76,6 +76,53 @@ impl AsRef<Field> for Field {
     }
 }
 
+/// A number whose bits are those of one field or of several, one behind another. None of them has a sign.
+pub struct Parts(pub &'static [Field]);
+
+impl Parts {
+    pub fn width(&self) -> u32 {
+        self.0.iter().map(|field| field.width).sum()
+    }
+
+    fn join(&self, mut number: impl FnMut(usize, &Field) -> i64) -> i64 {
+        let parts = self.0.iter().enumerate();
+        parts.fold(0, |joined, (at, field)| joined << field.width | field.spelled(number(at, field)) as i64)
+    }
+
+    /// A number that is good in every part.
+    pub fn good(&self, random: &mut Random) -> i64 {
+        self.join(|_, field| field.good(random))
+    }
+
+    /// A number that is good but for one part, which is at or just past a bound.
+    pub fn edge(&self, random: &mut Random) -> i64 {
+        if let [field] = self.0 {
+            return field.edge(random);
+        }
+        if random.one_in(8) {
+            return (1 << self.width()) + random.between(-1, 1);
+        }
+        let edge = random.below(self.0.len());
+        self.join(|at, field| if at == edge { field.edge(random) } else { field.good(random) })
+    }
+
+    /// The number's width, and the bits that spell it.
+    pub fn piece(&self, number: i64) -> (u32, u64) {
+        (self.width(), number as u64 & ((1 << self.width()) - 1))
+    }
+
+    /// The new number in a correction: good, at an edge, too wide, or too wide by a bit above good ones.
+    pub fn new_value(&self, random: &mut Random) -> u64 {
+        match random.below(16) {
+            0 => random.word(),
+            1 => u64::MAX - random.word() % 3,
+            2 => self.good(random) as u64 | 1 << random.below(64),
+            3..=9 => self.edge(random) as u64,
+            _ => self.good(random) as u64,
+        }
+    }
+}
+
 /// Puts none, one or a few of the fields' numbers at an edge.
 pub fn put_at_edges(random: &mut Random, fields: &[impl AsRef<Field>], numbers: &mut [i64]) {
     for _ in 0..random.pick(&[0, 0, 0, 1, 1, 3]) {

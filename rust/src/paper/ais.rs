@@ -3,7 +3,7 @@
 mod area;
 mod warning;
 
-use super::{narrow, need, signed, within};
+use super::{field, narrow, need, signed, within};
 use crate::record::{Ais, Area, Refusal, ShortTime, Time, Warning};
 
 /// What a message has of its own. Both have three fills. The fields up to a fill are all refused by 4, so that their
@@ -86,11 +86,6 @@ fn bytes_at<const N: usize>(message: &[u8], at: usize) -> [u8; N] {
     let mut bytes = [0; N];
     bytes.copy_from_slice(&message[at..at + N]);
     bytes
-}
-
-/// The `width` bits of a number that have `below` bits below them.
-fn field(number: u64, below: u32, width: u32) -> u64 {
-    number >> below & ((1 << width) - 1)
 }
 
 impl Time {

@@ -1,6 +1,6 @@
 //! The day log's listing (01, "Day log listing").
 
-use super::{ais, distress, serial};
+use super::{ais, distress, packet, serial};
 use crate::record::{code, Refusal};
 use std::fmt::Write;
 
@@ -14,6 +14,7 @@ pub struct Kind {
 /// The kinds that are handled. Every other prints `unknown` and 2.
 pub const KINDS: &[Kind] = &[
     Kind { number: 1, word: "serial", judge: serial::read_any },
+    Kind { number: 2, word: "packet", judge: |body| packet::read(body).map(drop) },
     Kind { number: 3, word: "distress", judge: |body| distress::read(body).map(drop) },
     Kind { number: 4, word: "ais", judge: ais::read_any },
 ];

@@ -12,16 +12,18 @@ use borrow.Author.Tests.{le-leb, lt-leb, leb-true, eqb-true, eqb-false}
 use Rattle.bits.specs.Bits.{Bytes, valueOf, bitsOf, bytesOf}
 use Rattle.bits.specs.laws.Bytes.{length-bits, bytes-bits}
 use Rattle.bits.specs.laws.Digits.{digits-value}
-use Rattle.format.specs.Fmt.{accepted, refused, check, also}
+use Rattle.format.specs.Fmt.{accepted, refused, check, also, spot}
 use Rattle.format.specs.Message.{fault, codeOf, readMessage}
 use Rattle.format.specs.Promises.{readRecord}
 use Rattle.bits.specs.Bits.{bytesAt}
 use Rattle.bits.specs.Answers.{gettable}
 use Rattle.bits.specs.laws.Runs.{length-run, bytes-run}
+use Rattle.format.specs.Correcting.{standing}
+use Rattle.format.specs.laws.Round.{accepted-inj}
 use Rattle.format.specs.laws.Lead.{read-first, held-back}
 use Rattle.layout.specs.laws.Step.{clear, stuck}
 use Rattle.notice_areas.specs.Standing.{areasAt}
-use Rattle.notice_reading.specs.Notice.{notices, sizes}
+use Rattle.notice_reading.specs.Notice.{notice, notices, sizes}
 use Rattle.notice_reading.specs.Steps.{fieldsRead, FieldsAre}
 use Rattle.notice_reading.specs.declared.Course.{Course}
 use Rattle.notice_reading.specs.Promises.{ahead, toldOf, Reads}
@@ -111,3 +113,11 @@ walked-code english i s f x = go (eqb (f .walk .code) 0) refl
     go : (t : Bool) → eqb (f .walk .code) 0 ≡ t → f .walk .code ≡ codeOf (fieldsRead english s)
     go true t = let z = eqb-true (f .walk .code) 0 t in z ∙ sym (ap codeOf (x .walked .so ∙ clear (f .walk) _ z))
     go false t = sym (ap codeOf (x .walked .so ∙ stuck (f .walk) _ (eqb-false (f .walk .code) 0 t)))
+
+-- where the field i of a notice that was read stands, by the walk that sought it
+pub stands : (english : Bool) (i : ℕ) (s : List ℕ) (f : Course) → readMessage (notices english) s ≡ fieldsRead english s → FieldsAre english i s f → (vs : List ℕ) → readMessage (notices english) s ≡ accepted vs
+    → spot (notice english) [] vs i ≡ standing (f .walk .spot) (f .walk .width)
+stands english i s f e x vs a =
+    let c : f .walk .code ≡ 0 = walked-code english i s f x ∙ ap codeOf (sym e ∙ a) in
+    let same = accepted-inj (sym (x .walked .so ∙ clear (f .walk) _ c) ∙ sym e ∙ a) in
+    ap (λ vs. spot (notice english) [] vs i) (sym same) ∙ x .walked .spots c

@@ -6,7 +6,7 @@ use lib.ListN.{length}
 use borrow.Author.Tests.{le-leb, lt-leb, eq-eqb, ne-eqb}
 use Rattle.bits.specs.laws.Answers.{got-fits}
 use Rattle.bits.specs.Bits.{fieldAt}
-use Rattle.packet_reading.specs.Packet.{version, packets}
+use Rattle.packet_reading.specs.Packet.{version, greatest, packets}
 use borrow.Author.Needs.{needs}
 use Rattle.packet_reading.proofs.lead.Statement.{statement}
 use Rattle.packet_reading.proofs.lead.Tie as tie
@@ -47,7 +47,7 @@ returns-4 c =
     let s = g .before .before .before .args .s .now in
     let e : g .get .result ≡ fieldAt s 0 8 = g .get .ensures ∙ got-fits s 0 8 (lit≤ tt) (omega arith) in
     let d : g2 .get2 .result ≡ fieldAt s 8 3 = g2 .get2 .ensures ∙ got-fits s 8 3 (lit≤ tt) (omega arith) in
-    rw (le-leb 5 (length s) (omega arith), eq-eqb (fieldAt s 0 8) 0xE1 (sym e ∙ g2 .before .if2 .left), eq-eqb (fieldAt s 8 3) version (sym d ∙ c .before .if3 .left), lt-leb (length s) 210 (omega arith)) refl
+    rw (le-leb 5 (length s) (omega arith), eq-eqb (fieldAt s 0 8) 0xE1 (sym e ∙ g2 .before .if2 .left), eq-eqb (fieldAt s 8 3) version (sym d ∙ c .before .if3 .left), lt-leb (length s) greatest (omega arith)) refl
 
 returns-5 : tie.Need-returns-5
 unfolding packets
@@ -57,7 +57,7 @@ returns-5 c =
     let s = g .before .before .before .args .s .now in
     let e : g .get .result ≡ fieldAt s 0 8 = g .get .ensures ∙ got-fits s 0 8 (lit≤ tt) (omega arith) in
     let d : g2 .get2 .result ≡ fieldAt s 8 3 = g2 .get2 .ensures ∙ got-fits s 8 3 (lit≤ tt) (omega arith) in
-    rw (le-leb 5 (length s) (omega arith), eq-eqb (fieldAt s 0 8) 0xE1 (sym e ∙ g2 .before .if2 .left), eq-eqb (fieldAt s 8 3) version (sym d ∙ c .before .if3 .left), le-leb (length s) 210 (omega arith)) refl
+    rw (le-leb 5 (length s) (omega arith), eq-eqb (fieldAt s 0 8) 0xE1 (sym e ∙ g2 .before .if2 .left), eq-eqb (fieldAt s 8 3) version (sym d ∙ c .before .if3 .left), le-leb (length s) greatest (omega arith)) refl
 
 pub lead-spec : {M : Type 1} → statement M
 lead-spec =

@@ -1,4 +1,4 @@
--- A record whose fields are good, with content of 1 to 206 bytes, is a packet: it is written, and read back. Assumes nothing.
+-- A record whose fields are good, with as much content as a packet holds, is a packet: it is written, and read back. Assumes nothing.
 use mathlib.Core.Path.{_≡_, refl, ap, _∙_}
 use mathlib.Core.Bool.{true, _&&_}
 use mathlib.Core.List.{List, []}
@@ -18,7 +18,7 @@ use Rattle.format.specs.laws.Extent.{extent-laid}
 use Rattle.format.specs.laws.Family.{written-record}
 use Rattle.format.specs.laws.Held.{Held, passes}
 use Rattle.format.specs.laws.Written.{held-message}
-use Rattle.packet_reading.specs.Packet.{version, mostPackets, partBytes, packet, packets, valuesOf, recordOf}
+use Rattle.packet_reading.specs.Packet.{version, mostPackets, partBytes, greatest, packet, packets, valuesOf, recordOf}
 use Rattle.packet_reading.specs.laws.Demands.{counted, family}
 use Rattle.packet_reading.specs.declared.Packet.{Packet}
 
@@ -75,7 +75,7 @@ fit-written r c x =
     let n : length b / 8 ≡ 4 + length c = ap (_/ 8) (extent-laid packet [] 0 (valuesOf (r, c)) b e) ∙ omega arith in
     let m = bytesOf (length b / 8) b in
     let long : length m ≡ 4 + length c = length-bytes (length b / 8) b ∙ n in
-    (m, is ∙ rw (long, le-leb 5 (4 + length c) (omega (arith, x .some)), le-leb (4 + length c) (4 + partBytes) (omega (arith, x .few))) refl, long)
+    (m, is ∙ rw (long, le-leb 5 (4 + length c) (omega (arith, x .some)), le-leb (4 + length c) greatest (omega (arith, x .few))) refl, long)
 
 -- and read back.
 pub fit-read : (r : Packet) (c : List ℕ) → Bytes c → Fit r c → (m : List ℕ) × (writeMessage packets (valuesOf (r, c)) ≡ accepted m) × (readRecord packets recordOf m ≡ accepted (r, c))

@@ -2,7 +2,7 @@
 use mathlib.Core.Path.{_≡_, refl, sym, _∙_, subst}
 use mathlib.Core.Bool.{Bool, true, false, cond, _&&_, false≢true}
 use mathlib.Core.List.{List, []}
-use Prim.Native.Nat.{ℕ, _+_, _≤_}
+use Prim.Native.Nat.{ℕ, _≤_}
 use lib.Dec.{leb, eqb}
 use lib.ListN.{length, getD}
 use borrow.Author.Tests.{eq-eqb}
@@ -16,7 +16,7 @@ use Rattle.format.specs.laws.Held.{Held, held, exactly}
 use Rattle.format.specs.laws.Lead.{unled}
 use Rattle.format.specs.laws.Places.{value-at}
 use Rattle.format.specs.laws.Round.{read-write}
-use Rattle.packet_reading.specs.Packet.{version, partBytes, packet, packets}
+use Rattle.packet_reading.specs.Packet.{version, greatest, packet, packets}
 
 -- accepted values, entry by entry
 pub listed : (vs : List ℕ) → Held packet [] vs → entries 0 8 vs ≡ vs
@@ -39,7 +39,7 @@ named s vs e =
 pub sound : Sound packets
 unfolding packets
 sound = record {
-  sized = λ s vs e. let (kind, edition) = named s vs e in rw (eq-eqb (fieldAt s 0 8) 0xE1 kind, eq-eqb (fieldAt s 8 3) version edition) (go (leb 5 (length s)) (leb (length s) (4 + partBytes)));
+  sized = λ s vs e. let (kind, edition) = named s vs e in rw (eq-eqb (fieldAt s 0 8) 0xE1 kind, eq-eqb (fieldAt s 8 3) version edition) (go (leb 5 (length s)) (leb (length s) greatest));
   kinds = λ b vs e. refl;
   stays = λ vs i v p w e. refl;
   some = λ e. absurd (false≢true e);
@@ -49,12 +49,12 @@ sound = record {
     go true y = refl
     go false y = refl
 
--- what its first tests pass has 5 to 210 bytes
-pub sized : (s : List ℕ) → packets .lead s ≡ 0 → (5 ≤ length s) × (length s ≤ 210)
+-- what its first tests pass has a packet's size
+pub sized : (s : List ℕ) → packets .lead s ≡ 0 → (5 ≤ length s) × (length s ≤ greatest)
 unfolding packets
-sized s e = led-between 5 5 (4 + partBytes) (λ s. eqb (fieldAt s 0 8) 0xE1 && eqb (fieldAt s 8 3) version) s e
+sized s e = led-between 5 5 greatest (λ s. eqb (fieldAt s 0 8) 0xE1 && eqb (fieldAt s 8 3) version) s e
 
 -- and so has a packet that is read
-pub read-sized : (s : List ℕ) → codeOf (readMessage packets s) ≡ 0 → (5 ≤ length s) × (length s ≤ 210)
+pub read-sized : (s : List ℕ) → codeOf (readMessage packets s) ≡ 0 → (5 ≤ length s) × (length s ≤ greatest)
 unfolding readMessage
 read-sized s e = sized s (unled (packets .lead s) _ e)

@@ -11,7 +11,7 @@ use Rattle.format.specs.Fmt.{Out, accepted, refused, also}
 use Rattle.format.specs.Message.{readMessage}
 use Rattle.format.specs.Promises.{readRecord}
 use Rattle.format.specs.laws.Answers.{numbered}
-use Rattle.packet_reading.specs.Packet.{packets, recordOf, answerOf, numberOf}
+use Rattle.packet_reading.specs.Packet.{greatest, packets, recordOf, answerOf, numberOf}
 use Rattle.packet_reading.specs.Promises.{Reads}
 use Rattle.packet_reading.specs.laws.Demands.{good}
 use Rattle.packet_reading.specs.laws.Shown.{shown}
@@ -23,8 +23,8 @@ use Rattle.rows.specs.laws.Row.{row-refused}
 use Rattle.packet_rows.specs.Packet.{rowOf, numbersOf}
 
 module _ (s : List ℕ) (r : Packet) (reads : Reads s (Good r)) where
-  -- a good packet has 5 to 210 bytes
-  pub good-size : (5 ≤ length s) × (length s ≤ 210)
+  -- a good packet has a packet's size
+  pub good-size : (5 ≤ length s) × (length s ≤ greatest)
   good-size = read-sized s (sym (ap numberOf reads ∙ numbered (λ r. Good (r .0)) Refused recordOf numberOf (λ r. refl) (λ c. refl) (readMessage packets s)))
 
   pub good-numbers : Bytes s → numbersOf s ≡ accepted (rowOf r (length s - 4))

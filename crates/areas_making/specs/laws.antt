@@ -1,0 +1,3 @@
+-- What is proved of them.
+pub mod Judging
+pub mod Putting

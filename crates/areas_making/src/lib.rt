@@ -1,0 +1,160 @@
+// Writing a notice's areas from a row of numbers (paper 01, "Notice and packet"): judged in bit order, then put.
+ghost use mathlib.Core.Path.{_≡_};
+ghost use Prim.Native.Nat.{_+_, _*_, _≤_};
+ghost use lib.ListN.{getD};
+ghost use Rattle.areas_making.specs.Making.{PointsJudged, AreaJudged, AreasJudged, PointsPut, AreaPut, AreasPut};
+ghost use Rattle.notice_areas.specs.Row.{Few, Fews};
+use layout::walk::Walk;
+use notice_areas::CIRCLE;
+use notice_areas::SEA;
+
+// The walk behind an area or behind all of them, and which number of the row comes next.
+pub struct Stepped {
+    pub walk: Walk,
+    pub next: usize,
+}
+
+// The bit and the number of the row where the next area begins.
+pub struct Laid {
+    pub at: usize,
+    pub next: usize,
+}
+
+// A number of the row, 0 past its end.
+fn entry(row: &[u32], k: usize) -> u64
+    ensures { λ r. ⌜ r ≡ getD (now (row .entry)) k 0 ⌝ }
+{
+    if k < row.len() { row[k] as u64 } else { 0 }
+}
+
+// ---- judging
+
+// The numbers of `count` areas; a refused count of points is not walked.
+pub fn judge(from: Walk, row: &[u32], count: u8) -> Stepped
+    requires { ⌜ (count ≤ 15) × (from .at ≤ 1_000) ⌝ }
+    ensures { λ r. ⌜ AreasJudged (now (row .entry)) count from r ⌝ }
+{
+    let most = count as usize;
+    let mut w = from;
+    let mut k: usize = 0;
+    let mut i: usize = 0;
+    while i < most {
+        let area = judge_area(w, row, k);
+        w = area.walk;
+        k = area.next;
+        if w.code != 0 {
+            break;
+        }
+        i += 1;
+    }
+    Stepped { walk: w, next: k }
+}
+
+// The area whose numbers begin with k.
+fn judge_area(from: Walk, row: &[u32], k: usize) -> Stepped
+    requires { ⌜ (k ≤ 1_000) × (from .at ≤ 20_000) ⌝ }
+    ensures { λ r. ⌜ AreaJudged (now (row .entry)) k from r ⌝ }
+{
+    let kind = entry(row, k);
+    let w = from.value(3, kind, 0, 4);
+    if kind == SEA {
+        let walk = w.value(8, entry(row, k + 1), 0, 255);
+        return Stepped { walk, next: k + 2 };
+    }
+    if kind == CIRCLE {
+        let p = judge_points(w, row, k + 1, 1);
+        let q = p.value(10, entry(row, k + 3), 0, 1_023);
+        let walk = q.value(2, entry(row, k + 4), 0, 3);
+        return Stepped { walk, next: k + 5 };
+    }
+    let n = entry(row, k + 1);
+    let c = w.value(4, n, notice_areas::least(kind), 15);
+    if c.code != 0 {
+        return Stepped { walk: c, next: k };
+    }
+    let walk = judge_points(c, row, k + 2, n as usize);
+    Stepped {
+        walk,
+        next: k + 2 + n as usize * 2,
+    }
+}
+
+// Latitude and longitude of n points.
+fn judge_points(from: Walk, row: &[u32], k: usize, n: usize) -> Walk
+    requires { ⌜ (n ≤ 15) × (k ≤ 2_000) × (from .at ≤ 30_000) ⌝ }
+    ensures { λ r. ⌜ PointsJudged (now (row .entry)) k n from r ⌝ }
+{
+    let mut w = from;
+    let mut j: usize = 0;
+    while j < n {
+        let latitude = notice_parts::judged_latitude(w, entry(row, k + j * 2));
+        w = notice_parts::judged_longitude(latitude, entry(row, k + j * 2 + 1));
+        j += 1;
+    }
+    w
+}
+
+// ---- putting what was judged
+
+// The numbers of `count` areas, from bit `from` on: the bit behind them.
+pub fn put(buf: &mut [u8], from: usize, row: &[u32], count: u8) -> usize
+    requires { ⌜ (count ≤ 15) × (from ≤ 1_000) × Fews (now row) count ⌝ }
+    ensures { λ r. ⌜ AreasPut (now (row .entry)) count from (now (buf .entry)) r (now (buf .exit)) ⌝ }
+{
+    let most = count as usize;
+    let mut at = from;
+    let mut k: usize = 0;
+    let mut i: usize = 0;
+    while i < most {
+        let area = put_area(buf, at, row, k);
+        at = area.at;
+        k = area.next;
+        i += 1;
+    }
+    at
+}
+
+// The area whose numbers begin with k.
+fn put_area(buf: &mut [u8], at: usize, row: &[u32], k: usize) -> Laid
+    requires { ⌜ (k ≤ 1_000) × (at ≤ 20_000) × Few (now row) k ⌝ }
+    ensures { λ r. ⌜ AreaPut (now (row .entry)) k at (now (buf .entry)) r (now (buf .exit)) ⌝ }
+{
+    let kind = entry(row, k);
+    bits::put(buf, at, 3, kind);
+    if kind == SEA {
+        bits::put(buf, at + 3, 8, entry(row, k + 1));
+        return Laid {
+            at: at + 11,
+            next: k + 2,
+        };
+    }
+    if kind == CIRCLE {
+        put_points(buf, at + 3, row, k + 1, 1);
+        bits::put(buf, at + 46, 10, entry(row, k + 3));
+        bits::put(buf, at + 56, 2, entry(row, k + 4));
+        return Laid {
+            at: at + 58,
+            next: k + 5,
+        };
+    }
+    let n = entry(row, k + 1);
+    bits::put(buf, at + 3, 4, n);
+    put_points(buf, at + 7, row, k + 2, n as usize);
+    Laid {
+        at: at + 7 + n as usize * 43,
+        next: k + 2 + n as usize * 2,
+    }
+}
+
+// Latitude and longitude of n points.
+fn put_points(buf: &mut [u8], at: usize, row: &[u32], k: usize, n: usize)
+    requires { ⌜ (n ≤ 15) × (k ≤ 2_000) × (at ≤ 30_000) ⌝ }
+    ensures { λ _. ⌜ PointsPut (now (row .entry)) k n at (now (buf .entry)) (now (buf .exit)) ⌝ }
+{
+    let mut j: usize = 0;
+    while j < n {
+        bits::put(buf, at + j * 43, 21, entry(row, k + j * 2));
+        bits::put(buf, at + j * 43 + 21, 22, entry(row, k + j * 2 + 1));
+        j += 1;
+    }
+}

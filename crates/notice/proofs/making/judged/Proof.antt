@@ -1,0 +1,79 @@
+-- `judged` walks the head, the areas and the text; a refused head ends it.
+use Prim.Native.Nat.{_+_, _-_, _*_}
+use mathlib.Core.Path.{sym, ap, _∙_}
+use mathlib.Core.Bool.{cond}
+use mathlib.Core.List.{_++_}
+use native.Mathlib.Omega.{arith}
+use lib.ListN.{length}
+use borrow.Author.Needs.{needs}
+use Rattle.bits.specs.Bits.{Bytes}
+use Rattle.layout.specs.Walk.{onward}
+use Rattle.layout.specs.declared.walk.Walk.{Walk}
+use Rattle.layout.specs.laws.Loops.{going}
+use Rattle.layout.specs.laws.Step.{clean}
+use Rattle.notice_areas.specs.Row.{areasTold}
+use Rattle.notice_reading.specs.Record.{texted, valuesOf}
+use Rattle.notice.specs.laws.Judging.{spoken-whole, text-judged, refused-judged}
+use Rattle.notice.proofs.making.judged.Statement.{statement}
+use Rattle.notice.proofs.making.judged.Tie as tie
+
+judged-head-requires : tie.Need-judged-head-requires
+judged-head-requires c κs = search needs
+
+returns : tie.Need-returns
+unfolding valuesOf
+returns c =
+    let h = c .before .before in
+    let a = h .before .before .before .args in
+    let x = h .judged-head .ensures in
+    record {
+      judged = refused-judged (length (a .text .now) * 8) (c .if1 .taken) (x .going (a .english) (areasTold (a .r .count) (a .areas .now) ++ texted (a .text .now)));
+      asked = λ z. absurd (c .if1 .taken z);
+    }
+
+judge-requires : tie.Need-judge-requires
+judge-requires c κs =
+    let h = c .before .before in
+    (h .judged-head .ensures .few (c .if1 .left), omega (arith, h .judged-head .ensures .near))
+
+spoken-requires : tie.Need-spoken-requires
+spoken-requires c κs = search needs
+
+choose-requires : tie.Need-choose-requires
+choose-requires c κs = search needs
+
+wide-requires : tie.Need-wide-requires
+wide-requires c κs = search needs
+
+returns-2 : tie.Need-returns-2
+unfolding valuesOf onward
+returns-2 c =
+    let ch = c .before in
+    let sp = ch .before in
+    let j = sp .before .before in
+    let i = j .before in
+    let h = i .before .before in
+    let known = h .before in
+    let a = known .before .before .args in
+    let t = a .text .now in
+    let fine : Bytes t = λ i. known .shared-slice-known2 .given i .fits in
+    let x = h .judged-head .ensures in
+    let y = j .judge .ensures in
+    let g = y .along .on (x .going (a .english) (areasTold (a .r .count) (a .areas .now) ++ texted t)) in
+    let few = x .few (i .if1 .left) in
+    record {
+      judged = text-judged (a .english) t (ch .choose .result) fine (omega (arith, y .near, x .near, few)) (ch .choose .ensures ∙ ap (λ b. cond b 0 4) (sp .spoken .ensures ∙ spoken-whole (a .english) t fine)) (c .wide .ensures) g;
+      asked = λ z. y .next (clean (j .judge .result .walk .code) (ch .choose .result) (ap (λ (w : Walk). w .code) (sym (c .wide .ensures)) ∙ z) .0);
+    }
+
+pub judged-spec : {M : Type 1} → statement M
+judged-spec =
+    tie.close
+    (tie.spec
+    judged-head-requires
+    returns
+    judge-requires
+    spoken-requires
+    choose-requires
+    wide-requires
+    returns-2)

@@ -1,0 +1,23 @@
+-- What writing a notice promises of the buffer s that it is lent: what every layout's writing does; and 6, last, where the row has fewer numbers than its kinds and counts ask for. Assumes nothing.
+use mathlib.Core.Path.{_≡_}
+use mathlib.Core.Bool.{Bool, cond}
+use mathlib.Core.List.{List, []}
+use Prim.Native.Nat.{ℕ}
+use lib.Dec.{leb, ltb}
+use lib.ListN.{length}
+use Rattle.format.specs.Message.{codeOf, leaves, into, writeMessage}
+use Rattle.notice_areas.specs.Row.{areasLong}
+use Rattle.notice_reading.specs.Notice.{notices}
+use Rattle.notice_reading.specs.Record.{valuesOf}
+use Rattle.notice_reading.specs.declared.Notice.{Notice}
+
+abbrev pub roomFor : ℕ → ℕ → ℕ → ℕ
+roomFor has asked room = cond (ltb has asked) 0 room
+
+-- the row has what its kinds and counts ask for
+abbrev pub enough : Notice → List ℕ → Bool
+enough r areas = leb (areasLong (r .count) areas) (length areas)
+
+abbrev pub NoticeWrites : Bool → List ℕ → Notice → List ℕ → List ℕ → ℕ → List ℕ → Type 0
+NoticeWrites english s r areas text code t = let o = writeMessage (notices english) (valuesOf (r, (areas, text))) in
+    (code ≡ codeOf (into (cond (enough r areas) s []) o)) × (t ≡ cond (enough r areas) (leaves (into s o) s) s)

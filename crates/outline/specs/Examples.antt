@@ -1,0 +1,49 @@
+-- Case L of paper 01, "Numbers to stand by", and a notice with a line of two points, computed from the definitions.
+use mathlib.Core.Path.{_≡_, refl}
+use mathlib.Core.Bool.{true}
+use mathlib.Core.List.{List, [], _∷_}
+use Prim.Native.Nat.{ℕ, _+_, _*_}
+use lib.IntN.{ℤ, pos, negℤ}
+use Rattle.bits.specs.Bits.{bit, valueOf, digits, bitsOf, bytesOf}
+use Rattle.format.specs.Fmt.{accepted, readField, read}
+use Rattle.format.specs.Message.{readMessage}
+use Rattle.format.specs.Words.{walk, wide, orZero}
+use Rattle.text.specs.Text.{english, inLanguage}
+use Rattle.notice_parts.specs.Parts.{subtypes, subtype}
+use Rattle.notice_areas.specs.Areas.{points, areas}
+use Rattle.notice_reading.specs.Notice.{notice, notices}
+use Rattle.notice_reading.specs.Record.{headOf, textOf, recordOf}
+use Rattle.outline.specs.Outline.{northing, easting, pointsOf, outlineOf, pointCount}
+use Rattle.outline.specs.Promises.{drawn, counted}
+
+-- S 0°00.01'
+case-L-latitude : northing (0x10_0000 + 1) ≡ negℤ (pos 1)
+case-L-latitude = refl
+
+-- W 180°60.99'
+case-L-longitude : easting (0x20_0000 + 180 * 8_192 + 60 * 128 + 99) ≡ negℤ (pos 1_086_099)
+case-L-longitude = refl
+
+-- N 0°00.00' and S 0°00.00'
+zero-north : northing 0 ≡ pos 0
+zero-north = refl
+
+zero-south : northing 0x10_0000 ≡ pos 0
+zero-south = refl
+
+-- case G's notice with one area: a line from S 0°00.01' W 180°60.99' to N 31°12.50' E 121°30.05'
+abbrev line : List ℕ
+line = 0x20 ∷ 0x80 ∷ 0x02 ∷ 0x61 ∷ 0x18 ∷ 0x00 ∷ 0x00 ∷ 0x02 ∷ 0x8A ∷ 0x00 ∷ 0x00 ∷ 0x3B ∷ 0x4F ∷ 0x31 ∷ 0x8F ∷ 0x98 ∷ 0xC8 ∷ 0xF2 ∷ 0xF0 ∷ 0x50 ∷ []
+
+-- a row of six, of which four are filled
+abbrev row : List ℤ
+row = pos 0 ∷ pos 0 ∷ pos 0 ∷ pos 0 ∷ pos 7 ∷ pos 8 ∷ []
+
+line-drawn : (drawn true line row ≡ accepted (negℤ (pos 1) ∷ negℤ (pos 1_086_099) ∷ pos 187_250 ∷ pos 729_005 ∷ pos 7 ∷ pos 8 ∷ [])) × (counted true line row ≡ accepted 2)
+unfolding readMessage notices notice read readField walk wide orZero subtypes subtype areas points inLanguage english valueOf bit digits bitsOf bytesOf headOf textOf recordOf pointsOf outlineOf pointCount
+line-drawn = (refl, refl)
+
+-- a sea area gives nothing, a circle its centre
+sea-and-circle : outlineOf 2 (0 ∷ 77 ∷ 3 ∷ 0x10_0001 ∷ 128 ∷ 500 ∷ 2 ∷ []) ≡ negℤ (pos 1) ∷ pos 100 ∷ []
+unfolding outlineOf pointsOf
+sea-and-circle = refl

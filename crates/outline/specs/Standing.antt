@@ -1,0 +1,21 @@
+-- The outline of areas as they stand in a message's bits, from a bit on. Assumes nothing.
+use Prim.Native.Nat.{ℕ, zero, suc, _+_}
+use mathlib.Core.List.{List, [], _∷_, _++_}
+use lib.IntN.{ℤ}
+use Rattle.bits.specs.Answers.{got}
+use Rattle.notice_numbers.specs.Shapes.{shapeAt}
+use Rattle.outline.specs.Outline.{northing, easting}
+
+-- n points
+unfoldable pub pointsDrawn : List ℕ → ℕ → ℕ → List ℤ
+pointsDrawn s zero at = []
+pointsDrawn s (suc n) at = northing (got s at 21) ∷ easting (got s (at + 21) 22) ∷ pointsDrawn s n (at + 43)
+
+-- an area
+abbrev pub areaDrawn : List ℕ → ℕ → List ℤ
+areaDrawn s at = let a = shapeAt s at in pointsDrawn s (a .points) (a .first)
+
+-- n areas
+unfoldable pub outlineAt : List ℕ → ℕ → ℕ → List ℤ
+outlineAt s zero at = []
+outlineAt s (suc n) at = areaDrawn s at ++ outlineAt s n (shapeAt s at .next)

@@ -1,0 +1,101 @@
+// The chart outline of a notice (paper 01, "Notice and packet"): its points in a lent row, in hundredths of a minute.
+ghost use mathlib.Core.Path.{_≡_};
+ghost use Prim.Native.Nat.{_+_, _*_, _≤_, _<_};
+ghost use lib.ListN.{length};
+ghost use lib.Seq.{sets};
+ghost use Rattle.outline.specs.Outline.{hundredths, turned, northing, easting};
+ghost use Rattle.outline.specs.Promises.{Outlines};
+ghost use Rattle.outline.specs.Standing.{pointsDrawn, outlineAt};
+use notice_parts::LATITUDE;
+use notice_parts::LONGITUDE;
+use notice_reading::Notice;
+
+// How many points, or the refusal.
+pub enum Answer {
+    Good(usize),
+    Refused(u8),
+}
+
+// The outline of a notice into the front of the row: of each point its latitude, then its longitude.
+pub fn outline(s: &[u8], english: bool, row: &mut [i32]) -> Answer
+    ensures { λ r. ⌜ Outlines english (now (s .entry)) (now (row .entry)) r (now (row .exit)) ⌝ }
+{
+    let size = notice_reading::lead(s);
+    if size != 0 {
+        return Answer::Refused(size);
+    }
+    let f = notice_reading::fields(s, 0, english);
+    let walk = f.walk;
+    let code = walk.code;
+    if code != 0 {
+        return Answer::Refused(code);
+    }
+    let notice = f.notice;
+    let extent = notice_numbers::measure(s, Notice::BITS, notice.count);
+    let points = extent.points;
+    if row.len() < points * 2 {
+        return Answer::Refused(format::ROOM);
+    }
+    draw(s, Notice::BITS, notice.count, row);
+    Answer::Good(points)
+}
+
+// A latitude in hundredths of a minute, by the number that its bits spell: negative in the south.
+pub fn latitude_of(v: u64) -> i32
+    ensures { λ r. ⌜ r ≡ northing v ⌝ }
+{
+    angle(v / 0x10_0000 % 2, v / 8_192 % 128, v)
+}
+
+// A longitude: negative in the west.
+pub fn longitude_of(v: u64) -> i32
+    ensures { λ r. ⌜ r ≡ easting v ⌝ }
+{
+    angle(v / 0x20_0000 % 2, v / 8_192 % 256, v)
+}
+
+// Degrees, and the minutes and hundredths that v ends in; negative where the sign is 1.
+fn angle(sign: u64, degrees: u64, v: u64) -> i32
+    requires { ⌜ degrees < 256 ⌝ }
+    ensures { λ r. ⌜ r ≡ turned sign (hundredths degrees v) ⌝ }
+{
+    let size = ((degrees * 60 + v / 128 % 64) * 100 + v % 128) as i32;
+    if sign == 0 {
+        return size;
+    }
+    -size
+}
+
+// The points of `count` areas from bit `from` on, into the front of the row.
+fn draw(s: &[u8], from: usize, count: u8, row: &mut [i32])
+    requires { ⌜ (from ≤ 1_000) × (count ≤ 15) × (length (outlineAt (now s) count from) ≤ length (now row)) ⌝ }
+    ensures { λ _. ⌜ now (row .exit) ≡ sets (now (row .entry)) 0 (outlineAt (now (s .entry)) count from) ⌝ }
+{
+    let most = count as usize;
+    let mut k: usize = 0;
+    let mut at = from;
+    let mut i: usize = 0;
+    while i < most {
+        let area = notice_numbers::area_at(s, at);
+        draw_points(s, area.first, area.points, row, k);
+        k += area.points * 2;
+        at = area.next;
+        i += 1;
+    }
+}
+
+// n points from bit `at` on, from row entry k on.
+fn draw_points(s: &[u8], at: usize, n: usize, row: &mut [i32], k: usize)
+    requires { ⌜ (at ≤ 30_000) × (n ≤ 15) × (k + n * 2 ≤ length (now row)) ⌝ }
+    ensures { λ _. ⌜ now (row .exit) ≡ sets (now (row .entry)) k (pointsDrawn (now (s .entry)) n at) ⌝ }
+{
+    let mut j: usize = 0;
+    while j < n {
+        let here = at + j * 43;
+        let latitude = bits::get(s, here, LATITUDE);
+        let longitude = bits::get(s, here + LATITUDE, LONGITUDE);
+        row[k + j * 2] = latitude_of(latitude);
+        row[k + j * 2 + 1] = longitude_of(longitude);
+        j += 1;
+    }
+}

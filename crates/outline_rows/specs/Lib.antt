@@ -1,0 +1,2 @@
+-- The outline told in lent numbers.
+pub mod Told
