@@ -10,8 +10,8 @@ use Rattle.format.specs.laws.Round.{clash}
 use Rattle.notice_reading.specs.Notice.{notices}
 use Rattle.notice_reading.specs.laws.Sound.{sound, judged as numbered}
 use Rattle.notice_reading.specs.laws.Told.{sizes-small, read-on, read-not, walked-code, stands}
-use Rattle.notice.proofs.correct.Statement.{statement}
-use Rattle.notice.proofs.correct.Tie as tie
+use Rattle.notice_correcting.proofs.correct.Statement.{statement}
+use Rattle.notice_correcting.proofs.correct.Tie as tie
 
 lead-requires : tie.Need-lead-requires
 lead-requires c κs = search needs
