@@ -1,5 +1,3 @@
--- AIS: slots, and a message of either kind; in `laws` what is proved of slots.
-pub mod Slots
+-- AIS: a message of either kind.
 pub mod Ais
 mod Examples
-pub mod laws

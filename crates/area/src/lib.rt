@@ -1,44 +1,18 @@
 // Message 6 with application 412/11, an area marked off (paper 01, "AIS"; 003, tables 4 and 38 to 40).
-ghost use Rattle.bits.specs.Bits.{fieldAt};
-ghost use Rattle.format.specs.Promises.{Writes, Corrects};
+ghost use Rattle.format.specs.Promises.{Writes};
 ghost use Rattle.area_reading.specs.Area.{areas, valuesOf};
-ghost use Rattle.area_reading.specs.Changed.{fieldOf};
+pub use area_correcting::correct;
 pub use area_reading::APPLICATION;
 pub use area_reading::AUTHORITY;
 pub use area_reading::Answer;
 pub use area_reading::Area;
 pub use area_reading::MESSAGE;
-use area_reading::fields;
-use area_reading::lead;
 pub use area_reading::read;
 pub use area_reading::shapes::Circle;
 pub use area_reading::shapes::Rectangle;
 pub use area_reading::shapes::Shape;
 
 mod making;
-
-// Where the fields stand in every area that has them, their widths, and the shape that has them, 0 for both.
-const PLACES: [usize; 15] = [
-    0,
-    6,
-    8,
-    38,
-    40,
-    70,
-    88,
-    94,
-    122,
-    204,
-    224,
-    238,
-    149,
-    149,
-    177,
-];
-
-const WIDTHS: [usize; 15] = [0, 2, 30, 2, 30, 1, 4, 28, 27, 20, 14, 4, 7, 28, 27];
-
-const KINDS: [usize; 15] = [0, 0, 0, 0, 0, 0, 0, 0, 0, 0, 0, 0, 1, 2, 2];
 
 // Writes the area into the front of a lent buffer: the record is judged, then room (6); the bytes past the message stay.
 pub fn write(buf: &mut [u8], r: Area) -> u8
@@ -53,22 +27,4 @@ pub fn write(buf: &mut [u8], r: Area) -> u8
     }
     making::put(buf, r, time, second);
     0
-}
-
-// Makes field number `field` of the message be `value`, or leaves every byte.
-pub fn correct(buf: &mut [u8], field: usize, value: u64) -> u8
-    ensures { λ code. ⌜ Corrects areas (now (buf .entry)) (fieldOf (fieldAt (now (buf .entry)) 92 2) field) value code (now (buf .exit)) ⌝ }
-{
-    let was = fields(buf, lead(buf));
-    let kind = bits::get(buf, 92, 2);
-    let spot = change::correcting::look_up_of(&PLACES, &WIDTHS, &KINDS, field, kind as usize);
-    let at = spot.at;
-    let width = spot.width;
-    let code = change::correcting::admits(was.refusal(), width, value);
-    if code != 0 {
-        return code;
-    }
-    let old = change::correcting::swap(buf, at, width, value);
-    let again = fields(buf, 0);
-    change::correcting::settle(buf, at, width, old, again.refusal())
 }

@@ -7,7 +7,8 @@ use lib.ListN.{length, take, drop, length-append, length-drop}
 use lib.Seq.{sets, drop-drop, length-sets, take-all}
 use borrow.Author.Tests.{le-leb, lt-leb}
 use Rattle.records.specs.Records.{Entry, front, records, sizeOf}
-use Rattle.daylog.specs.Log.{after, after-all, entryLine, lines}
+use Rattle.kinds.specs.Kinds.{entryLine}
+use Rattle.daylog.specs.Log.{after, after-all, lines}
 use Rattle.lines.specs.Stores.{Stores}
 use Rattle.daylog.specs.Promises.{listed, chosen, Lists}
 use Rattle.lines.specs.laws.Text.{sets-append}

@@ -12,8 +12,10 @@ use Rattle.format.specs.Message.{readMessage}
 use Rattle.format.specs.Words.{walk}
 use Rattle.serial.specs.Serial.{codeAs, codeOf as serialCode}
 use Rattle.lines.specs.Text.{digitsBy, decimal, line}
-use Rattle.daylog.specs.Text.{head, serial, packet, unknown, broken}
-use Rattle.daylog.specs.Log.{word, codeOf, after-all, entryLine, lines, listingFrom, listing}
+use Rattle.kinds.specs.Words.{serial, packet, unknown}
+use Rattle.daylog.specs.Text.{head, broken}
+use Rattle.kinds.specs.Kinds.{word, codeOf, entryLine}
+use Rattle.daylog.specs.Log.{after-all, lines, listingFrom, listing}
 use Rattle.records.specs.Records.{front, recordsBy, records, sizeOf}
 
 tens : decimal 210 ≡ 0x32 ∷ 0x31 ∷ 0x30 ∷ []

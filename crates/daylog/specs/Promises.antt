@@ -7,7 +7,8 @@ use lib.Dec.{leb}
 use lib.ListN.{length}
 use Rattle.daylog.specs.Text.{head}
 use Rattle.records.specs.Records.{Entry, records, sizeOf}
-use Rattle.daylog.specs.Log.{after, after-all, entryLine, lines, endingOf}
+use Rattle.kinds.specs.Kinds.{entryLine}
+use Rattle.daylog.specs.Log.{after, after-all, lines, endingOf}
 use Rattle.daylog.specs.declared.Listed.{Listed}
 use Rattle.lines.specs.Stores.{Made}
 

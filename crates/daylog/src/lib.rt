@@ -1,13 +1,7 @@
 // The day log (paper 01, "Day log listing"): what stands in it, and its listing, a window of the log at a time.
-ghost use mathlib.Core.Path.{_≡_};
-ghost use Prim.Native.Nat.{_+_, _≤_};
-ghost use lib.ListN.{length};
-ghost use Rattle.lines.specs.Stores.{Stores};
-ghost use Rattle.daylog.specs.Log.{codeOf, entryLine};
 ghost use Rattle.daylog.specs.Promises.{Lists, Ends, Heads};
-ghost use Rattle.format.specs.Message.{codeOf as Message·codeOf, readMessage};
-ghost use Rattle.distress_reading.specs.Report.{reports};
-ghost use Rattle.packet_reading.specs.Packet.{packets};
+pub use kinds::code;
+use kinds::entry;
 use lines::line;
 use lines::text;
 use records::HEAD;
@@ -75,48 +69,4 @@ pub fn heading(out: &mut [u8]) -> usize
         return 0;
     }
     text(out, 0, b"n kind code bytes\n")
-}
-
-// What reading the body answers, by the record's kind.
-pub fn code(kind: u16, body: &[u8]) -> u8
-    ensures { λ r. ⌜ r ≡ codeOf kind (now (body .entry)) ⌝ }
-{
-    match kind {
-        1 => serial::code(body),
-        2 => packet(body),
-        3 => report(body),
-        4 => ais::code(body),
-        _ => format::KIND,
-    }
-}
-
-fn packet(body: &[u8]) -> u8
-    ensures { λ r. ⌜ r ≡ Message·codeOf (readMessage packets (now (body .entry))) ⌝ }
-{
-    let answer = packet_reading::read(body);
-    answer.refusal()
-}
-
-fn report(body: &[u8]) -> u8
-    ensures { λ r. ⌜ r ≡ Message·codeOf (readMessage reports (now (body .entry))) ⌝ }
-{
-    let answer = distress_reading::report::read(body);
-    answer.refusal()
-}
-
-// A record's line, with its kind's word.
-fn entry(out: &mut [u8], at: usize, number: u64, kind: u16, body: &[u8]) -> usize
-    requires { ⌜ at + 55 ≤ length (now out) ⌝ }
-    ensures { λ r. ⌜ Stores (now (out .entry)) at (entryLine number (record { kind = kind; body = now (body .entry) })) r (now (out .exit))
-        × (r ≤ at + 55) ⌝ }
-{
-    let code = code(kind, body);
-    let bytes = body.len() as u64;
-    match kind {
-        1 => line(out, at, number, b"serial", code, bytes),
-        2 => line(out, at, number, b"packet", code, bytes),
-        3 => line(out, at, number, b"distress", code, bytes),
-        4 => line(out, at, number, b"ais", code, bytes),
-        _ => line(out, at, number, b"unknown", code, bytes),
-    }
 }

@@ -1,5 +1,4 @@
--- The serial frames as numbers.
+-- The serial frames but TXHZ as numbers.
 pub mod Gljc
 pub mod Txsq
 pub mod Txxx
-pub mod Txhz

@@ -1,9 +1,8 @@
-// The serial frames as numbers in a lent row. Each call hands on what the family's own call promises.
+// The serial frames but TXHZ as numbers in a lent row. Each call hands on what the family's own call promises.
 ghost use mathlib.Core.Path.{_≡_};
 ghost use Rattle.frame.specs.Frame.{bytesFor};
 
 pub mod gljcs;
-pub mod txhzs;
 pub mod txsqs;
 pub mod txxxs;
 

@@ -2,6 +2,7 @@
 pub mod Notice
 pub mod Record
 pub mod Promises
+pub mod Changed
 pub mod Steps
 mod Examples
 pub mod laws

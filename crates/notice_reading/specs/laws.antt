@@ -2,3 +2,6 @@
 pub mod Sound
 pub mod Closing
 pub mod Told
+pub mod Listed
+pub mod Correction
+pub mod Demands

@@ -1,12 +1,11 @@
-// The distress sentence around a report (001, A.2): `$CCTXA,` address `,2,2,A4` report `*` sum CR LF. Its parts, tested and laid down.
+// The distress sentence around a report (001, A.2): `$CCTXA,` address `,2,2,A4` report `*` sum CR LF. Its parts, tested.
 ghost use mathlib.Core.Path.{_≡_};
 ghost use mathlib.Core.Bool.{cond, true};
-ghost use Prim.Native.Nat.{_+_, _<_, _≤_};
+ghost use Prim.Native.Nat.{_+_, _<_};
 ghost use lib.Dec.{leb};
 ghost use lib.ListN.{length};
-ghost use lib.Seq.{paste};
 ghost use Rattle.spelling.specs.Spelling.{spelt};
-ghost use Rattle.pattern.specs.Pattern.{Front, opening, summedUp, sameBytes, addressLike, leadOf, aroundSo, aroundOf, refusalOf};
+ghost use Rattle.pattern.specs.Pattern.{sameBytes, addressLike, leadOf, aroundSo, aroundOf, refusalOf};
 
 // Its bytes.
 pub const LEAST: usize = 54;
@@ -123,32 +122,4 @@ pub fn accept(s: &[u8]) -> Around
         return Around::Refused(format::RANGE);
     }
     Around::Accepted(to)
-}
-
-// Puts the bytes of a part at a place of the buffer.
-fn put(buf: &mut [u8], at: usize, part: &[u8])
-    requires { ⌜ at + length (now part) ≤ length (now buf) ⌝ }
-    ensures { λ _. ⌜ now (buf .exit) ≡ paste (now (buf .entry)) at (now (part .entry)) (length (now (part .entry))) ⌝ }
-{
-    let mut i = 0;
-    while i < part.len() {
-        buf[at + i] = part[i];
-        i += 1;
-    }
-}
-
-// Lays the sentence of an address's digits and of the report's 17 bytes over the buffer's front.
-pub fn lay(buf: &mut [u8], digits: &[u8], bytes: &[u8])
-    requires { ⌜ (length (now bytes) ≡ 17) × (53 + length (now digits) ≤ length (now buf)) ⌝ }
-    ensures { λ _. ⌜ Front (summedUp (opening (now (digits .entry)) (now (bytes .entry)))) (now (buf .entry)) (now (buf .exit)) ⌝ }
-{
-    let inside = spelling::hex(bytes);
-    let mark = 7 + digits.len();
-    let star = mark + 41;
-    put(buf, 0, b"$CCTXA,");
-    put(buf, 7, digits);
-    put(buf, mark, b",2,2,A4");
-    put(buf, mark + 7, &inside);
-    let last = spelling::closing(bits::xor(&buf[1..star]));
-    put(buf, star, &last);
 }

@@ -1,5 +1,5 @@
 // The AIS messages' calls.
-ghost use Rattle.ais_rows.specs.Slots.{SlotsTold};
+ghost use Rattle.slot_rows.specs.Slots.{SlotsTold};
 
 pub mod area_calls;
 pub mod warning_calls;
@@ -9,5 +9,5 @@ pub mod warning_calls;
 pub extern "C" fn bellnewt_slots(message: u8, bytes: usize, slots: &mut u8) -> u8
     ensures { λ code. ⌜ SlotsTold message bytes (now (slots .entry)) code (now (slots .exit)) ⌝ }
 {
-    ais_rows::slots(message, bytes, slots)
+    slot_rows::slots(message, bytes, slots)
 }

@@ -68,6 +68,6 @@ pub fn write(buf: &mut [u8], address: u32, r: Report) -> Sent
     if buf.len() < size {
         return Sent::Refused(format::ROOM);
     }
-    pattern::lay(buf, &places[from..], &bytes);
+    pattern_making::lay(buf, &places[from..], &bytes);
     Sent::Bytes(size)
 }

@@ -2,13 +2,9 @@
 use mathlib.Core.Path.{_≡_, sym, _∙_}
 use mathlib.Core.List.{List}
 use Prim.Native.Nat.{ℕ}
-use Rattle.daylog.specs.Log.{codeOf}
 use Rattle.daylog.specs.Promises.{Lists, Ends, Heads}
 use Rattle.daylog.specs.declared.Listed.{Listed}
 use Rattle.lines.specs.laws.Made.{one-text}
-
-pub one-code : (k : ℕ) (body : List ℕ) (a b : ℕ) → a ≡ codeOf k body → b ≡ codeOf k body → a ≡ b
-one-code k body a b p q = p ∙ sym q
 
 pub one-list : (s : List ℕ) (n : ℕ) (out : List ℕ) (a b : Listed) (x y : List ℕ) → Lists s n out a x → Lists s n out b y → (a ≡ b) × (x ≡ y)
 one-list s n out a b x y p q =

@@ -11,7 +11,8 @@ use lib.Seq.{take-at, take-append-le, drop-append-le, drop-drop}
 use borrow.Author.Tests.{le-leb}
 use Rattle.daylog.specs.Text.{head}
 use Rattle.records.specs.Records.{Entry, front, opened, records, sizeOf}
-use Rattle.daylog.specs.Log.{after, after-all, entryLine, lines, endingOf, listingFrom, listing}
+use Rattle.kinds.specs.Kinds.{entryLine}
+use Rattle.daylog.specs.Log.{after, after-all, lines, endingOf, listingFrom, listing}
 use Rattle.lines.specs.Stores.{Made}
 use Rattle.daylog.specs.Promises.{roomed, listed, Lists, Heads}
 use Rattle.daylog.specs.Run.{Run, reads, lists, cut, bad}

@@ -13,7 +13,8 @@ use Rattle.format.specs.Fmt.{Out, accepted, refused, Judge, Fmt, end, fi
 use Rattle.format.specs.laws.Round.{unjudged, lay, clash, accepted-inj, written, write-unjudged, sized-inv, sized-at, agree, write-lay, read-lay, read-write}
 use Rattle.bits.specs.laws.Digits.{length-digits}
 
-later-inv : (u : ℕ) (s : Spot) {p w : ℕ} → later u s ≡ found p w → (q : ℕ) × (s ≡ found q w) × (u + q ≡ p)
+-- a field found behind another
+pub later-inv : (u : ℕ) (s : Spot) {p w : ℕ} → later u s ≡ found p w → (q : ℕ) × (s ≡ found q w) × (u + q ≡ p)
 later-inv u none e = let z : _≡_ {A = ℕ} 0 1 = cc in absurd (omega arith)
 later-inv u (found q w) e = (q, cc, cc)
 

@@ -47,12 +47,12 @@ unfoldable pub eachAt : ℕ → ℕ → ℕ → List ℕ → List ℕ
 eachAt i v k [] = []
 eachAt i v k (x ∷ l) = cond (eqb i k) v x ∷ eachAt i v (suc k) l
 
-each-past : (i v k : ℕ) (l : List ℕ) → i < k → eachAt i v k l ≡ l
+pub each-past : (i v k : ℕ) (l : List ℕ) → i < k → eachAt i v k l ≡ l
 unfolding eachAt
 each-past i v k [] h = refl
 each-past i v k (x ∷ l) h = rw (ne-eqb i k (λ e. omega arith), each-past i v (suc k) l (omega arith)) refl
 
-each-from : (i v k : ℕ) (l : List ℕ) → eachAt (k + i) v k l ≡ set l i v
+pub each-from : (i v k : ℕ) (l : List ℕ) → eachAt (k + i) v k l ≡ set l i v
 unfolding eachAt
 each-from i v k [] = refl
 each-from zero v k (x ∷ l) = rw (eq-eqb (k + 0) k (add-zero k), each-past (k + 0) v (suc k) l (omega arith)) refl

@@ -1,16 +1,16 @@
--- Past the numbers of n areas stands what follows them: by the areas, what each holds by its kind, and along its points. Assumes nothing.
-use Prim.Native.Nat.{ℕ, zero, suc, _+_, _*_}
-use mathlib.Core.Path.{_≡_, refl, sym, ap, _∙_, subst}
-use mathlib.Core.List.{List, _∷_, _++_, append-assoc}
+-- Past the numbers of n areas stands what follows them, and whatever has as many values as fields begins with them: by the areas, what each holds by its kind, and along its points. Assumes nothing.
+use Prim.Native.Nat.{ℕ, zero, suc, _*_, _≤_}
+use mathlib.Core.Path.{_≡_, refl, sym, subst, subst⁻¹}
+use mathlib.Core.List.{List, [], _∷_, _++_}
 use native.Mathlib.Omega.{arith}
-use lib.ListN.{drop, getD}
-use lib.Seq.{getD-drop}
+use lib.ListN.{length, drop, getD, length-drop}
+use lib.Seq.{getD-drop, drop-drop}
 use Rattle.format.specs.Fmt.{Fmt}
 use Rattle.format.specs.laws.Held.{Held}
-use Rattle.format.specs.laws.Past.{Past, past-held}
+use Rattle.format.specs.laws.Past.{Past, Filled, past-then, past-held}
 use Rattle.notice_areas.specs.Areas.{Kind, sea, circle, several, kindOf, points, inside, areas}
 use Rattle.notice_areas.specs.Row.{first, insideLong, areaLong, areasLong, areasTold, few, fews}
-use Rattle.notice_areas.specs.laws.Row.{first-add}
+use Rattle.notice_areas.specs.laws.Row.{first-add, told-next}
 
 points-past : (n : ℕ) (row : List ℕ) (f : Fmt) → Past (points n f) (first (n * 2) row) f
 unfolding points first
@@ -32,13 +32,14 @@ area-past n row f =
     let k = kindOf (getD row 0 0) in
     subst (λ c. Past (inside k (areas n f)) (first (insideLong k c) (drop 1 row)) (areas n f)) (getD-drop 1 row 0 0) (inside-past k (drop 1 row) (areas n f))
 
--- and those behind it
-told-next : (n : ℕ) (row vs : List ℕ) → areasTold (suc n) row ++ vs ≡ first (areaLong row) row ++ (areasTold n (drop (areaLong row) row) ++ vs)
-unfolding areasLong
-told-next n row vs =
+-- all of them
+pub areas-past : (n : ℕ) (row : List ℕ) (f : Fmt) → Past (areas n f) (areasTold n row) f
+unfolding areas areasLong first
+areas-past zero row f = refl
+areas-past (suc n) row f =
     let a = areaLong row in
-    let next = drop a row in
-    ap (_++ vs) (first-add a (areasLong n next) row) ∙ append-assoc (first a row) (areasTold n next) vs
+    subst⁻¹ (λ l. Past (areas (suc n) f) l f) (first-add a (areasLong n (drop a row)) row)
+    (past-then (areas (suc n) f) (areas n f) f (first a row) (areasTold n (drop a row)) (area-past n row f) (areas-past n (drop a row) f))
 
 -- ---- counts that are accepted are few
 
@@ -60,3 +61,37 @@ held-fews (suc n) f h row vs x =
     let z = subst (λ c. Held (inside k (areas n f)) (getD row 0 0 ∷ h) (first (insideLong k c) (drop 1 row) ++ us)) (sym c) (y .2) in
     let (h′, rest) = past-held (areas (suc n) f) (areas n f) h (first a row) us (area-past n row f) y in
     (subst (few k) c (inside-few k (areas n f) (getD row 0 0 ∷ h) (drop 1 row) us z), held-fews n f h′ (drop a row) vs rest)
+
+-- ---- a list with as many values as fields has the numbers of its areas in front
+
+points-filled : (n : ℕ) (us : List ℕ) (f : Fmt) → Filled (points n f) us → (n * 2 ≤ length us) × Filled f (drop (n * 2) us)
+unfolding points
+points-filled zero us f x = (omega arith, x)
+points-filled (suc n) [] f x = absurd x
+points-filled (suc n) (a ∷ []) f x = absurd x
+points-filled (suc n) (a ∷ b ∷ us) f x =
+    let e : suc (suc (n * 2)) ≡ suc n * 2 = omega arith in
+    let (l, y) = points-filled n us f x in
+    (omega arith, subst (λ k. Filled f (drop k (a ∷ b ∷ us))) e y)
+
+inside-filled : (k : Kind) (us : List ℕ) (f : Fmt) → Filled (inside k f) us → let c = insideLong k (getD us 0 0) in (c ≤ length us) × Filled f (drop c us)
+unfolding points
+inside-filled sea [] f x = absurd x
+inside-filled sea (a ∷ us) f x = (omega arith, x)
+inside-filled circle [] f x = absurd x
+inside-filled circle (a ∷ []) f x = absurd x
+inside-filled circle (a ∷ b ∷ []) f x = absurd x
+inside-filled circle (a ∷ b ∷ c ∷ []) f x = absurd x
+inside-filled circle (a ∷ b ∷ c ∷ d ∷ us) f x = (omega arith, x)
+inside-filled (several l) [] f x = absurd x
+inside-filled (several l) (c ∷ us) f x = let (l, y) = points-filled c us f x in (omega arith, y)
+
+pub areas-filled : (n : ℕ) (us : List ℕ) (f : Fmt) → Filled (areas n f) us → (areasLong n us ≤ length us) × Filled f (drop (areasLong n us) us)
+unfolding areas areasLong
+areas-filled zero us f x = (omega arith, x)
+areas-filled (suc n) [] f x = absurd x
+areas-filled (suc n) (k ∷ us) f x =
+    let a = areaLong (k ∷ us) in
+    let (l, y) = inside-filled (kindOf k) us (areas n f) x in
+    let (m, z) = areas-filled n (drop a (k ∷ us)) f y in
+    (omega (arith, l, m, length-drop a (k ∷ us)), subst (Filled f) (drop-drop (areasLong n (drop a (k ∷ us))) a (k ∷ us)) z)

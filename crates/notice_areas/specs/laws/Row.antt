@@ -1,12 +1,12 @@
 -- Numbers of a row taken from its front, and those of one area more: by induction on how many they are. Assumes nothing.
 use Prim.Native.Nat.{ℕ, zero, suc, _+_, _*_, _≤_}
 use mathlib.Core.Path.{_≡_, refl, sym, ap, ap₂, _∙_}
-use mathlib.Core.List.{List, [], _∷_, _++_}
+use mathlib.Core.List.{List, [], _∷_, _++_, append-assoc, append-nil}
 use native.Mathlib.Nat.{add-assoc, suc-add, zero-add}
 use native.Mathlib.Numerals.{add-one}
 use native.Mathlib.Omega.{arith}
-use lib.ListN.{length, take, drop, getD}
-use lib.Seq.{drop-drop, getD-drop}
+use lib.ListN.{length, take, drop, getD, length-append}
+use lib.Seq.{take-all, drop-drop, getD-drop, take-at, drop-at}
 use Rattle.notice_areas.specs.Areas.{Kind, sea, circle, several, kindOf}
 use Rattle.notice_areas.specs.Row.{first, insideLong, areaLong, areasLong, areasTold}
 
@@ -63,6 +63,55 @@ long-more n row = ap (λ k. areasLong k row) (sym (add-one n)) ∙ long-add n 1 
 
 pub told-more : (n : ℕ) (row : List ℕ) → areasTold (suc n) row ≡ areasTold n row ++ first (areaLong (drop (areasLong n row) row)) (drop (areasLong n row) row)
 told-more n row = ap (λ k. first k row) (long-more n row) ∙ first-add (areasLong n row) (areaLong (drop (areasLong n row) row)) row
+
+-- the first, and those behind it
+pub told-next : (n : ℕ) (row vs : List ℕ) → areasTold (suc n) row ++ vs ≡ first (areaLong row) row ++ (areasTold n (drop (areaLong row) row) ++ vs)
+unfolding areasLong
+told-next n row vs =
+    let a = areaLong row in
+    let next = drop a row in
+    ap (_++ vs) (first-add a (areasLong n next) row) ∙ append-assoc (first a row) (areasTold n next) vs
+
+-- ---- how many numbers areas have is told by these alone, whatever follows
+
+inside-next : (k : Kind) (c : ℕ) (row vs : List ℕ) → getD (first (insideLong k c) row ++ vs) 0 0 ≡ getD row 0 0
+unfolding first
+inside-next sea c row vs = refl
+inside-next circle c row vs = refl
+inside-next (several l) c row vs = refl
+
+area-again : (row vs : List ℕ) → areaLong (first (areaLong row) row ++ vs) ≡ areaLong row
+unfolding first
+area-again row vs =
+    let k = kindOf (getD row 0 0) in
+    ap (λ c. suc (insideLong k c)) (inside-next k (getD row 1 0) (drop 1 row) vs ∙ getD-drop 1 row 0 0)
+
+long-again : (n : ℕ) (row vs : List ℕ) → areasLong n (areasTold n row ++ vs) ≡ areasLong n row
+unfolding areasLong
+long-again zero row vs = refl
+long-again (suc n) row vs =
+    let a = areaLong row in
+    let next = areasTold n (drop a row) ++ vs in
+    let us = first a row ++ next in
+    let is : areaLong us ≡ a = area-again row next in
+    ap (areasLong (suc n)) (told-next n row vs)
+    ∙ ap₂ _+_ is (ap (λ a. areasLong n (drop a us)) is ∙ ap (areasLong n) (drop-at (first a row) next a (first-long a row)) ∙ long-again n (drop a row) vs)
+
+pub told-again : (n : ℕ) (row vs : List ℕ) → areasTold n (areasTold n row ++ vs) ≡ areasTold n row
+told-again n row vs =
+    let a = areasLong n row in
+    let us = areasTold n row in
+    ap (λ k. first k (us ++ vs)) (long-again n row vs) ∙ first-take a (us ++ vs) (omega (arith, length-append us vs, first-long a row)) ∙ take-at us vs a (first-long a row)
+
+-- a row of their numbers and no others
+pub told-exact : (n : ℕ) (row : List ℕ) → areasLong n row ≡ length row → areasTold n row ≡ row
+told-exact n row e = first-take (areasLong n row) row (omega (arith, e)) ∙ take-all (areasLong n row) row (omega (arith, e))
+
+pub exact-more : (n : ℕ) (row us : List ℕ) → areasLong n row ≡ length row → areasLong n (row ++ us) ≡ length row
+exact-more n row us e = ap (λ l. areasLong n (l ++ us)) (sym (told-exact n row e)) ∙ long-again n row us ∙ e
+
+pub exact-told : (n : ℕ) (row : List ℕ) → areasLong n (areasTold n row) ≡ length (areasTold n row)
+exact-told n row = ap (areasLong n) (sym (append-nil (areasTold n row))) ∙ long-again n row [] ∙ sym (first-long (areasLong n row) row)
 
 -- ---- the numbers from k on, by the kind of the area that begins there
 

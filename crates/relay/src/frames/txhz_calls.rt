@@ -1,6 +1,6 @@
 // The frame TXHZ's calls.
 ghost use Rattle.rows.specs.Row.{Fills};
-ghost use Rattle.frame_rows.specs.Txhz.{numbersOf, TxhzWrites};
+ghost use Rattle.txhz_rows.specs.Txhz.{numbersOf, TxhzWrites};
 ghost use Rattle.txhz_reading.specs.Txhz.{txhzs};
 ghost use Rattle.format.specs.Promises.{Corrects};
 
@@ -9,7 +9,7 @@ ghost use Rattle.format.specs.Promises.{Corrects};
 pub extern "C" fn bellnewt_txhz_read(s: &[u8], row: &mut [i64]) -> u8
     ensures { λ code. ⌜ Fills (numbersOf (now (s .entry))) (now (row .entry)) code (now (row .exit)) ⌝ }
 {
-    frame_rows::txhzs::read(s, row)
+    txhz_rows::read(s, row)
 }
 
 // Writes the frame of these numbers and the 20 bytes of its receipts into the front of a lent buffer.
@@ -23,7 +23,7 @@ pub extern "C" fn bellnewt_txhz_write(
 ) -> u8
     ensures { λ code. ⌜ TxhzWrites (now (buf .entry)) (now (receipts .entry)) address receiver count code (now (buf .exit)) ⌝ }
 {
-    frame_rows::txhzs::write(buf, receipts, address, receiver, count)
+    txhz_rows::write(buf, receipts, address, receiver, count)
 }
 
 // Makes field number `field` of the frame be `value`, or leaves every byte.

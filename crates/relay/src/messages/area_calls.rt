@@ -1,7 +1,7 @@
 // An area's calls: message 6 with application 412/11.
 ghost use Rattle.rows.specs.Row.{Fills};
 ghost use Rattle.bits.specs.Bits.{fieldAt};
-ghost use Rattle.ais_rows.specs.Area.{numbersOf, recordOf, circleOf, rectangleOf};
+ghost use Rattle.area_rows.specs.Area.{numbersOf, recordOf, circleOf, rectangleOf};
 ghost use Rattle.area_reading.specs.Area.{areas, valuesOf};
 ghost use Rattle.area_reading.specs.Changed.{fieldOf};
 ghost use Rattle.format.specs.Promises.{Writes, Corrects};
@@ -17,7 +17,7 @@ use time::Time;
 pub extern "C" fn bellnewt_area_read(s: &[u8], row: &mut [i64]) -> u8
     ensures { λ code. ⌜ Fills (numbersOf (now (s .entry))) (now (row .entry)) code (now (row .exit)) ⌝ }
 {
-    ais_rows::areas::read(s, row)
+    area_rows::read(s, row)
 }
 
 // Makes field number `field` of the area be `value`, or leaves every byte.

@@ -1,7 +1,7 @@
 // A warning's calls: message 8 with application 412/03.
 ghost use Rattle.rows.specs.Row.{Fills};
 ghost use Rattle.bits.specs.Bits.{fieldAt};
-ghost use Rattle.ais_rows.specs.Warning.{numbersOf, recordOf, cycloneOf, galeOf, wavesOf, fogOf, surgeOf};
+ghost use Rattle.warning_rows.specs.Warning.{numbersOf, recordOf, cycloneOf, galeOf, wavesOf, fogOf, surgeOf};
 ghost use Rattle.format.specs.Promises.{Writes, Corrects};
 ghost use Rattle.warning_reading.specs.Changed.{fieldOf};
 ghost use Rattle.warning_reading.specs.Warning.{warnings, valuesOf};
@@ -19,7 +19,7 @@ use warning_reading::Warning;
 pub extern "C" fn bellnewt_warning_read(s: &[u8], row: &mut [i64]) -> u8
     ensures { λ code. ⌜ Fills (numbersOf (now (s .entry))) (now (row .entry)) code (now (row .exit)) ⌝ }
 {
-    ais_rows::warnings::read(s, row)
+    warning_rows::read(s, row)
 }
 
 // Makes field number `field` of the warning be `value`, or leaves every byte.

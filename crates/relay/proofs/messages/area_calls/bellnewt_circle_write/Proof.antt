@@ -2,7 +2,7 @@
 use mathlib.Core.Path.{subst}
 use mir.Syntax.{w32}
 use mir.ValLaws.{toZ-ofZ}
-use Rattle.ais_rows.specs.Area.{recordOf, circleOf}
+use Rattle.area_rows.specs.Area.{recordOf, circleOf}
 use Rattle.area_reading.specs.Area.{areas, valuesOf}
 use Rattle.area_reading.specs.declared.Area.{Area}
 use Rattle.format.specs.Promises.{Writes}

@@ -1,0 +1,2 @@
+-- An area as numbers.
+pub mod Area

@@ -1,0 +1,108 @@
+-- `lay`: five parts put one after another, the sum taken of what stands.
+use borrow.Author.Needs.{needs}
+use Rattle.pattern.specs.laws.Front.{all-laid}
+use mathlib.Core.Path.{refl, ap, _∙_}
+use Rattle.spelling.specs.Spelling.{closingOf}
+use Prim.Native.Nat.{_+_}
+use lib.ListN.{length}
+use Rattle.pattern_making.proofs.lay.Statement.{statement}
+use Rattle.pattern_making.proofs.lay.Tie as tie
+
+hex-requires : tie.Need-hex-requires
+hex-requires c κs = search needs
+
+add-mark : tie.Need-add-mark
+add-mark c = search needs
+
+add-star : tie.Need-add-star
+add-star c = search needs
+
+slice-aggregate-put : tie.Need-slice-aggregate-put
+slice-aggregate-put c = search needs
+
+put-requires : tie.Need-put-requires
+put-requires c κs = search needs
+
+put-requires-2 : tie.Need-put-requires-2
+put-requires-2 c κs = search needs
+
+slice-aggregate-put-2 : tie.Need-slice-aggregate-put-2
+slice-aggregate-put-2 c = search needs
+
+put-requires-3 : tie.Need-put-requires-3
+put-requires-3 c κs = search needs
+
+add-put : tie.Need-add-put
+add-put c = search needs
+
+slice-aggregate-put-3 : tie.Need-slice-aggregate-put-3
+slice-aggregate-put-3 c = search needs
+
+put-requires-4 : tie.Need-put-requires-4
+put-requires-4 c κs = search needs
+
+sub-xor : tie.Need-sub-xor
+sub-xor c = search needs
+
+part-xor-start : tie.Need-part-xor-start
+part-xor-start c = search needs
+
+part-xor-end : tie.Need-part-xor-end
+part-xor-end c = search needs
+
+xor-requires : tie.Need-xor-requires
+xor-requires c κs = search needs
+
+closing-requires : tie.Need-closing-requires
+closing-requires c κs = search needs
+
+slice-aggregate-put-4 : tie.Need-slice-aggregate-put-4
+slice-aggregate-put-4 c = search needs
+
+put-requires-5 : tie.Need-put-requires-5
+put-requires-5 c κs = search needs
+
+same-length : tie.Need-same-length
+same-length c = search needs
+
+returns : tie.Need-returns
+returns c =
+    let p5 = c .before .before in
+    let k = p5 .before .before .before in
+    let x = k .before in
+    let p4 = x .before .before .before .before .before in
+    let p3 = p4 .before .before .before .before .before in
+    let p2 = p3 .before .before .before .before .before in
+    let p1 = p2 .before .before .before .before in
+    let h = p1 .before .before .before in
+    let a = h .before .before .before .before in
+    let ds = a .args .digits .now in
+    let mark = 7 + length ds in
+    all-laid ds (a .args .bytes .now) (a .args .buf .now) (p1 .put .last .0) (p2 .put2 .last .0) (p3 .put3 .last .0) (p4 .put4 .last .0) (h .hex .result) (k .closing .result) mark (mark + 41)
+    (a .pre .0) (h .hex .ensures) refl refl (p1 .put .ensures) (p2 .put2 .ensures) (p3 .put3 .ensures) (p4 .put4 .ensures)
+    (k .closing .ensures ∙ ap closingOf (x .xor .ensures)) (p5 .put5 .ensures)
+
+pub lay-spec : {M : Type 1} → statement M
+lay-spec =
+    tie.close
+    (tie.spec
+    hex-requires
+    add-mark
+    add-star
+    slice-aggregate-put
+    put-requires
+    put-requires-2
+    slice-aggregate-put-2
+    put-requires-3
+    add-put
+    slice-aggregate-put-3
+    put-requires-4
+    sub-xor
+    part-xor-start
+    part-xor-end
+    xor-requires
+    closing-requires
+    slice-aggregate-put-4
+    put-requires-5
+    same-length
+    returns)

@@ -1,0 +1,2 @@
+-- The slots in a lent number.
+pub mod Slots

@@ -1,0 +1,2 @@
+-- The frame TXHZ as numbers.
+pub mod Txhz

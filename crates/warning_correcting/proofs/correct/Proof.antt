@@ -1,0 +1,142 @@
+-- `correct` is the correction in place of every layout, with the warning's fields read before and behind the change and its table of numbers.
+use mathlib.Core.Path.{refl, sym, _∙_}
+use Rattle.bits.specs.Bits.{fieldAt}
+use Rattle.format.specs.laws.Answers.{fields-code, whole-code, clean-lead}
+use Rattle.format.specs.laws.Correcting.{admitted-clean, correct-early, correct-late}
+use Rattle.warning_reading.specs.Changed.{fieldOf}
+use Rattle.warning_reading.specs.Warning.{warnings, recordOf, numberOf}
+use Rattle.warning_reading.specs.laws.Correction.{thin}
+use Rattle.warning_reading.specs.laws.Demands.{family, looked-stands}
+use Rattle.warning_reading.specs.laws.Sound.{sound, sized}
+use Rattle.warning_reading.specs.declared.Answer.the-variants.{Good, Refused}
+use borrow.Author.Needs.{needs}
+use Rattle.warning_correcting.proofs.correct.Statement.{statement}
+use Rattle.warning_correcting.proofs.correct.Tie as tie
+
+lead-requires : tie.Need-lead-requires
+lead-requires c κs = search needs
+
+fields-requires : tie.Need-fields-requires
+fields-requires c κs =
+    let lead = c in
+    let known = lead .before .before in
+    let st = known .before in
+    let s = st .args .buf .now in
+    λ z. sized s (sym (c .lead .ensures) ∙ z)
+
+get-requires : tie.Need-get-requires
+get-requires c κs = search needs
+
+slice-aggregate-look-up-of : tie.Need-slice-aggregate-look-up-of
+slice-aggregate-look-up-of c = search needs
+
+slice-aggregate-look-up-of-2 : tie.Need-slice-aggregate-look-up-of-2
+slice-aggregate-look-up-of-2 c = search needs
+
+slice-aggregate-look-up-of-3 : tie.Need-slice-aggregate-look-up-of-3
+slice-aggregate-look-up-of-3 c = search needs
+
+look-up-of-requires : tie.Need-look-up-of-requires
+look-up-of-requires c κs = search needs
+
+refusal-requires : tie.Need-refusal-requires
+refusal-requires c κs = search needs
+
+admits-requires : tie.Need-admits-requires
+admits-requires c κs = search needs
+
+same-length : tie.Need-same-length
+same-length c = search needs
+
+returns : tie.Need-returns
+unfolding warnings
+returns c =
+    let test = c in
+    let g = test .before in
+    let was = g .before in
+    let look = was .before in
+    let get = look .before .before .before .before in
+    let f = get .before .before in
+    let lead = f .before in
+    let known = lead .before .before in
+    let st = known .before in
+    let a = st .args in
+    let s = a .buf .now in
+    let reads = whole-code Good Refused recordOf numberOf (λ r. refl) (λ c. refl) warnings s _ _ _ (was .refusal .ensures) (f .fields .ensures) s refl (lead .lead .ensures) in
+    correct-early warnings sound (family .judged) s (fieldOf (fieldAt s 56 4) (a .field)) (a .value) _ _ reads (looked-stands s (get .get .ensures) (a .field) (look .look-up-of .ensures)) (thin _ (a .field) (look .look-up-of .ensures))
+    (g .admits .ensures) (c .if1 .taken)
+
+swap-requires : tie.Need-swap-requires
+swap-requires c κs = search needs
+
+fields-requires-2 : tie.Need-fields-requires-2
+unfolding warnings
+fields-requires-2 c κs =
+    let swap = c .before .before .before in
+    let test = swap .before .before in
+    let g = test .before in
+    let was = g .before in
+    let look = was .before in
+    let get = look .before .before .before .before in
+    let f = get .before .before in
+    let lead = f .before in
+    let known = lead .before .before in
+    let st = known .before in
+    let a = st .args in
+    let s = a .buf .now in
+    let clean = admitted-clean (was .refusal .result) (look .look-up-of .result .width) (a .value) (sym (g .admits .ensures) ∙ test .if1 .left) in
+    λ z. swap .swap .kept .0 ∙ sized s (sym (lead .lead .ensures) ∙ clean-lead Good Refused recordOf numberOf (λ r. refl) (λ c. refl) warnings s _ _ _ (was .refusal .ensures) (f .fields .ensures) clean)
+
+refusal-requires-2 : tie.Need-refusal-requires-2
+refusal-requires-2 c κs = search needs
+
+settle-requires : tie.Need-settle-requires
+settle-requires c κs = search needs
+
+same-length-2 : tie.Need-same-length-2
+same-length-2 c = search needs
+
+returns-2 : tie.Need-returns-2
+unfolding warnings
+returns-2 c =
+    let settle = c .before .before in
+    let again = settle .before in
+    let f2 = again .before .before in
+    let swap = f2 .before .before .before .before in
+    let test = swap .before .before in
+    let g = test .before in
+    let was = g .before in
+    let look = was .before in
+    let get = look .before .before .before .before in
+    let f = get .before .before in
+    let lead = f .before in
+    let known = lead .before .before in
+    let st = known .before in
+    let a = st .args in
+    let s = a .buf .now in
+    let reads = whole-code Good Refused recordOf numberOf (λ r. refl) (λ c. refl) warnings s _ _ _ (was .refusal .ensures) (f .fields .ensures) s refl (lead .lead .ensures) in
+    correct-late warnings sound (family .judged) s (fieldOf (fieldAt s 56 4) (a .field)) (a .value) _ _ reads (looked-stands s (get .get .ensures) (a .field) (look .look-up-of .ensures)) (thin _ (a .field) (look .look-up-of .ensures))
+    (λ i. known .slice-known .given i .fits) (g .admits .ensures) (test .if1 .left) (swap .swap .ensures)
+    (fields-code Good Refused recordOf numberOf (λ r. refl) (λ c. refl) warnings _ 0 _ _ (again .refusal2 .ensures) (f2 .fields2 .ensures)) (settle .settle .ensures) refl
+
+pub correct-spec : {M : Type 1} → statement M
+correct-spec =
+    tie.close
+    (tie.spec
+    lead-requires
+    fields-requires
+    get-requires
+    slice-aggregate-look-up-of
+    slice-aggregate-look-up-of-2
+    slice-aggregate-look-up-of-3
+    look-up-of-requires
+    refusal-requires
+    admits-requires
+    same-length
+    returns
+    swap-requires
+    fields-requires-2
+    refusal-requires-2
+    settle-requires
+    same-length-2
+    returns-2)

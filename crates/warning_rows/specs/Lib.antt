@@ -1,0 +1,2 @@
+-- A warning as numbers.
+pub mod Warning
