@@ -5,17 +5,21 @@ use mathlib.Core.List.{List, [], _∷_, _++_, append-nil}
 use Prim.Native.Nat.{ℕ, _+_, _*_, _≤_, _<_, _^_}
 use native.Mathlib.Omega.{arith}
 use lib.Dec.{leb, lit<, lit≤}
-use lib.ListN.{length, take, drop}
+use lib.ListN.{length, take, drop, getD}
 use lib.Seq.{take-at}
 use Rattle.bits.specs.Bits.{Bytes, digits, putAt, fieldAt}
 use Rattle.bits.specs.laws.Bytes.{length-bytes, bytes-below}
 use Rattle.bits.specs.laws.Fields.{length-put, field-put-before, field-put-after}
 use Rattle.format.specs.Fmt.{Out, accepted, refused, check, orBad, none, found, spot}
-use Rattle.format.specs.Message.{codeOf, leaves}
+use Rattle.format.specs.Message.{codeOf, leaves, readMessage}
 use Rattle.format.specs.Promises.{answered, readRecord, Writes, Corrects}
 use Rattle.format.specs.laws.Family.{Family, written-read, read-written, record-values, accepted-correction, correction-none, corrected-as-written}
-use Rattle.format.specs.laws.Held.{Held}
+use Rattle.format.specs.laws.Held.{Held, held}
+use Rattle.format.specs.laws.Round.{also-inv, read-write}
 use Rattle.format.specs.laws.Runs.{run-value}
+use Rattle.format.specs.laws.Whole.{was}
+use Rattle.text.specs.Text.{inLanguage}
+use Rattle.text.specs.laws.Clean.{no-line-end}
 use Rattle.notice_areas.specs.Row.{areasLong, areasTold}
 use Rattle.notice_areas.specs.laws.Row.{told-again, told-exact, exact-told}
 use Rattle.notice_reading.specs.Changed.{changed}
@@ -56,8 +60,8 @@ same-record x (exact, fine) =
     told (x .0) (areasTold n (x .1 .0)) (x .1 .1) fine ∙ ap (λ l. (x .0, (l, x .1 .1))) (told-exact n (x .1 .0) exact)
 
 -- the record of accepted values
-record-is : (vs : List ℕ) (l : Listed vs) → recordOf vs ≡ (headOf vs, (l .row, textOf (l .size) (l .number)))
-record-is vs l = ap recordOf (l .is) ∙ recorded (headOf vs) (l .row) (l .size) (l .number)
+record-is : (english : Bool) (vs : List ℕ) (l : Listed english vs) → recordOf vs ≡ (headOf vs, (l .row, textOf (l .size) (l .number)))
+record-is english vs l = ap recordOf (l .is) ∙ recorded (headOf vs) (l .row) (l .size) (l .number)
 
 text-values : (n v : ℕ) → v < 2 ^ (n * 8) → texted (textOf n v) ≡ n ∷ v ∷ []
 unfolding textOf
@@ -67,13 +71,13 @@ same-values : (english : Bool) (vs : List ℕ) → Held (notice english) [] vs �
 unfolding valuesOf
 same-values english vs h =
     let l = listed english vs h in
-    ap valuesOf (record-is vs l)
+    ap valuesOf (record-is english vs l)
     ∙ ap₂ (λ us ws. headed (headOf vs) (us ++ ws)) (told-exact (headOf vs .count) (l .row) (l .exact)) (text-values (l .size) (l .number) (l .narrow))
     ∙ sym (l .is)
 
 can-lend : (english : Bool) (vs : List ℕ) → Held (notice english) [] vs → Lent (recordOf vs)
 unfolding textOf
-can-lend english vs h = let l = listed english vs h in subst⁻¹ Lent (record-is vs l) (l .exact, bytes-below (l .size) _)
+can-lend english vs h = let l = listed english vs h in subst⁻¹ Lent (record-is english vs l) (l .exact, bytes-below (l .size) _)
 
 pub family : (english : Bool) → Family (notices english) Whole Lent valuesOf recordOf changed
 unfolding notices
@@ -179,3 +183,19 @@ expiry-leaves-count english s v t e =
     let (is, fits) = expiry-bits english s v t e in
     let behind : (at w : ℕ) → 59 ≤ at → fieldAt t at w ≡ fieldAt s at w = λ at w l. ap (λ t. fieldAt t at w) is ∙ field-put-after s 38 21 fits v at w l in
     (behind 59 4 (lit≤ tt), λ at w l. ap (λ t. fieldAt t at w) is ∙ field-put-before s 38 21 fits v at w l, behind, ap length is ∙ length-put s 38 21 v)
+
+-- ---- the text
+
+-- The text of a notice that reading accepts is text in its language.
+pub accepted-text : (english : Bool) (s : List ℕ) (x : Whole) → readRecord (notices english) recordOf s ≡ accepted x → inLanguage english (x .1 .1) ≡ true
+unfolding notices
+accepted-text english s x e =
+    let (vs, m, k) = also-inv recordOf (readMessage (notices english) s) e in
+    let h = held (notice english) [] 0 vs _ (read-write (notice english) [] 0 vs _ (was (notices english) s vs m .walked)) in
+    let l = listed english vs h in
+    ap (λ (x : Whole). inLanguage english (x .1 .1)) (sym k ∙ record-is english vs l) ∙ l .spoken
+
+-- No line end passes: every byte of the text that a good reading hands out is at least 0x20.
+pub read-no-line-end : (english : Bool) (s row text : List ℕ) (a : Told) (row′ text′ : List ℕ) → Reads english s row text (Good a) row′ text′ → let t = take (a .text) text′ in
+    (i : ℕ) → i < length t → 0x20 ≤ getD t i 0
+read-no-line-end english s row text a row′ text′ e = no-line-end english (take (a .text) text′) (accepted-text english s (wholeOf a row′ text′) (good english s row text a row′ text′ e))

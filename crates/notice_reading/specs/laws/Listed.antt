@@ -1,11 +1,13 @@
 -- Values of a notice: those of a record are as many as its fields; and accepted ones are a head's, an exact row of its areas' numbers, and a text's two. Assumes nothing.
 use mathlib.Core.Path.{_≡_, refl, sym, ap, _∙_, subst}
-use mathlib.Core.Bool.{Bool}
+use mathlib.Core.Bool.{Bool, true, false}
 use mathlib.Core.List.{List, [], _∷_, _++_}
 use Prim.Native.Nat.{ℕ, _*_, _/_, _<_, _^_}
 use native.Mathlib.Omega.{arith}
 use lib.ListN.{length, drop, take-append-drop}
-use Rattle.format.specs.Fmt.{end}
+use Rattle.bits.specs.Bits.{digits, bytesOf}
+use Rattle.format.specs.Fmt.{good, end}
+use Rattle.format.specs.Words.{unless}
 use Rattle.format.specs.laws.Extent.{extent-lay}
 use Rattle.format.specs.laws.Held.{Held}
 use Rattle.format.specs.laws.Past.{Filled, past-held, past-counted, held-filled}
@@ -14,8 +16,9 @@ use Rattle.notice_areas.specs.Areas.{areas}
 use Rattle.notice_areas.specs.Row.{areasLong, areasTold}
 use Rattle.notice_areas.specs.laws.Past.{areas-past, areas-filled}
 use Rattle.notice_areas.specs.laws.Row.{first-take, exact-told}
+use Rattle.text.specs.Text.{inLanguage}
 use Rattle.notice_reading.specs.Notice.{text, rest, notice}
-use Rattle.notice_reading.specs.Record.{Whole, headed, texted, valuesOf, headOf}
+use Rattle.notice_reading.specs.Record.{Whole, headed, texted, textOf, valuesOf, headOf}
 
 -- ---- a record's
 
@@ -51,16 +54,17 @@ two english (n ∷ []) x = absurd x
 two english (n ∷ v ∷ []) x = (n, v, refl)
 two english (n ∷ v ∷ u ∷ us) x = absurd x
 
-pub record Listed (vs : List ℕ) : Type 0 where
+pub record Listed (english : Bool) (vs : List ℕ) : Type 0 where
   pub row : List ℕ
   pub size : ℕ
   pub number : ℕ
   pub is : vs ≡ headed (headOf vs) (row ++ (size ∷ number ∷ []))
   pub exact : areasLong (headOf vs .count) row ≡ length row
   pub narrow : number < 2 ^ (size * 8)
+  pub spoken : inLanguage english (textOf size number) ≡ true
 
-pub listed : (english : Bool) (vs : List ℕ) → Held (notice english) [] vs → Listed vs
-unfolding notice
+pub listed : (english : Bool) (vs : List ℕ) → Held (notice english) [] vs → Listed english vs
+unfolding notice textOf
 listed english vs h =
     let r = headOf vs in
     let n = r .count in
@@ -72,4 +76,8 @@ listed english vs h =
     let row = areasTold n us in
     let whole : us ≡ row ++ (size ∷ number ∷ []) = sym (take-append-drop (areasLong n us) us) ∙ (λ i. sym (first-take (areasLong n us) us enough) i ++ last i) in
     let (h′, t) = past-held (rest english n) (text english end) _ row (size ∷ number ∷ []) (areas-past n us (text english end)) (subst (Held (rest english n) _) whole g) in
-    record { row = row; size = size; number = number; is = head ∙ ap (headed r) whole; exact = exact-told n us; narrow = t .0 }
+    record { row = row; size = size; number = number; is = head ∙ ap (headed r) whole; exact = exact-told n us; narrow = t .0; spoken = faultless (inLanguage english (bytesOf size (digits (size * 8) number))) (t .1) }
+  where
+    faultless : (x : Bool) → unless x 4 0 ≡ good → x ≡ true
+    faultless true e = refl
+    faultless false e = let z : _≡_ {A = ℕ} 0 1 = cc in absurd (omega arith)
