@@ -1,0 +1,1 @@
+-- Runs of calls at the desk.
