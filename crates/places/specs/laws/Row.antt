@@ -1,0 +1,84 @@
+-- A row of places: with at least four, a call's promise over the row is its promise by value of the first four, since nothing looks past these and a turn that is no change has the first place again; with fewer, every call refuses by 6 and leaves all as it was. Assumes nothing.
+use mathlib.Core.Path.{_≡_, refl, sym, ap, _∙_}
+use mathlib.Core.Bool.{Bool, cond, _&&_}
+use mathlib.Core.List.{List}
+use Prim.Native.Nat.{ℕ, _<_, _≤_}
+use lib.Dec.{leb}
+use lib.ListN.{length, set}
+use lib.Seq.{set-getD}
+use borrow.Author.Tests.{le-leb, lt-leb}
+use Rattle.format.specs.Fmt.{Out, accepted, refused}
+use Rattle.format.specs.Promises.{answered, readRecord}
+use Rattle.packet_reading.specs.Packet.{packets, recordOf}
+use Rattle.packet_reading.specs.declared.Packet.{Packet}
+use Rattle.places.specs.Places.{everyBelow, fourPlaces, blank, front, goodPlaces}
+use Rattle.places.specs.Desk.{Change, stays, turns, applied, turnOf, storeBytes, firstTests, turnedAway, accepting, asking, dropping}
+use Rattle.places.specs.Promises.{Accepts, Asks, Drops, AcceptTurn, AskTurn, DropTurn}
+use Rattle.places.specs.declared.Place.{Place}
+use Rattle.places.specs.declared.Reply.{Reply}
+use Rattle.places.specs.declared.Reply.the-variants.{Refused}
+use Rattle.places.specs.declared.Turn.{Turn}
+
+-- ---- four places or more
+
+front-tests : (ps : List Place) (s : List ℕ) → fourPlaces ≤ length ps → firstTests (front ps) s ≡ firstTests ps s
+unfolding firstTests goodPlaces everyBelow
+front-tests ps s h = ap (λ (z : Bool). cond (z && leb storeBytes (length s)) (cond (goodPlaces ps) 0 4) 6) (sym (le-leb fourPlaces (length ps) h))
+
+-- storing a turn's place is what its change does
+stored : (ps : List Place) (a : Reply) (c : Change) → set ps (turnOf (front ps) a c .at) (turnOf (front ps) a c .place) ≡ applied ps c
+stored ps a stays = set-getD ps 0 blank
+stored ps a (turns i p) = refl
+
+replied : (ps : List Place) (a : Reply) (c : Change) → turnOf ps a c .reply ≡ a
+replied ps a stays = refl
+replied ps a (turns i p) = refl
+
+accepting-front : (ps : List Place) (s m : List ℕ) → fourPlaces ≤ length ps → accepting (front ps) s m ≡ accepting ps s m
+unfolding accepting
+accepting-front ps s m h = rw (front-tests ps s h) refl
+
+asking-front : (ps : List Place) (s : List ℕ) (n : ℕ) (b w : List ℕ) → fourPlaces ≤ length ps → asking (front ps) s n b w ≡ asking ps s n b w
+unfolding asking
+asking-front ps s n b w h = rw (front-tests ps s h) refl
+
+dropping-front : (ps : List Place) (s : List ℕ) (n : ℕ) → fourPlaces ≤ length ps → dropping (front ps) s n ≡ dropping ps s n
+unfolding dropping
+dropping-front ps s n h = rw (front-tests ps s h) refl
+
+-- what a turn of the first four places makes of the reply and of the row
+turned : (ps : List Place) (r : Turn) (a : Reply) (c : Change) → r ≡ turnOf (front ps) a c → (r .reply ≡ a) × (set ps (r .at) (r .place) ≡ applied ps c)
+turned ps r a c e = (ap (λ (t : Turn). t .reply) e ∙ replied (front ps) a c, ap (λ (t : Turn). set ps (t .at) (t .place)) e ∙ stored ps a c)
+
+pub accepts-row : (ps : List Place) (s m : List ℕ) (r : Turn) (t : List ℕ) → fourPlaces ≤ length ps → AcceptTurn (front ps) s m r t → Accepts ps s m (r .reply) (set ps (r .at) (r .place)) t
+accepts-row ps s m r t h e = let o = accepting (front ps) s m in let (x, y) = turned ps r (o .reply) (o .change) (e .0) in rw (← accepting-front ps s m h) (x, y, e .2)
+
+pub asks-row : (ps : List Place) (s : List ℕ) (n : ℕ) (b w : List ℕ) (r : Turn) (c v : List ℕ) → fourPlaces ≤ length ps → AskTurn (front ps) s n b w r c v → Asks ps s n b w (r .reply) (set ps (r .at) (r .place)) c v
+asks-row ps s n b w r c v h e = let o = asking (front ps) s n b w in let (x, y) = turned ps r (o .reply) (o .change) (e .0) in rw (← asking-front ps s n b w h) (x, y, e .2, e .3)
+
+pub drops-row : (ps : List Place) (s : List ℕ) (n : ℕ) (r : Turn) → fourPlaces ≤ length ps → DropTurn (front ps) s n r → Drops ps s n (r .reply) (set ps (r .at) (r .place))
+drops-row ps s n r h e = let o = dropping (front ps) s n in let (x, y) = turned ps r (o .reply) (o .change) (e .0) in rw (← dropping-front ps s n h) (x, y)
+
+-- ---- fewer
+
+short-tests : (ps : List Place) (s : List ℕ) → length ps < fourPlaces → firstTests ps s ≡ 6
+unfolding firstTests
+short-tests ps s h = ap (λ (z : Bool). cond (z && leb storeBytes (length s)) (cond (goodPlaces ps) 0 4) 6) (lt-leb fourPlaces (length ps) h)
+
+-- a packet's own refusal comes first
+away : (ps : List Place) (s : List ℕ) (o : Out (Packet × List ℕ))
+    → let q = answered (λ x. turnedAway s 6) (turnedAway s) o in (answered (λ x. Refused 6) Refused o ≡ q .reply) × (ps ≡ applied ps (q .change)) × (s ≡ q .store)
+away ps s (accepted x) = (refl, refl, refl)
+away ps s (refused c p) = (refl, refl, refl)
+
+pub accepts-short : (ps : List Place) (s m : List ℕ) (a : Reply) → length ps < fourPlaces → a ≡ answered (λ x. Refused 6) Refused (readRecord packets recordOf m) → Accepts ps s m a ps s
+unfolding accepting
+accepts-short ps s m a h e = rw (e, short-tests ps s h) (away ps s (readRecord packets recordOf m))
+
+pub asks-short : (ps : List Place) (s : List ℕ) (n : ℕ) (b w : List ℕ) → length ps < fourPlaces → Asks ps s n b w (Refused 6) ps b w
+unfolding asking
+asks-short ps s n b w h = rw (short-tests ps s h) (refl, refl, refl, refl)
+
+pub drops-short : (ps : List Place) (s : List ℕ) (n : ℕ) → length ps < fourPlaces → Drops ps s n (Refused 6) ps
+unfolding dropping
+drops-short ps s n h = rw (short-tests ps s h) (refl, refl)
