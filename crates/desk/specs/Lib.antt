@@ -1,0 +1,1 @@
+-- The desk's three calls say what they do by the definitions of `places`.
