@@ -3,8 +3,6 @@
 pub use mathlib.Core.Path.{_≡_, refl, sym, ap, subst}
 pub use Prim.Native.Nat.{ℕ, _<_, _≤_, _^_, _*_}
 pub use native.Mathlib.Omega.{arith}
-use native.Mathlib.Nat.{lt-of-lt-of-le}
-use mathlib.Core.Bool.{not}
 pub use mathlib.Core.List.{List, [], _∷_}
 pub use lib.Dec.{T as Holds, ltb, ltb→lt, nltb→le, lit<}
 pub use lib.ListN.{length, getD, set, length-set}
@@ -25,6 +23,8 @@ unfoldable pub use contract.Running.{givenOf, tables, tablesOf}
 pub use types.Kit.{Given, Item, ‵, raw, _⊛_, some, later, ⋆, atRet, _$_, _∵_, !, qed, by, move, keep, drop, use1, use2, split, join, pick, rewrite, fsplit, fjoin, feqL, suffices, frame, await, done}
 pub use types.Run.{look, look-raw, init, store, store-raw, forget, stop, hop, fld, from, load, lit, addr, of-opd, bin, and-then, no-more, assigns, land, first, branches, skips, exec, returns, returns-within, enter, alloc1, alloc0, params1, pass1, pass0, free1, free0}
 pub use types.Part.{agg, whole, sub, look-in}
+pub use Rattle.desk.proofs.Steps.{local, field-of, sets, lands-as, frees-room, frees-cell, returned}
+pub use Rattle.desk.proofs.Row.{R, mach, vals-of, IsPlace, place-told, spelled, byte-fits, reaches, place-of, place-typed, place-made, points-to, reads-place, stores-place, four-made}
 pub use sound.WpLaws.{FmC, fmOf, WpFn-mono}
 pub use denote.RattleType.{RattleType, owns}
 pub use denote.Laws.{Is, shows, Makes, Tells}
@@ -56,41 +56,10 @@ pub use Rattle.places.specs.declared.Reply.the-variants.{Refused}
 pub use Rattle.places.specs.Places.{blank, fourPlaces, front}
 pub use Rattle.places.specs.Promises.{Accepts, Asks, Drops, AcceptTurn, AskTurn, DropTurn}
 pub use Rattle.places.specs.laws.Row.{accepts-row, asks-row, drops-row, accepts-short, asks-short, drops-short}
-use Rattle.places.proofs.Place as T
-use Rattle.places.proofs.Place.Laws as T′
 use Rattle.places.proofs.Turn as S
 use Rattle.places.proofs.Turn.Laws as S′
 use Rattle.places.proofs.Reply as Q
 use Rattle.places.proofs.Reply.Laws as Q′
-
--- ---- a place
-
-abbrev pub R : RattleType
-R = T.the-row
-
-abbrev pub mach : Place → Val
-mach = T′.lowered
-
-abbrev pub vals-of : Place → List Val
-vals-of p = mach p ∷ []
-
--- its relation, at its machine value written out
-abbrev pub IsPlace : Place → Type 0
-IsPlace p = Is R p (vals-of p)
-
-pub place-told : Tells R (Is R) vals-of
-place-told = T′.lowers .val-is
-
-spelled : (p : Place) (vs : List Val) → Is R p vs → IsPlace p
-spelled p vs g = subst (Is R p) (place-told p vs g) g
-
--- where an element of a slice starts fits
-pub byte-fits : {i l : ℕ} → l * 67 < 2 ^ 63 → i < l → i * 67 < 2 ^ 64
-byte-fits room within = omega arith
-
--- one of the first four is in a row that is not shorter
-pub reaches : {l i : ℕ} → Holds (not (ltb l fourPlaces)) → i < fourPlaces → i < l
-reaches {l} h within = lt-of-lt-of-le within (nltb→le l fourPlaces h)
 
 -- ---- the types of locals
 
@@ -153,19 +122,13 @@ module _ (r : Turn) (w : Val) (is : Is S.the-row r (w ∷ [])) where
 -- ---- under a model
 
 module _ {M : Type 1} (𝓤 : URA M) (H : Heap 𝓤) (A : Atoms 𝓤) (W : Given 𝓤 H A) where
-  pub place-typed : (p : Place) → IsPlace p → Holds (hasTy T′.mir (mach p)) × WT (mach p)
-  place-typed p g = LL.lawful T.the-type T′.the-laws 𝓤 H A W .typed p _ g .0
-
   pub reply-typed : (a : Reply) (w : Val) → Is Q.the-row a (w ∷ []) → Holds (hasTy Q′.mir w) × WT w
   reply-typed a w g = EL.lawful Q.the-type Q′.the-laws 𝓤 H A W tt .typed a _ g .0
 
   pub turn-typed : (r : Turn) (w : Val) → Is turn-row r (w ∷ []) → Holds (hasTy S′.mir w) × WT w
   turn-typed r w is = LL.lawful S.the-type S′.the-laws 𝓤 H A W .typed r _ is .0
 
-  -- what a place and a reply own is had for nothing
-  pub place-made : Makes 𝓤 H A R (Is R)
-  place-made = LL.makes T.the-type T′.the-plain 𝓤 H A
-
+  -- what a reply owns is had for nothing
   pub reply-made : Makes 𝓤 H A Q.the-row (Is Q.the-row)
   reply-made = EL.makes Q.the-type Q′.the-plain 𝓤 H A
 

@@ -1,5 +1,6 @@
--- `desk::accept` meets its contract: a walk of its MIR by hand, printed by tools/walks. Of what it calls the proof knows only that it meets its contract. Assumes nothing.
-use Rattle.desk.proofs.Walk.{_≡_, refl, sym, ap, subst, ℕ, _<_, _≤_, _^_, _*_, arith, List, [], _∷_, Holds, ltb, ltb→lt, nltb→le, lit<, length, getD, set, length-set, URA, fullShare, spell, named, Ty, erased, imm, mut, w8, w16, w64, tyInt, tyBool, tyPtr, tyRef, Val, WT, hasTy, vint, vptr, SProp, ent, sep, emp, via, fst∗, id⊢, Lft, Share, GName, Fml, ftrue, fsep, fat, flft, fobs, fbor, Memory, Routine, Heap, Env, Calls, Loops, WpFn, Tables, Atoms, sem, Fun, fact, Lfts, Shares, toks, givenOf, tables, tablesOf, Given, Item, ‵, raw, _⊛_, some, later, ⋆, atRet, _$_, _∵_, !, qed, by, move, keep, drop, use1, use2, split, join, pick, rewrite, fsplit, fjoin, feqL, suffices, frame, await, done, look, look-raw, init, store, store-raw, forget, stop, hop, fld, from, load, lit, addr, of-opd, bin, and-then, no-more, assigns, land, first, branches, skips, exec, returns, returns-within, enter, alloc1, alloc0, params1, pass1, pass0, free1, free0, agg, whole, sub, look-in, FmC, fmOf, WpFn-mono, RattleType, owns, Is, shows, Makes, Tells, pointee, uint-makes, uint-vals, uint-tells, u8, u16, RefT, sliceVal, sliceTy, MutSlice, Room, heres, codedHoleys, slice-vals, mut-slice-tells, finally, res-finally, ShrSlice, shr-slice-tells, Held, place-is, elem-out, elem-back, elem-put, opens-slice, closes-slice, only, owned, peeks, heard, nothing, Args, Vals, onEntry, Meets, tripleOf, Contract, Triple, calls-at, ensured, lasts, entered, cited, says, Stays, gave-slice, stay-dropped, walkOf, goes-gave-slice, goes-dropped, Walks, ends-at, walked, walk-meets, yes, plain, shrSliceOf, answered, readRecord, packets, recordOf, Place, Turn, Reply, Refused, blank, fourPlaces, front, Accepts, Asks, Drops, AcceptTurn, AskTurn, DropTurn, accepts-row, asks-row, drops-row, accepts-short, asks-short, drops-short, R, mach, vals-of, IsPlace, place-told, byte-fits, reaches, place-ty, turn-ty, reply-ty, IsReply, replied, reply-told, refused-is, reply-row, reply-mir, reply-val, turn-row, turn-mir, turn-val, turn-told, at-fits, placed, said, place-typed, reply-typed, turn-typed, place-made, reply-made, lasting}
+-- `desk::accept` meets its contract: a walk of its MIR by hand, printed by tools/walks. Of what it calls it is known only that it meets its contract.
+-- Assumes nothing.
+use Rattle.desk.proofs.Walk.{_≡_, refl, ℕ, _<_, List, [], _∷_, ltb→lt, nltb→le, lit<, length, getD, set, length-set, URA, spell, named, erased, imm, mut, w8, w64, tyInt, tyBool, tyPtr, tyRef, Val, SProp, ent, sep, emp, via, fst∗, id⊢, GName, Fml, flft, fobs, fbor, Memory, Routine, Heap, Env, Calls, Loops, WpFn, Tables, Atoms, sem, Fun, Lfts, Shares, toks, givenOf, tables, tablesOf, Given, Item, ‵, raw, _⊛_, ⋆, atRet, _$_, _∵_, !, qed, by, move, keep, drop, use1, use2, split, join, fsplit, fjoin, feqL, suffices, frame, done, look, init, store, stop, hop, fld, from, lit, addr, of-opd, bin, and-then, no-more, assigns, first, branches, skips, exec, returns, returns-within, enter, alloc1, alloc0, params1, pass1, pass0, free0, agg, whole, sub, look-in, local, field-of, sets, lands-as, frees-room, frees-cell, returned, R, vals-of, byte-fits, reaches, points-to, reads-place, stores-place, four-made, FmC, fmOf, WpFn-mono, owns, Is, shows, u8, sliceVal, sliceTy, MutSlice, Room, heres, codedHoleys, slice-vals, mut-slice-tells, finally, ShrSlice, shr-slice-tells, Held, opens-slice, closes-slice, owned, peeks, heard, nothing, Args, Vals, onEntry, Meets, tripleOf, Contract, Triple, calls-at, entered, cited, says, Stays, gave-slice, stay-dropped, walkOf, goes-gave-slice, goes-dropped, ends-at, walked, walk-meets, yes, plain, shrSliceOf, answered, readRecord, packets, recordOf, Place, Reply, Refused, blank, fourPlaces, front, Accepts, AcceptTurn, accepts-row, accepts-short, place-ty, turn-ty, reply-ty, IsReply, replied, reply-told, reply-row, reply-val, turn-row, turn-told, at-fits, placed, said, reply-typed, turn-typed, reply-made, lasting}
 use Rattle.desk.proofs.stub_accept as core
 use Rattle.desk.proofs.stub_accept.Symbol as core-def
 use Rattle.desk.proofs.stub_accept.Symbol.{name as #core}
@@ -42,41 +43,33 @@ module _ {M : Type 1} (𝓤 : URA M) (H : Heap 𝓤) (A : Atoms 𝓤) (W : Given
   abbrev m : List ℕ
   m = a .1 .1 .0 .now
 
-  abbrev p : ℕ → Place
-  p k = getD ps k blank
-
   abbrev vals : Vals this.signature κs
   vals = (sliceVal (a .0 .ptr) (length ps) ∷ [], (sliceVal (a .1 .0 .ptr) (length s) ∷ [], (sliceVal (a .1 .1 .0 .ptr) (length m) ∷ [], tt)))
 
+  -- the tokens of the other lifetimes, and what the other parameters own
   abbrev others : Item 𝓤
   others = raw (toks 𝓤 A 2 (κs .1) (qs .1))
 
-  -- what the other parameters own
   abbrev rest : Fml
   rest = owns (MutSlice (named 1) (κs .1 .0) u8 ∷ ShrSlice (named 2) (κs .1 .1 .0) u8 ∷ []) (a .1) (vals .1)
 
   abbrev Post : Val → SProp 𝓤
   Post = walkOf 𝓤 H A this.ended stayed (this.clauses 𝓤 H A mem run) .post ((κs, qs, tt, a, vals), tt)
 
-  abbrev to-args : Args core.signature (κs .1)
-  to-args = (p 0, (p 1, (p 2, (p 3, a .1))))
+  abbrev p : ℕ → Place
+  p k = getD ps k blank
 
   abbrev to-core : Core 𝓤 H A mem run .Ghost
-  to-core = ((κs .1, qs .1, tt, to-args, (vals-of (p 0), (vals-of (p 1), (vals-of (p 2), (vals-of (p 3), vals .1))))), tt)
+  to-core = ((κs .1, qs .1, tt, (p 0, (p 1, (p 2, (p 3, a .1)))), (vals-of (p 0), (vals-of (p 1), (vals-of (p 2), (vals-of (p 3), vals .1))))), tt)
 
-  goes : IsPlace (p 0) → IsPlace (p 1) → IsPlace (p 2) → IsPlace (p 3) → ent 𝓤 (sep 𝓤 (toks 𝓤 A 2 (κs .1) (qs .1)) (sem 𝓤 H A rest)) (Core 𝓤 H A mem run .pre to-core)
-  goes g₀ g₁ g₂ g₃ =
-      qed W (others ∷ ‵ rest ∷ []) ∵ move ! (1 ∷ []) $ owned ! R (Is R) (place-made 𝓤 H A W) (p 3) _ g₃ $ fjoin ! $ owned ! R (Is R) (place-made 𝓤 H A W) (p 2) _ g₂ $ fjoin ! $
-      owned ! R (Is R) (place-made 𝓤 H A W) (p 1) _ g₁ $ fjoin ! $ owned ! R (Is R) (place-made 𝓤 H A W) (p 0) _ g₀ $ fjoin ! $ move ! (1 ∷ 0 ∷ []) $ join ! $ frame ! $ done !
-
-  -- the packet alone, where the row is too short
   abbrev to-short : Short 𝓤 H A mem run .Ghost
   to-short = ((κs .1 .1, qs .1 .1, tt, a .1 .1, vals .1 .1), tt)
 
   short-goes : ent 𝓤 (sep 𝓤 (toks 𝓤 A 1 (κs .1 .1) (qs .1 .1)) (sem 𝓤 H A (owns (ShrSlice (named 2) (κs .1 .1 .0) u8 ∷ []) (a .1 .1) (vals .1 .1)))) (Short 𝓤 H A mem run .pre to-short)
   short-goes = qed W (raw (toks 𝓤 A 1 (κs .1 .1) (qs .1 .1)) ∷ ‵ (owns (ShrSlice (named 2) (κs .1 .1 .0) u8 ∷ []) (a .1 .1) (vals .1 .1)) ∷ []) ∵ join ! $ frame ! $ done !
 
-  exits : (r : Reply) (qs′ : List Place) (s′ : List ℕ) → Accepts ps s m r qs′ s′ → length qs′ ≡ length ps → length s′ ≡ length s → IsReply r → ent 𝓤 (⋆ 𝓤 H A (‵ (fobs γ (codedHoleys R .code (heres R qs′))) ∷ ‵ (fbor (κs .0) (Held R (length qs′) block o γ)) ∷ ‵ (flft (κs .0) (qs .0)) ∷ others ∷ ‵ (finally u8 (a .1 .0 .name) s′) ∷ [])) (Post (reply-val r))
+  exits : (r : Reply) (qs′ : List Place) (s′ : List ℕ) → Accepts ps s m r qs′ s′ → length qs′ ≡ length ps → length s′ ≡ length s → IsReply r
+      → ent 𝓤 (⋆ 𝓤 H A (‵ (fobs γ (codedHoleys R .code (heres R qs′))) ∷ ‵ (fbor (κs .0) (Held R (length qs′) block o γ)) ∷ ‵ (flft (κs .0) (qs .0)) ∷ others ∷ ‵ (finally u8 (a .1 .0 .name) s′) ∷ [])) (Post (reply-val r))
   exits r qs′ s′ e same same₁ is =
       qed W (‵ (fobs γ (codedHoleys R .code (heres R qs′))) ∷ ‵ (fbor (κs .0) (Held R (length qs′) block o γ)) ∷ ‵ (flft (κs .0) (qs .0)) ∷ others ∷ ‵ (finally u8 (a .1 .0 .name) s′) ∷ []) ∵
       suffices ! _ (ends-at 𝓤 H A this.ended stayed (this.clauses 𝓤 H A mem run) W ((κs, qs, tt, a, vals), tt) (reply-val r) r (qs′, (s′, (tt, tt))) (same, (same₁, (tt, tt)))) $ says ! e $
@@ -87,7 +80,7 @@ module _ {M : Type 1} (𝓤 : URA M) (H : Heap 𝓤) (A : Atoms 𝓤) (W : Given
   abbrev En : ℕ → ℕ → ℕ → ℕ → ℕ → ℕ → ℕ → ℕ → ℕ → ℕ → ℕ → ℕ → ℕ → ℕ → ℕ → ℕ → ℕ → ℕ → ℕ → Env 𝓤 H
   En l₀ l₁ l₂ l₃ l₄ l₅ l₆ l₇ l₈ l₉ l₁₀ l₁₁ l₁₂ l₁₃ l₁₄ l₁₅ l₁₆ l₁₇ l₁₈ = (spell mir′.table (reply-ty), l₀) ∷ (spell mir′.table (sliceTy (tyRef (named 0) mut place-ty)), l₁) ∷ (spell mir′.table (sliceTy (tyRef (named 1) mut (tyInt w8))), l₂) ∷ (spell mir′.table (sliceTy (tyRef (named 2) imm (tyInt w8))), l₃) ∷ (spell mir′.table (turn-ty), l₄) ∷ (spell mir′.table (tyInt w64), l₅) ∷ (spell mir′.table (tyInt w64), l₆) ∷ (spell mir′.table (tyBool), l₇) ∷ (spell mir′.table (tyPtr), l₈) ∷ (spell mir′.table (place-ty), l₉) ∷ (spell mir′.table (tyPtr), l₁₀) ∷ (spell mir′.table (place-ty), l₁₁) ∷ (spell mir′.table (tyPtr), l₁₂) ∷ (spell mir′.table (place-ty), l₁₃) ∷ (spell mir′.table (tyPtr), l₁₄) ∷ (spell mir′.table (place-ty), l₁₅) ∷ (spell mir′.table (tyRef erased mut (tyInt w8)), l₁₆) ∷ (spell mir′.table (sliceTy (tyRef erased mut (tyInt w8))), l₁₇) ∷ (spell mir′.table (tyPtr), l₁₈) ∷ []
 
-  module _ (room : Room R (length ps)) (given₁ : Room u8 (length (a .1 .0 .now))) (given₂ : Room u8 (length (a .1 .1 .0 .now))) (C : Calls 𝓤 H) (Λ : Loops 𝓤 H) (fm : FmC 𝓤 H (W .laws) C) (known : Triple 𝓤 (C #core) (Core 𝓤 H A mem run)) (known′ : Triple 𝓤 (C #short) (Short 𝓤 H A mem run)) where
+  module _ (room : Room R (length ps)) (given₁ : Room u8 (length (a .1 .0 .now))) (given₂ : Room u8 (length (a .1 .1 .0 .now))) (C : Calls 𝓤 H) (Λ : Loops 𝓤 H) (fm : FmC 𝓤 H (W .laws) C) (core-known : Triple 𝓤 (C #core) (Core 𝓤 H A mem run)) (short-known : Triple 𝓤 (C #short) (Short 𝓤 H A mem run)) where
     walk : ent 𝓤 (onEntry 𝓤 H A this.signature κs qs a vals) (WpFn 𝓤 H C Λ code.function (sliceVal (a .0 .ptr) (length ps) ∷ sliceVal (a .1 .0 .ptr) (length s) ∷ sliceVal (a .1 .1 .0 .ptr) (length m) ∷ []) Post)
     walk =
         qed W ((‵ (flft (κs .0) (qs .0)) ⊛ others) ∷ ‵ (owns (MutSlice (named 0) (κs .0) R ∷ MutSlice (named 1) (κs .1 .0) u8 ∷ ShrSlice (named 2) (κs .1 .1 .0) u8 ∷ []) a vals) ∷ []) ∵ enter ! C Λ code.function (sliceVal (a .0 .ptr) (length ps) ∷ sliceVal (a .1 .0 .ptr) (length s) ∷ sliceVal (a .1 .1 .0 .ptr) (length m) ∷ []) _ $
@@ -96,70 +89,45 @@ module _ {M : Type 1} (𝓤 : URA M) (H : Heap 𝓤) (A : Atoms 𝓤) (W : Given
         -- [the locals, the last first; the tokens; what the parameters own]
         move ! (38 ∷ 39 ∷ []) $ split ! $ move ! (2 ∷ []) $ fsplit ! $ fsplit ! $ drop ! $ fsplit ! $ move ! (0 ∷ 1 ∷ 3 ∷ 4 ∷ 2 ∷ []) $
         -- [obs; the borrow; its token; the others' tokens; what the rest owns; the locals from 5]
-        assigns ! (of-opd ! (load ! (from ! (fld ! refl (stop !))) (look-in ! 39 (sub ! 1 refl (whole !))))) (from ! (stop !)) (init ! 29 refl (tt, record { fits = room .0 })) $
-        assigns ! (bin ! (load ! (from ! (stop !)) (look ! 29 refl)) (lit ! tt) tt) (from ! (stop !)) (init ! 27 refl (tt, tt)) $
-        first ! $ branches ! (load ! (from ! (stop !)) (look ! 27 refl))
+        sets ! 29 refl (of-opd ! (field-of ! 39 1 refl refl refl)) refl (tt, record { fits = room .0 }) $ sets ! 27 refl (bin ! (local ! 29 refl) (lit ! tt) tt) refl (tt, tt) $
+        first ! $ branches ! (local ! 27 refl)
         (λ h. move ! (3 ∷ []) $ use1 W (‵ (flft (κs .1 .0) (qs .1 .0)) ⊛ raw (toks 𝓤 A 1 (κs .1 .1) (qs .1 .1))) (id⊢ 𝓤 _) $ split ! $ move ! (5 ∷ []) $ fsplit ! $ move ! (3 ∷ 1 ∷ []) $
         use2 W (raw (Short 𝓤 H A mem run .pre to-short)) short-goes $
-        -- [what it asks; the store; its token; obs; the borrow; its token; the locals from 6]
-        calls-at ! fm (Short 𝓤 H A mem run) known′ to-short (and-then ! (load ! (from ! (stop !)) (look ! 36 refl)) (no-more !)) (λ out.
-        use1 W (later (some (λ (r : Reply). (raw (toks 𝓤 A 1 (κs .1 .1) (qs .1 .1)) ⊛ ‵ (reply-row .own r (out ∷ []))) ⊛ raw (ensured 𝓤 H A short.ended (short.clauses 𝓤 H A mem run) (κs .1 .1) (a .1 .1) tt r)))) (id⊢ 𝓤 _) $ await ! tt $ pick ! (λ r. split ! $ move ! (1 ∷ []) $
-        use1 W (some (λ (zs : Unit {0} × Unit {0}). ‵ (lasts short.ended (κs .1 .1) (a .1 .1) zs) ⊛ raw (fact 𝓤 (r ≡ answered (λ x. Refused 6) Refused (readRecord packets recordOf m))))) (id⊢ 𝓤 _) $ pick ! (λ zs.
-        split ! $ drop ! $ heard ! (r ≡ answered (λ x. Refused 6) Refused (readRecord packets recordOf m)) (λ e. split ! $ move ! (1 ∷ []) $ peeks ! reply-row (Is reply-row) (shows 𝓤 H A reply-row) r (out ∷ []) (λ is. drop ! $
-        land ! (from ! (stop !)) (init ! 42 refl (reply-typed 𝓤 H A W r out is)) $ rewrite ! 42 (λ (v : Val). ‵ (fat fullShare reply-mir l₀ 0 v)) (reply-told r out is) refl $
-        returns-within ! Post refl (look ! 42 refl) $ forget ! 28 refl $ forget ! 30 refl $ forget ! 36 refl $ forget ! 38 refl $ forget ! 40 refl $ forget ! 42 refl $
-        move ! (42 ∷ 43 ∷ []) $ free1 ! $ move ! (40 ∷ 41 ∷ []) $ free1 ! $ move ! (38 ∷ 39 ∷ []) $ free1 ! $ move ! (36 ∷ 37 ∷ []) $ free1 ! $ move ! (34 ∷ 35 ∷ []) $ free1 ! $ move ! (32 ∷ 33 ∷ []) $ free1 ! $ move ! (30 ∷ 31 ∷ []) $ free1 ! $ move ! (28 ∷ 29 ∷ []) $ free1 ! $ move ! (26 ∷ 27 ∷ []) $ free1 ! $ move ! (24 ∷ 25 ∷ []) $ free1 ! $ move ! (22 ∷ 23 ∷ []) $ free1 ! $ move ! (20 ∷ 21 ∷ []) $ free1 ! $ move ! (18 ∷ 19 ∷ []) $ free1 ! $ move ! (16 ∷ 17 ∷ []) $ free1 ! $ move ! (14 ∷ 15 ∷ []) $ free1 ! $ move ! (12 ∷ 13 ∷ []) $ free1 ! $ move ! (10 ∷ 11 ∷ []) $ free1 ! $ move ! (8 ∷ 9 ∷ []) $ free1 ! $ move ! (6 ∷ 7 ∷ []) $ free1 ! $ free0 ! $
-        move ! (2 ∷ 0 ∷ []) $ join ! $ move ! (1 ∷ []) $ fsplit ! $ drop ! $ fsplit ! $ use1 W (‵ (finally u8 (a .1 .0 .name) s)) (lasting 𝓤 H A W u8 (κs .1 .0) (a .1 .0 .name) s) $
-        keep ! (3 ∷ 4 ∷ 5 ∷ 2 ∷ 0 ∷ []) $ by ! (exits r ps s (accepts-short ps s m r (ltb→lt (length ps) fourPlaces h) e) refl refl (replied r _ is))))))))
+        -- [what it asks; what the store owns; its token; obs; the borrow; its token; the locals from 6]
+        calls-at ! fm (Short 𝓤 H A mem run) short-known to-short (and-then ! (local ! 36 refl) (no-more !)) (λ out. returned ! tt short.ended (short.clauses 𝓤 H A mem run) to-short out (λ r zs.
+        heard ! (r ≡ answered (λ x. Refused 6) Refused (readRecord packets recordOf m)) (λ e. drop ! $ peeks ! reply-row (Is reply-row) (shows 𝓤 H A reply-row) r (out ∷ []) (λ is. drop ! $
+        lands-as ! 42 refl (reply-told r out is) refl (reply-typed 𝓤 H A W r out is) $
+        returns-within ! Post refl (look ! 42 refl) $ frees-cell ! 42 refl refl $ frees-cell ! 40 refl refl $ frees-cell ! 38 refl refl $ frees-cell ! 36 refl refl $ frees-room ! 34 refl refl $ frees-room ! 32 refl refl $ frees-cell ! 30 refl refl $ frees-cell ! 28 refl refl $ frees-room ! 26 refl refl $ frees-room ! 24 refl refl $ frees-room ! 22 refl refl $ frees-room ! 20 refl refl $ frees-room ! 18 refl refl $ frees-room ! 16 refl refl $ frees-room ! 14 refl refl $ frees-room ! 12 refl refl $ frees-room ! 10 refl refl $ frees-room ! 8 refl refl $ frees-room ! 6 refl refl $ free0 ! $
+        move ! (2 ∷ 0 ∷ []) $ join ! $ move ! (1 ∷ []) $ fsplit ! $ drop ! $ fsplit ! $ use1 W (‵ (finally u8 (a .1 .0 .name) s)) (lasting 𝓤 H A W u8 (κs .1 .0) (a .1 .0 .name) s) $ keep ! (3 ∷ 4 ∷ 5 ∷ 2 ∷ 0 ∷ []) $
+        by ! (exits r ps s (accepts-short ps s m r (ltb→lt (length ps) fourPlaces h) e) refl refl (replied r _ is)))))))
         (λ h. skips ! $ exec ! C Λ (En l₀ l₁ l₂ l₃ l₄ l₅ l₆ l₇ l₈ l₉ l₁₀ l₁₁ l₁₂ l₁₃ l₁₄ l₁₅ l₁₆ l₁₇ l₁₈) mir′.t-4 (atRet (En l₀ l₁ l₂ l₃ l₄ l₅ l₆ l₇ l₈ l₉ l₁₀ l₁₁ l₁₂ l₁₃ l₁₄ l₁₅ l₁₆ l₁₇ l₁₈) Post) $ opens-slice ! tt R ps block o $
-        -- [the row; the open borrow; obs; auth; the others' tokens; what the rest owns; the locals from 6]
-        assigns ! (bin ! (load ! (from ! (fld ! refl (stop !))) (look-in ! 40 (sub ! 0 refl (whole !)))) (lit ! tt) tt) (from ! (stop !)) (init ! 26 refl (tt, tt)) $ rewrite ! 26 (λ (k : ℕ). ‵ (fat fullShare tyPtr l₈ 0 (vptr block k))) (sym (place-is 67 o 0)) refl $
-        elem-out ! R (Is R) (shows 𝓤 H A R) vals-of place-told fullShare ps 0 blank block o (reaches h (lit< tt)) (λ g₀.
-        assigns ! (of-opd ! (load ! (from ! (hop ! (look ! 28 refl) (stop !))) (look-raw ! 0 refl))) (from ! (stop !)) (init ! 26 refl (place-typed 𝓤 H A W (p 0) g₀)) $
-        elem-back ! R fullShare ps 0 blank (vals-of (p 0)) block o (reaches h (lit< tt)) $
-        assigns ! (bin ! (load ! (from ! (fld ! refl (stop !))) (look-in ! 40 (sub ! 0 refl (whole !)))) (lit ! tt) tt) (from ! (stop !)) (init ! 22 refl (tt, tt)) $ rewrite ! 22 (λ (k : ℕ). ‵ (fat fullShare tyPtr l₁₀ 0 (vptr block k))) (sym (place-is 67 o 1)) refl $
-        elem-out ! R (Is R) (shows 𝓤 H A R) vals-of place-told fullShare ps 1 blank block o (reaches h (lit< tt)) (λ g₁.
-        assigns ! (of-opd ! (load ! (from ! (hop ! (look ! 24 refl) (stop !))) (look-raw ! 0 refl))) (from ! (stop !)) (init ! 22 refl (place-typed 𝓤 H A W (p 1) g₁)) $
-        elem-back ! R fullShare ps 1 blank (vals-of (p 1)) block o (reaches h (lit< tt)) $
-        assigns ! (bin ! (load ! (from ! (fld ! refl (stop !))) (look-in ! 40 (sub ! 0 refl (whole !)))) (lit ! tt) tt) (from ! (stop !)) (init ! 18 refl (tt, tt)) $ rewrite ! 18 (λ (k : ℕ). ‵ (fat fullShare tyPtr l₁₂ 0 (vptr block k))) (sym (place-is 67 o 2)) refl $
-        elem-out ! R (Is R) (shows 𝓤 H A R) vals-of place-told fullShare ps 2 blank block o (reaches h (lit< tt)) (λ g₂.
-        assigns ! (of-opd ! (load ! (from ! (hop ! (look ! 20 refl) (stop !))) (look-raw ! 0 refl))) (from ! (stop !)) (init ! 18 refl (place-typed 𝓤 H A W (p 2) g₂)) $
-        elem-back ! R fullShare ps 2 blank (vals-of (p 2)) block o (reaches h (lit< tt)) $
-        assigns ! (bin ! (load ! (from ! (fld ! refl (stop !))) (look-in ! 40 (sub ! 0 refl (whole !)))) (lit ! tt) tt) (from ! (stop !)) (init ! 14 refl (tt, tt)) $ rewrite ! 14 (λ (k : ℕ). ‵ (fat fullShare tyPtr l₁₄ 0 (vptr block k))) (sym (place-is 67 o 3)) refl $
-        elem-out ! R (Is R) (shows 𝓤 H A R) vals-of place-told fullShare ps 3 blank block o (reaches h (lit< tt)) (λ g₃.
-        assigns ! (of-opd ! (load ! (from ! (hop ! (look ! 16 refl) (stop !))) (look-raw ! 0 refl))) (from ! (stop !)) (init ! 14 refl (place-typed 𝓤 H A W (p 3) g₃)) $
-        elem-back ! R fullShare ps 3 blank (vals-of (p 3)) block o (reaches h (lit< tt)) $
+        reads-place ! ps block o 0 25 23 (reaches h (lit< tt)) (field-of ! 40 0 refl refl refl) tt refl refl refl refl refl refl (λ g₀.
+        reads-place ! ps block o 1 21 19 (reaches h (lit< tt)) (field-of ! 40 0 refl refl refl) tt refl refl refl refl refl refl (λ g₁.
+        reads-place ! ps block o 2 17 15 (reaches h (lit< tt)) (field-of ! 40 0 refl refl refl) tt refl refl refl refl refl refl (λ g₂.
+        reads-place ! ps block o 3 13 11 (reaches h (lit< tt)) (field-of ! 40 0 refl refl refl) tt refl refl refl refl refl refl (λ g₃.
         closes-slice ! tt R ps ps refl block o $
-        assigns ! (addr ! (from ! (fld ! refl (hop ! (look-in ! 37 (sub ! 0 refl (whole !))) (stop !))))) (from ! (stop !)) (init ! 9 refl (tt, tt)) $
-        assigns ! (agg ! (and-then ! (load ! (from ! (stop !)) (look ! 9 refl)) (and-then ! (load ! (from ! (fld ! refl (stop !))) (look-in ! 37 (sub ! 1 refl (whole !)))) (no-more !)))) (from ! (stop !)) (init ! 7 refl (tt, (tt, (record { fits = given₁ .0 }, tt)))) $
-        move ! (3 ∷ 4 ∷ []) $ use2 W (raw (Core 𝓤 H A mem run .pre to-core)) (goes g₀ g₁ g₂ g₃) $
+        sets ! 9 refl (addr ! (from ! (fld ! refl (hop ! (look-in ! 37 (sub ! 0 refl (whole !))) (stop !))))) refl (tt, tt) $
+        sets ! 7 refl (agg ! (and-then ! (local ! 9 refl) (and-then ! (field-of ! 37 1 refl refl refl) (no-more !)))) refl (tt, (tt, (record { fits = given₁ .0 }, tt))) $
+        move ! (3 ∷ 4 ∷ []) $ use2 W (raw (Core 𝓤 H A mem run .pre to-core)) (four-made 𝓤 H A W ps (toks 𝓤 A 2 (κs .1) (qs .1)) rest g₀ g₁ g₂ g₃) $
         -- [what the core asks; obs; the borrow; its token; the locals from 4]
-        calls-at ! fm (Core 𝓤 H A mem run) known to-core (and-then ! (load ! (from ! (stop !)) (look ! 22 refl)) (and-then ! (load ! (from ! (stop !)) (look ! 18 refl)) (and-then ! (load ! (from ! (stop !)) (look ! 14 refl)) (and-then ! (load ! (from ! (stop !)) (look ! 10 refl)) (and-then ! (load ! (from ! (stop !)) (look ! 6 refl)) (and-then ! (load ! (from ! (stop !)) (look ! 34 refl)) (no-more !))))))) (λ out.
-        use1 W (later (some (λ (r : Turn). (others ⊛ ‵ (turn-row .own r (out ∷ []))) ⊛ raw (ensured 𝓤 H A core.ended (core.clauses 𝓤 H A mem run) (κs .1) to-args tt r)))) (id⊢ 𝓤 _) $ await ! tt $ pick ! (λ r. split ! $ move ! (1 ∷ []) $
-        use1 W (some (λ (zs : Unit {0} × (Unit {0} × (Unit {0} × (Unit {0} × (List ℕ × (Unit {0} × Unit {0})))))). ‵ (lasts core.ended (κs .1) to-args zs) ⊛ raw (fact 𝓤 (AcceptTurn (front ps) s m r (zs .1 .1 .1 .1 .0))))) (id⊢ 𝓤 _) $ pick ! (λ zs.
-        split ! $ move ! (1 ∷ []) $ heard ! (AcceptTurn (front ps) s m r (zs .1 .1 .1 .1 .0)) (λ e. fsplit ! $ drop ! $ fsplit ! $ drop ! $ fsplit ! $ drop ! $ fsplit ! $ drop ! $ fsplit ! $ fsplit ! $ move ! (1 ∷ []) $ feqL ! (λ same₁. move ! (1 ∷ []) $ drop ! $
-        move ! (1 ∷ []) $ split ! $ move ! (1 ∷ []) $ peeks ! turn-row (Is turn-row) (shows 𝓤 H A turn-row) r (out ∷ []) (λ is.
-        land ! (from ! (stop !)) (init ! 34 refl (turn-typed 𝓤 H A W r out is)) $ rewrite ! 34 (λ (v : Val). ‵ (fat fullShare turn-mir l₄ 0 v)) (turn-told r out is) refl $
-        drop ! $ move ! (2 ∷ 3 ∷ 4 ∷ []) $
+        calls-at ! fm (Core 𝓤 H A mem run) core-known to-core (and-then ! (local ! 22 refl) (and-then ! (local ! 18 refl) (and-then ! (local ! 14 refl) (and-then ! (local ! 10 refl) (and-then ! (local ! 6 refl) (and-then ! (local ! 34 refl) (no-more !))))))) (λ out. returned ! tt core.ended (core.clauses 𝓤 H A mem run) to-core out (λ r zs. heard ! (AcceptTurn (front ps) s m r (zs .1 .1 .1 .1 .0)) (λ e.
+        fsplit ! $ drop ! $ fsplit ! $ drop ! $ fsplit ! $ drop ! $ fsplit ! $ drop ! $ fsplit ! $ fsplit ! $ move ! (1 ∷ []) $ feqL ! (λ same₁. move ! (1 ∷ []) $ drop ! $ move ! (1 ∷ []) $ peeks ! turn-row (Is turn-row) (shows 𝓤 H A turn-row) r (out ∷ []) (λ is.
+        lands-as ! 34 refl (turn-told r out is) refl (turn-typed 𝓤 H A W r out is) $ drop ! $ move ! (2 ∷ 3 ∷ 4 ∷ 1 ∷ []) $
         -- [obs; the borrow; its token; the others' tokens; the last lists; the locals from 5]
-        assigns ! (of-opd ! (load ! (from ! (fld ! refl (stop !))) (look-in ! 33 (sub ! 0 refl (whole !))))) (from ! (stop !)) (init ! 31 refl (tt, record { fits = at-fits r out is })) $
-        assigns ! (bin ! (load ! (from ! (stop !)) (look ! 31 refl)) (lit ! tt) (record { fits = byte-fits (room .1) (reaches h (e .1)) })) (from ! (stop !)) (store ! 29 refl (tt, record { fits = byte-fits (room .1) (reaches h (e .1)) })) $
-        assigns ! (bin ! (load ! (from ! (fld ! refl (stop !))) (look-in ! 39 (sub ! 0 refl (whole !)))) (load ! (from ! (stop !)) (look ! 29 refl)) tt) (from ! (stop !)) (init ! 5 refl (tt, tt)) $ rewrite ! 5 (λ (k : ℕ). ‵ (fat fullShare tyPtr l₁₈ 0 (vptr block k))) (sym (place-is 67 o (r .at))) refl $
-        opens-slice ! tt R ps block o $ elem-out ! R (Is R) (shows 𝓤 H A R) vals-of place-told fullShare ps (r .at) blank block o (reaches h (e .1)) (λ _.
-        assigns ! (of-opd ! (load ! (from ! (fld ! refl (stop !))) (look-in ! 36 (sub ! 1 refl (whole !))))) (from ! (hop ! (look ! 8 refl) (stop !))) (store-raw ! 0 refl (place-typed 𝓤 H A W (r .place) (placed r out is))) $
-        move ! (1 ∷ []) $ drop ! $ owned ! R (Is R) (place-made 𝓤 H A W) (r .place) _ (placed r out is) $ move ! (1 ∷ 0 ∷ []) $ elem-put ! R fullShare ps (r .at) (r .place) (vals-of (r .place)) block o (reaches h (e .1)) $
-        closes-slice ! tt R ps (set ps (r .at) (r .place)) (length-set ps (r .at) (r .place)) block o $
-        assigns ! (of-opd ! (load ! (from ! (fld ! refl (stop !))) (look-in ! 33 (sub ! 2 refl (whole !))))) (from ! (stop !)) (init ! 41 refl (reply-typed 𝓤 H A W (r .reply) _ (said r out is))) $
-        returns ! (look ! 41 refl) $ forget ! 5 refl $ forget ! 7 refl $ forget ! 9 refl $ forget ! 11 refl $ forget ! 13 refl $ forget ! 15 refl $ forget ! 17 refl $ forget ! 19 refl $ forget ! 21 refl $ forget ! 23 refl $ forget ! 25 refl $ forget ! 27 refl $ forget ! 29 refl $ forget ! 31 refl $ forget ! 33 refl $ forget ! 35 refl $ forget ! 37 refl $ forget ! 39 refl $ forget ! 41 refl $
-        move ! (41 ∷ 42 ∷ []) $ free1 ! $ move ! (39 ∷ 40 ∷ []) $ free1 ! $ move ! (37 ∷ 38 ∷ []) $ free1 ! $ move ! (35 ∷ 36 ∷ []) $ free1 ! $ move ! (33 ∷ 34 ∷ []) $ free1 ! $ move ! (31 ∷ 32 ∷ []) $ free1 ! $ move ! (29 ∷ 30 ∷ []) $ free1 ! $ move ! (27 ∷ 28 ∷ []) $ free1 ! $ move ! (25 ∷ 26 ∷ []) $ free1 ! $ move ! (23 ∷ 24 ∷ []) $ free1 ! $ move ! (21 ∷ 22 ∷ []) $ free1 ! $ move ! (19 ∷ 20 ∷ []) $ free1 ! $ move ! (17 ∷ 18 ∷ []) $ free1 ! $ move ! (15 ∷ 16 ∷ []) $ free1 ! $ move ! (13 ∷ 14 ∷ []) $ free1 ! $ move ! (11 ∷ 12 ∷ []) $ free1 ! $ move ! (9 ∷ 10 ∷ []) $ free1 ! $ move ! (7 ∷ 8 ∷ []) $ free1 ! $ move ! (5 ∷ 6 ∷ []) $ free1 ! $ free0 ! $
-        by ! (exits (r .reply) (set ps (r .at) (r .place)) (zs .1 .1 .1 .1 .0) (accepts-row ps s m r (zs .1 .1 .1 .1 .0) (nltb→le (length ps) fourPlaces h) e) (length-set ps (r .at) (r .place)) same₁ (said r out is)))))))))))))))))))))))))))))))))
+        sets ! 31 refl (of-opd ! (field-of ! 33 0 refl refl refl)) refl (tt, record { fits = at-fits r out is }) $
+        assigns ! (bin ! (local ! 31 refl) (lit ! tt) (record { fits = byte-fits (room .1) (reaches h (e .1)) })) (from ! (stop !)) (store ! 29 refl (tt, record { fits = byte-fits (room .1) (reaches h (e .1)) })) $
+        sets ! 5 refl (points-to ! block o (r .at) (field-of ! 39 0 refl refl refl) (local ! 29 refl) refl) refl (tt, tt) $
+        stores-place ! ps block o (r .at) 2 (r .place) (reaches h (e .1)) (placed r out is) refl refl (λ _ _ _ _ _ _. (field-of ! 36 1 refl refl refl)) $
+        sets ! 41 refl (of-opd ! (field-of ! 33 2 refl refl refl)) refl (reply-typed 𝓤 H A W (r .reply) _ (said r out is)) $
+        returns ! (look ! 41 refl) $ frees-cell ! 41 refl refl $ frees-cell ! 39 refl refl $ frees-cell ! 37 refl refl $ frees-cell ! 35 refl refl $ frees-cell ! 33 refl refl $ frees-cell ! 31 refl refl $ frees-cell ! 29 refl refl $ frees-cell ! 27 refl refl $ frees-cell ! 25 refl refl $ frees-cell ! 23 refl refl $ frees-cell ! 21 refl refl $ frees-cell ! 19 refl refl $ frees-cell ! 17 refl refl $ frees-cell ! 15 refl refl $ frees-cell ! 13 refl refl $ frees-cell ! 11 refl refl $ frees-cell ! 9 refl refl $ frees-cell ! 7 refl refl $ frees-cell ! 5 refl refl $ free0 ! $
+        by ! (exits (r .reply) (set ps (r .at) (r .place)) (zs .1 .1 .1 .1 .0) (accepts-row ps s m r (zs .1 .1 .1 .1 .0) (nltb→le (length ps) fourPlaces h) e) (length-set ps (r .at) (r .place)) same₁ (said r out is)))))))))))))))))))))))))))))))
 
 meets : {M : Type 1} (𝓤 : URA M) (H : Heap 𝓤) (A : Atoms 𝓤) → Given 𝓤 H A → (mem : Memory → SProp 𝓤) (run : Routine → Fun 𝓤) (𝓣 : Tables 𝓤 H) → Triple 𝓤 (𝓣 .C #core) (Core 𝓤 H A mem run) → Triple 𝓤 (𝓣 .C #short) (Short 𝓤 H A mem run) → Meets 𝓤 H A this.signature (WpFn 𝓤 H (𝓣 .C) (𝓣 .Λ) code.function) (this.spec 𝓤 H A mem run)
-meets 𝓤 H A W mem run 𝓣 known known′ =
+meets 𝓤 H A W mem run 𝓣 core-known short-known =
     walk-meets 𝓤 H A this.ended stayed W (goes-gave-slice 𝓤 H A W 3 0 tt (plain (λ _. R)), (goes-gave-slice 𝓤 H A W 3 1 tt (plain (λ _. u8)), (goes-dropped 𝓤 H A W 3 (shrSliceOf (2 ∷ []) tt (plain (λ _. u8))) yes (λ κs x f. refl), tt))) (this.clauses 𝓤 H A mem run)
     (WpFn 𝓤 H (𝓣 .C) (𝓣 .Λ) code.function) (WpFn-mono 𝓤 H (W .laws) 𝓣 code.function) (walked 𝓤 H A this.ended stayed (this.clauses 𝓤 H A mem run) (WpFn 𝓤 H (𝓣 .C) (𝓣 .Λ) code.function)
     (λ κs. (slice-vals, (slice-vals, (slice-vals, tt)))) (λ κs. (mut-slice-tells (named 0) (κs .0) R, (mut-slice-tells (named 1) (κs .1 .0) u8, (shr-slice-tells (named 2) (κs .1 .1 .0) u8, tt))))
-    (λ κs qs bounds a g are. via 𝓤 _ (fst∗ 𝓤 _ (emp 𝓤)) (walk 𝓤 H A W mem run κs qs a (are .0 .0 .1) (are .1 .0 .0 .1) (are .1 .1 .0 .0 .1) (𝓣 .C) (𝓣 .Λ) (fmOf 𝓤 H (W .laws) 𝓣) known known′)))
+    (λ κs qs bounds a g are. via 𝓤 _ (fst∗ 𝓤 _ (emp 𝓤)) (walk 𝓤 H A W mem run κs qs a (are .0 .0 .1) (are .1 .0 .0 .1) (are .1 .1 .0 .0 .1) (𝓣 .C) (𝓣 .Λ) (fmOf 𝓤 H (W .laws) 𝓣) core-known short-known)))
 
 pub accept-spec : {M : Type 1} → stated.statement M
 unfolding code.routine tablesOf

@@ -1,5 +1,6 @@
--- `desk::ask` meets its contract: a walk of its MIR by hand, printed by tools/walks. Of what it calls the proof knows only that it meets its contract. Assumes nothing.
-use Rattle.desk.proofs.Walk.{_≡_, refl, sym, ap, subst, ℕ, _<_, _≤_, _^_, _*_, arith, List, [], _∷_, Holds, ltb, ltb→lt, nltb→le, lit<, length, getD, set, length-set, URA, fullShare, spell, named, Ty, erased, imm, mut, w8, w16, w64, tyInt, tyBool, tyPtr, tyRef, Val, WT, hasTy, vint, vptr, SProp, ent, sep, emp, via, fst∗, id⊢, Lft, Share, GName, Fml, ftrue, fsep, fat, flft, fobs, fbor, Memory, Routine, Heap, Env, Calls, Loops, WpFn, Tables, Atoms, sem, Fun, fact, Lfts, Shares, toks, givenOf, tables, tablesOf, Given, Item, ‵, raw, _⊛_, some, later, ⋆, atRet, _$_, _∵_, !, qed, by, move, keep, drop, use1, use2, split, join, pick, rewrite, fsplit, fjoin, feqL, suffices, frame, await, done, look, look-raw, init, store, store-raw, forget, stop, hop, fld, from, load, lit, addr, of-opd, bin, and-then, no-more, assigns, land, first, branches, skips, exec, returns, returns-within, enter, alloc1, alloc0, params1, pass1, pass0, free1, free0, agg, whole, sub, look-in, FmC, fmOf, WpFn-mono, RattleType, owns, Is, shows, Makes, Tells, pointee, uint-makes, uint-vals, uint-tells, u8, u16, RefT, sliceVal, sliceTy, MutSlice, Room, heres, codedHoleys, slice-vals, mut-slice-tells, finally, res-finally, ShrSlice, shr-slice-tells, Held, place-is, elem-out, elem-back, elem-put, opens-slice, closes-slice, only, owned, peeks, heard, nothing, Args, Vals, onEntry, Meets, tripleOf, Contract, Triple, calls-at, ensured, lasts, entered, cited, says, Stays, gave-slice, stay-dropped, walkOf, goes-gave-slice, goes-dropped, Walks, ends-at, walked, walk-meets, yes, plain, shrSliceOf, answered, readRecord, packets, recordOf, Place, Turn, Reply, Refused, blank, fourPlaces, front, Accepts, Asks, Drops, AcceptTurn, AskTurn, DropTurn, accepts-row, asks-row, drops-row, accepts-short, asks-short, drops-short, R, mach, vals-of, IsPlace, place-told, byte-fits, reaches, place-ty, turn-ty, reply-ty, IsReply, replied, reply-told, refused-is, reply-row, reply-mir, reply-val, turn-row, turn-mir, turn-val, turn-told, at-fits, placed, said, place-typed, reply-typed, turn-typed, place-made, reply-made, lasting}
+-- `desk::ask` meets its contract: a walk of its MIR by hand, printed by tools/walks. Of what it calls it is known only that it meets its contract.
+-- Assumes nothing.
+use Rattle.desk.proofs.Walk.{_≡_, refl, ℕ, _<_, _^_, List, [], _∷_, ltb→lt, nltb→le, lit<, length, getD, set, length-set, URA, spell, named, erased, imm, mut, w8, w16, w64, tyInt, tyBool, tyPtr, tyRef, Val, vint, SProp, ent, emp, via, fst∗, GName, Fml, flft, fobs, fbor, Memory, Routine, Heap, Env, Calls, Loops, WpFn, Tables, Atoms, Fun, Lfts, Shares, toks, givenOf, tables, tablesOf, Given, Item, ‵, raw, _⊛_, ⋆, atRet, _$_, _∵_, !, qed, by, move, keep, drop, use1, use2, split, join, fsplit, fjoin, feqL, suffices, frame, done, look, init, store, stop, hop, fld, from, lit, addr, of-opd, bin, and-then, no-more, assigns, first, branches, skips, exec, returns, returns-within, enter, alloc1, alloc0, params1, pass1, pass0, free0, agg, whole, sub, look-in, local, field-of, sets, lands-as, frees-room, frees-cell, returned, R, vals-of, byte-fits, reaches, points-to, reads-place, stores-place, four-made, FmC, fmOf, WpFn-mono, owns, Is, shows, uint-vals, uint-tells, u8, u16, sliceVal, sliceTy, MutSlice, Room, heres, codedHoleys, slice-vals, mut-slice-tells, finally, ShrSlice, shr-slice-tells, Held, opens-slice, closes-slice, owned, peeks, heard, nothing, Args, Vals, onEntry, Meets, tripleOf, Contract, Triple, calls-at, entered, cited, says, Stays, gave-slice, stay-dropped, walkOf, goes-gave-slice, goes-dropped, ends-at, walked, walk-meets, yes, plain, shrSliceOf, Place, Reply, Refused, blank, fourPlaces, front, Asks, AskTurn, asks-row, asks-short, place-ty, turn-ty, reply-ty, IsReply, refused-is, reply-row, reply-val, turn-row, turn-told, at-fits, placed, said, reply-typed, turn-typed, reply-made, lasting}
 use Rattle.desk.proofs.stub_ask as core
 use Rattle.desk.proofs.stub_ask.Symbol as core-def
 use Rattle.desk.proofs.stub_ask.Symbol.{name as #core}
@@ -41,34 +42,27 @@ module _ {M : Type 1} (𝓤 : URA M) (H : Heap 𝓤) (A : Atoms 𝓤) (W : Given
   abbrev w : List ℕ
   w = a .1 .1 .1 .1 .0 .now
 
-  abbrev p : ℕ → Place
-  p k = getD ps k blank
-
   abbrev vals : Vals this.signature κs
   vals = (sliceVal (a .0 .ptr) (length ps) ∷ [], (sliceVal (a .1 .0 .ptr) (length s) ∷ [], (vint w8 n ∷ [], (sliceVal (a .1 .1 .1 .0 .ptr) (length b) ∷ [], (sliceVal (a .1 .1 .1 .1 .0 .ptr) (length w) ∷ [], tt)))))
 
+  -- the tokens of the other lifetimes, and what the other parameters own
   abbrev others : Item 𝓤
   others = raw (toks 𝓤 A 3 (κs .1) (qs .1))
 
-  -- what the other parameters own
   abbrev rest : Fml
   rest = owns (ShrSlice (named 1) (κs .1 .0) u8 ∷ u8 ∷ MutSlice (named 2) (κs .1 .1 .0) u8 ∷ MutSlice (named 3) (κs .1 .1 .1 .0) u16 ∷ []) (a .1) (vals .1)
 
   abbrev Post : Val → SProp 𝓤
   Post = walkOf 𝓤 H A this.ended stayed (this.clauses 𝓤 H A mem run) .post ((κs, qs, tt, a, vals), tt)
 
-  abbrev to-args : Args core.signature (κs .1)
-  to-args = (p 0, (p 1, (p 2, (p 3, a .1))))
+  abbrev p : ℕ → Place
+  p k = getD ps k blank
 
   abbrev to-core : Core 𝓤 H A mem run .Ghost
-  to-core = ((κs .1, qs .1, tt, to-args, (vals-of (p 0), (vals-of (p 1), (vals-of (p 2), (vals-of (p 3), vals .1))))), tt)
+  to-core = ((κs .1, qs .1, tt, (p 0, (p 1, (p 2, (p 3, a .1)))), (vals-of (p 0), (vals-of (p 1), (vals-of (p 2), (vals-of (p 3), vals .1))))), tt)
 
-  goes : IsPlace (p 0) → IsPlace (p 1) → IsPlace (p 2) → IsPlace (p 3) → ent 𝓤 (sep 𝓤 (toks 𝓤 A 3 (κs .1) (qs .1)) (sem 𝓤 H A rest)) (Core 𝓤 H A mem run .pre to-core)
-  goes g₀ g₁ g₂ g₃ =
-      qed W (others ∷ ‵ rest ∷ []) ∵ move ! (1 ∷ []) $ owned ! R (Is R) (place-made 𝓤 H A W) (p 3) _ g₃ $ fjoin ! $ owned ! R (Is R) (place-made 𝓤 H A W) (p 2) _ g₂ $ fjoin ! $
-      owned ! R (Is R) (place-made 𝓤 H A W) (p 1) _ g₁ $ fjoin ! $ owned ! R (Is R) (place-made 𝓤 H A W) (p 0) _ g₀ $ fjoin ! $ move ! (1 ∷ 0 ∷ []) $ join ! $ frame ! $ done !
-
-  exits : (r : Reply) (qs′ : List Place) (b′ : List ℕ) (w′ : List ℕ) → Asks ps s n b w r qs′ b′ w′ → length qs′ ≡ length ps → length b′ ≡ length b → length w′ ≡ length w → IsReply r → ent 𝓤 (⋆ 𝓤 H A (‵ (fobs γ (codedHoleys R .code (heres R qs′))) ∷ ‵ (fbor (κs .0) (Held R (length qs′) block o γ)) ∷ ‵ (flft (κs .0) (qs .0)) ∷ others ∷ ‵ (finally u16 (a .1 .1 .1 .1 .0 .name) w′) ∷ ‵ (finally u8 (a .1 .1 .1 .0 .name) b′) ∷ [])) (Post (reply-val r))
+  exits : (r : Reply) (qs′ : List Place) (b′ : List ℕ) (w′ : List ℕ) → Asks ps s n b w r qs′ b′ w′ → length qs′ ≡ length ps → length b′ ≡ length b → length w′ ≡ length w → IsReply r
+      → ent 𝓤 (⋆ 𝓤 H A (‵ (fobs γ (codedHoleys R .code (heres R qs′))) ∷ ‵ (fbor (κs .0) (Held R (length qs′) block o γ)) ∷ ‵ (flft (κs .0) (qs .0)) ∷ others ∷ ‵ (finally u16 (a .1 .1 .1 .1 .0 .name) w′) ∷ ‵ (finally u8 (a .1 .1 .1 .0 .name) b′) ∷ [])) (Post (reply-val r))
   exits r qs′ b′ w′ e same same₃ same₄ is =
       qed W (‵ (fobs γ (codedHoleys R .code (heres R qs′))) ∷ ‵ (fbor (κs .0) (Held R (length qs′) block o γ)) ∷ ‵ (flft (κs .0) (qs .0)) ∷ others ∷ ‵ (finally u16 (a .1 .1 .1 .1 .0 .name) w′) ∷ ‵ (finally u8 (a .1 .1 .1 .0 .name) b′) ∷ []) ∵
       suffices ! _ (ends-at 𝓤 H A this.ended stayed (this.clauses 𝓤 H A mem run) W ((κs, qs, tt, a, vals), tt) (reply-val r) r (qs′, (tt, (tt, (b′, (w′, tt))))) (same, (tt, (tt, (same₃, (same₄, tt)))))) $ says ! e $
@@ -79,7 +73,7 @@ module _ {M : Type 1} (𝓤 : URA M) (H : Heap 𝓤) (A : Atoms 𝓤) (W : Given
   abbrev En : ℕ → ℕ → ℕ → ℕ → ℕ → ℕ → ℕ → ℕ → ℕ → ℕ → ℕ → ℕ → ℕ → ℕ → ℕ → ℕ → ℕ → ℕ → ℕ → ℕ → ℕ → ℕ → ℕ → Env 𝓤 H
   En l₀ l₁ l₂ l₃ l₄ l₅ l₆ l₇ l₈ l₉ l₁₀ l₁₁ l₁₂ l₁₃ l₁₄ l₁₅ l₁₆ l₁₇ l₁₈ l₁₉ l₂₀ l₂₁ l₂₂ = (spell mir′.table (reply-ty), l₀) ∷ (spell mir′.table (sliceTy (tyRef (named 0) mut place-ty)), l₁) ∷ (spell mir′.table (sliceTy (tyRef (named 1) imm (tyInt w8))), l₂) ∷ (spell mir′.table (tyInt w8), l₃) ∷ (spell mir′.table (sliceTy (tyRef (named 2) mut (tyInt w8))), l₄) ∷ (spell mir′.table (sliceTy (tyRef (named 3) mut (tyInt w16))), l₅) ∷ (spell mir′.table (turn-ty), l₆) ∷ (spell mir′.table (tyInt w64), l₇) ∷ (spell mir′.table (tyInt w64), l₈) ∷ (spell mir′.table (tyBool), l₉) ∷ (spell mir′.table (tyPtr), l₁₀) ∷ (spell mir′.table (place-ty), l₁₁) ∷ (spell mir′.table (tyPtr), l₁₂) ∷ (spell mir′.table (place-ty), l₁₃) ∷ (spell mir′.table (tyPtr), l₁₄) ∷ (spell mir′.table (place-ty), l₁₅) ∷ (spell mir′.table (tyPtr), l₁₆) ∷ (spell mir′.table (place-ty), l₁₇) ∷ (spell mir′.table (tyRef erased mut (tyInt w8)), l₁₈) ∷ (spell mir′.table (sliceTy (tyRef erased mut (tyInt w8))), l₁₉) ∷ (spell mir′.table (tyRef erased mut (tyInt w16)), l₂₀) ∷ (spell mir′.table (sliceTy (tyRef erased mut (tyInt w16))), l₂₁) ∷ (spell mir′.table (tyPtr), l₂₂) ∷ []
 
-  module _ (room : Room R (length ps)) (given₁ : Room u8 (length (a .1 .0 .now))) (given₂ : a .1 .1 .0 < 2 ^ 8) (given₃ : Room u8 (length (a .1 .1 .1 .0 .now))) (given₄ : Room u16 (length (a .1 .1 .1 .1 .0 .now))) (C : Calls 𝓤 H) (Λ : Loops 𝓤 H) (fm : FmC 𝓤 H (W .laws) C) (known : Triple 𝓤 (C #core) (Core 𝓤 H A mem run)) where
+  module _ (room : Room R (length ps)) (given₁ : Room u8 (length (a .1 .0 .now))) (given₂ : a .1 .1 .0 < 2 ^ 8) (given₃ : Room u8 (length (a .1 .1 .1 .0 .now))) (given₄ : Room u16 (length (a .1 .1 .1 .1 .0 .now))) (C : Calls 𝓤 H) (Λ : Loops 𝓤 H) (fm : FmC 𝓤 H (W .laws) C) (core-known : Triple 𝓤 (C #core) (Core 𝓤 H A mem run)) where
     walk : ent 𝓤 (onEntry 𝓤 H A this.signature κs qs a vals) (WpFn 𝓤 H C Λ code.function (sliceVal (a .0 .ptr) (length ps) ∷ sliceVal (a .1 .0 .ptr) (length s) ∷ vint w8 n ∷ sliceVal (a .1 .1 .1 .0 .ptr) (length b) ∷ sliceVal (a .1 .1 .1 .1 .0 .ptr) (length w) ∷ []) Post)
     walk =
         qed W ((‵ (flft (κs .0) (qs .0)) ⊛ others) ∷ ‵ (owns (MutSlice (named 0) (κs .0) R ∷ ShrSlice (named 1) (κs .1 .0) u8 ∷ u8 ∷ MutSlice (named 2) (κs .1 .1 .0) u8 ∷ MutSlice (named 3) (κs .1 .1 .1 .0) u16 ∷ []) a vals) ∷ []) ∵ enter ! C Λ code.function (sliceVal (a .0 .ptr) (length ps) ∷ sliceVal (a .1 .0 .ptr) (length s) ∷ vint w8 n ∷ sliceVal (a .1 .1 .1 .0 .ptr) (length b) ∷ sliceVal (a .1 .1 .1 .1 .0 .ptr) (length w) ∷ []) _ $
@@ -88,64 +82,42 @@ module _ {M : Type 1} (𝓤 : URA M) (H : Heap 𝓤) (A : Atoms 𝓤) (W : Given
         -- [the locals, the last first; the tokens; what the parameters own]
         move ! (46 ∷ 47 ∷ []) $ split ! $ move ! (2 ∷ []) $ fsplit ! $ fsplit ! $ drop ! $ fsplit ! $ move ! (0 ∷ 1 ∷ 3 ∷ 4 ∷ 2 ∷ []) $
         -- [obs; the borrow; its token; the others' tokens; what the rest owns; the locals from 5]
-        assigns ! (of-opd ! (load ! (from ! (fld ! refl (stop !))) (look-in ! 47 (sub ! 1 refl (whole !))))) (from ! (stop !)) (init ! 33 refl (tt, record { fits = room .0 })) $
-        assigns ! (bin ! (load ! (from ! (stop !)) (look ! 33 refl)) (lit ! tt) tt) (from ! (stop !)) (init ! 31 refl (tt, tt)) $
-        first ! $ branches ! (load ! (from ! (stop !)) (look ! 31 refl))
-        (λ h. assigns ! (agg ! (and-then ! (lit ! tt) (and-then ! (lit ! tt) (no-more !)))) (from ! (stop !)) (init ! 49 refl (reply-typed 𝓤 H A W (Refused 6) _ refused-is)) $
-        returns-within ! Post refl (look ! 49 refl) $ forget ! 31 refl $ forget ! 33 refl $ forget ! 39 refl $ forget ! 41 refl $ forget ! 43 refl $ forget ! 45 refl $ forget ! 47 refl $ forget ! 49 refl $
-        move ! (49 ∷ 50 ∷ []) $ free1 ! $ move ! (47 ∷ 48 ∷ []) $ free1 ! $ move ! (45 ∷ 46 ∷ []) $ free1 ! $ move ! (43 ∷ 44 ∷ []) $ free1 ! $ move ! (41 ∷ 42 ∷ []) $ free1 ! $ move ! (39 ∷ 40 ∷ []) $ free1 ! $ move ! (37 ∷ 38 ∷ []) $ free1 ! $ move ! (35 ∷ 36 ∷ []) $ free1 ! $ move ! (33 ∷ 34 ∷ []) $ free1 ! $ move ! (31 ∷ 32 ∷ []) $ free1 ! $ move ! (29 ∷ 30 ∷ []) $ free1 ! $ move ! (27 ∷ 28 ∷ []) $ free1 ! $ move ! (25 ∷ 26 ∷ []) $ free1 ! $ move ! (23 ∷ 24 ∷ []) $ free1 ! $ move ! (21 ∷ 22 ∷ []) $ free1 ! $ move ! (19 ∷ 20 ∷ []) $ free1 ! $ move ! (17 ∷ 18 ∷ []) $ free1 ! $ move ! (15 ∷ 16 ∷ []) $ free1 ! $ move ! (13 ∷ 14 ∷ []) $ free1 ! $ move ! (11 ∷ 12 ∷ []) $ free1 ! $ move ! (9 ∷ 10 ∷ []) $ free1 ! $ move ! (7 ∷ 8 ∷ []) $ free1 ! $ move ! (5 ∷ 6 ∷ []) $ free1 ! $ free0 ! $
-        move ! (4 ∷ []) $ fsplit ! $ drop ! $ fsplit ! $ drop ! $ fsplit ! $ fsplit ! $ drop ! $ fsplit ! $ use1 W (‵ (finally u8 (a .1 .1 .1 .0 .name) b)) (lasting 𝓤 H A W u8 (κs .1 .1 .0) (a .1 .1 .1 .0 .name) b) $ move ! (1 ∷ []) $ drop ! $ move ! (1 ∷ []) $ fsplit ! $ fsplit ! $ drop ! $ fsplit ! $ use1 W (‵ (finally u16 (a .1 .1 .1 .1 .0 .name) w)) (lasting 𝓤 H A W u16 (κs .1 .1 .1 .0) (a .1 .1 .1 .1 .0 .name) w) $ move ! (1 ∷ []) $ drop ! $ move ! (1 ∷ []) $ drop ! $ keep ! (2 ∷ 3 ∷ 4 ∷ 5 ∷ 0 ∷ 1 ∷ []) $ by ! (exits (Refused 6) ps b w (asks-short ps s n b w (ltb→lt (length ps) fourPlaces h)) refl refl refl refused-is))
+        sets ! 33 refl (of-opd ! (field-of ! 47 1 refl refl refl)) refl (tt, record { fits = room .0 }) $ sets ! 31 refl (bin ! (local ! 33 refl) (lit ! tt) tt) refl (tt, tt) $
+        first ! $ branches ! (local ! 31 refl)
+        (λ h. sets ! 49 refl (agg ! (and-then ! (lit ! tt) (and-then ! (lit ! tt) (no-more !)))) refl (reply-typed 𝓤 H A W (Refused 6) _ refused-is) $
+        returns-within ! Post refl (look ! 49 refl) $ frees-cell ! 49 refl refl $ frees-cell ! 47 refl refl $ frees-cell ! 45 refl refl $ frees-cell ! 43 refl refl $ frees-cell ! 41 refl refl $ frees-cell ! 39 refl refl $ frees-room ! 37 refl refl $ frees-room ! 35 refl refl $ frees-cell ! 33 refl refl $ frees-cell ! 31 refl refl $ frees-room ! 29 refl refl $ frees-room ! 27 refl refl $ frees-room ! 25 refl refl $ frees-room ! 23 refl refl $ frees-room ! 21 refl refl $ frees-room ! 19 refl refl $ frees-room ! 17 refl refl $ frees-room ! 15 refl refl $ frees-room ! 13 refl refl $ frees-room ! 11 refl refl $ frees-room ! 9 refl refl $ frees-room ! 7 refl refl $ frees-room ! 5 refl refl $ free0 ! $
+        move ! (4 ∷ []) $ fsplit ! $ drop ! $ fsplit ! $ drop ! $ fsplit ! $ fsplit ! $ drop ! $ fsplit ! $ use1 W (‵ (finally u8 (a .1 .1 .1 .0 .name) b)) (lasting 𝓤 H A W u8 (κs .1 .1 .0) (a .1 .1 .1 .0 .name) b) $ move ! (1 ∷ []) $ drop ! $ move ! (1 ∷ []) $ fsplit ! $ fsplit ! $ drop ! $ fsplit ! $ use1 W (‵ (finally u16 (a .1 .1 .1 .1 .0 .name) w)) (lasting 𝓤 H A W u16 (κs .1 .1 .1 .0) (a .1 .1 .1 .1 .0 .name) w) $ move ! (1 ∷ []) $ drop ! $ move ! (1 ∷ []) $ keep ! (3 ∷ 4 ∷ 5 ∷ 6 ∷ 1 ∷ 2 ∷ []) $
+        by ! (exits (Refused 6) ps b w (asks-short ps s n b w (ltb→lt (length ps) fourPlaces h)) refl refl refl refused-is))
         (λ h. skips ! $ exec ! C Λ (En l₀ l₁ l₂ l₃ l₄ l₅ l₆ l₇ l₈ l₉ l₁₀ l₁₁ l₁₂ l₁₃ l₁₄ l₁₅ l₁₆ l₁₇ l₁₈ l₁₉ l₂₀ l₂₁ l₂₂) mir′.t-4 (atRet (En l₀ l₁ l₂ l₃ l₄ l₅ l₆ l₇ l₈ l₉ l₁₀ l₁₁ l₁₂ l₁₃ l₁₄ l₁₅ l₁₆ l₁₇ l₁₈ l₁₉ l₂₀ l₂₁ l₂₂) Post) $ opens-slice ! tt R ps block o $
-        -- [the row; the open borrow; obs; auth; the others' tokens; what the rest owns; the locals from 6]
-        assigns ! (bin ! (load ! (from ! (fld ! refl (stop !))) (look-in ! 48 (sub ! 0 refl (whole !)))) (lit ! tt) tt) (from ! (stop !)) (init ! 30 refl (tt, tt)) $ rewrite ! 30 (λ (k : ℕ). ‵ (fat fullShare tyPtr l₁₀ 0 (vptr block k))) (sym (place-is 67 o 0)) refl $
-        elem-out ! R (Is R) (shows 𝓤 H A R) vals-of place-told fullShare ps 0 blank block o (reaches h (lit< tt)) (λ g₀.
-        assigns ! (of-opd ! (load ! (from ! (hop ! (look ! 32 refl) (stop !))) (look-raw ! 0 refl))) (from ! (stop !)) (init ! 30 refl (place-typed 𝓤 H A W (p 0) g₀)) $
-        elem-back ! R fullShare ps 0 blank (vals-of (p 0)) block o (reaches h (lit< tt)) $
-        assigns ! (bin ! (load ! (from ! (fld ! refl (stop !))) (look-in ! 48 (sub ! 0 refl (whole !)))) (lit ! tt) tt) (from ! (stop !)) (init ! 26 refl (tt, tt)) $ rewrite ! 26 (λ (k : ℕ). ‵ (fat fullShare tyPtr l₁₂ 0 (vptr block k))) (sym (place-is 67 o 1)) refl $
-        elem-out ! R (Is R) (shows 𝓤 H A R) vals-of place-told fullShare ps 1 blank block o (reaches h (lit< tt)) (λ g₁.
-        assigns ! (of-opd ! (load ! (from ! (hop ! (look ! 28 refl) (stop !))) (look-raw ! 0 refl))) (from ! (stop !)) (init ! 26 refl (place-typed 𝓤 H A W (p 1) g₁)) $
-        elem-back ! R fullShare ps 1 blank (vals-of (p 1)) block o (reaches h (lit< tt)) $
-        assigns ! (bin ! (load ! (from ! (fld ! refl (stop !))) (look-in ! 48 (sub ! 0 refl (whole !)))) (lit ! tt) tt) (from ! (stop !)) (init ! 22 refl (tt, tt)) $ rewrite ! 22 (λ (k : ℕ). ‵ (fat fullShare tyPtr l₁₄ 0 (vptr block k))) (sym (place-is 67 o 2)) refl $
-        elem-out ! R (Is R) (shows 𝓤 H A R) vals-of place-told fullShare ps 2 blank block o (reaches h (lit< tt)) (λ g₂.
-        assigns ! (of-opd ! (load ! (from ! (hop ! (look ! 24 refl) (stop !))) (look-raw ! 0 refl))) (from ! (stop !)) (init ! 22 refl (place-typed 𝓤 H A W (p 2) g₂)) $
-        elem-back ! R fullShare ps 2 blank (vals-of (p 2)) block o (reaches h (lit< tt)) $
-        assigns ! (bin ! (load ! (from ! (fld ! refl (stop !))) (look-in ! 48 (sub ! 0 refl (whole !)))) (lit ! tt) tt) (from ! (stop !)) (init ! 18 refl (tt, tt)) $ rewrite ! 18 (λ (k : ℕ). ‵ (fat fullShare tyPtr l₁₆ 0 (vptr block k))) (sym (place-is 67 o 3)) refl $
-        elem-out ! R (Is R) (shows 𝓤 H A R) vals-of place-told fullShare ps 3 blank block o (reaches h (lit< tt)) (λ g₃.
-        assigns ! (of-opd ! (load ! (from ! (hop ! (look ! 20 refl) (stop !))) (look-raw ! 0 refl))) (from ! (stop !)) (init ! 18 refl (place-typed 𝓤 H A W (p 3) g₃)) $
-        elem-back ! R fullShare ps 3 blank (vals-of (p 3)) block o (reaches h (lit< tt)) $
+        reads-place ! ps block o 0 29 27 (reaches h (lit< tt)) (field-of ! 48 0 refl refl refl) tt refl refl refl refl refl refl (λ g₀.
+        reads-place ! ps block o 1 25 23 (reaches h (lit< tt)) (field-of ! 48 0 refl refl refl) tt refl refl refl refl refl refl (λ g₁.
+        reads-place ! ps block o 2 21 19 (reaches h (lit< tt)) (field-of ! 48 0 refl refl refl) tt refl refl refl refl refl refl (λ g₂.
+        reads-place ! ps block o 3 17 15 (reaches h (lit< tt)) (field-of ! 48 0 refl refl refl) tt refl refl refl refl refl refl (λ g₃.
         closes-slice ! tt R ps ps refl block o $
-        assigns ! (addr ! (from ! (fld ! refl (hop ! (look-in ! 41 (sub ! 0 refl (whole !))) (stop !))))) (from ! (stop !)) (init ! 13 refl (tt, tt)) $
-        assigns ! (agg ! (and-then ! (load ! (from ! (stop !)) (look ! 13 refl)) (and-then ! (load ! (from ! (fld ! refl (stop !))) (look-in ! 41 (sub ! 1 refl (whole !)))) (no-more !)))) (from ! (stop !)) (init ! 11 refl (tt, (tt, (record { fits = given₃ .0 }, tt)))) $
-        assigns ! (addr ! (from ! (fld ! refl (hop ! (look-in ! 39 (sub ! 0 refl (whole !))) (stop !))))) (from ! (stop !)) (init ! 9 refl (tt, tt)) $
-        assigns ! (agg ! (and-then ! (load ! (from ! (stop !)) (look ! 9 refl)) (and-then ! (load ! (from ! (fld ! refl (stop !))) (look-in ! 39 (sub ! 1 refl (whole !)))) (no-more !)))) (from ! (stop !)) (init ! 7 refl (tt, (tt, (record { fits = given₄ .0 }, tt)))) $
-        move ! (3 ∷ 4 ∷ []) $ use2 W (raw (Core 𝓤 H A mem run .pre to-core)) (goes g₀ g₁ g₂ g₃) $
+        sets ! 13 refl (addr ! (from ! (fld ! refl (hop ! (look-in ! 41 (sub ! 0 refl (whole !))) (stop !))))) refl (tt, tt) $
+        sets ! 11 refl (agg ! (and-then ! (local ! 13 refl) (and-then ! (field-of ! 41 1 refl refl refl) (no-more !)))) refl (tt, (tt, (record { fits = given₃ .0 }, tt))) $
+        sets ! 9 refl (addr ! (from ! (fld ! refl (hop ! (look-in ! 39 (sub ! 0 refl (whole !))) (stop !))))) refl (tt, tt) $
+        sets ! 7 refl (agg ! (and-then ! (local ! 9 refl) (and-then ! (field-of ! 39 1 refl refl refl) (no-more !)))) refl (tt, (tt, (record { fits = given₄ .0 }, tt))) $
+        move ! (3 ∷ 4 ∷ []) $ use2 W (raw (Core 𝓤 H A mem run .pre to-core)) (four-made 𝓤 H A W ps (toks 𝓤 A 3 (κs .1) (qs .1)) rest g₀ g₁ g₂ g₃) $
         -- [what the core asks; obs; the borrow; its token; the locals from 4]
-        calls-at ! fm (Core 𝓤 H A mem run) known to-core (and-then ! (load ! (from ! (stop !)) (look ! 26 refl)) (and-then ! (load ! (from ! (stop !)) (look ! 22 refl)) (and-then ! (load ! (from ! (stop !)) (look ! 18 refl)) (and-then ! (load ! (from ! (stop !)) (look ! 14 refl)) (and-then ! (load ! (from ! (stop !)) (look ! 44 refl)) (and-then ! (load ! (from ! (stop !)) (look ! 42 refl)) (and-then ! (load ! (from ! (stop !)) (look ! 10 refl)) (and-then ! (load ! (from ! (stop !)) (look ! 6 refl)) (no-more !))))))))) (λ out.
-        use1 W (later (some (λ (r : Turn). (others ⊛ ‵ (turn-row .own r (out ∷ []))) ⊛ raw (ensured 𝓤 H A core.ended (core.clauses 𝓤 H A mem run) (κs .1) to-args tt r)))) (id⊢ 𝓤 _) $ await ! tt $ pick ! (λ r. split ! $ move ! (1 ∷ []) $
-        use1 W (some (λ (zs : Unit {0} × (Unit {0} × (Unit {0} × (Unit {0} × (Unit {0} × (Unit {0} × (List ℕ × (List ℕ × Unit {0})))))))). ‵ (lasts core.ended (κs .1) to-args zs) ⊛ raw (fact 𝓤 (AskTurn (front ps) s n b w r (zs .1 .1 .1 .1 .1 .1 .0) (zs .1 .1 .1 .1 .1 .1 .1 .0))))) (id⊢ 𝓤 _) $ pick ! (λ zs.
-        split ! $ move ! (1 ∷ []) $ heard ! (AskTurn (front ps) s n b w r (zs .1 .1 .1 .1 .1 .1 .0) (zs .1 .1 .1 .1 .1 .1 .1 .0)) (λ e. fsplit ! $ drop ! $ fsplit ! $ drop ! $ fsplit ! $ drop ! $ fsplit ! $ drop ! $ fsplit ! $ drop ! $ fsplit ! $ drop ! $ fsplit ! $ fsplit ! $ move ! (1 ∷ []) $ feqL ! (λ same₃. move ! (1 ∷ []) $ fsplit ! $ fsplit ! $ move ! (1 ∷ []) $ feqL ! (λ same₄. move ! (1 ∷ []) $ drop ! $
-        move ! (2 ∷ []) $ split ! $ move ! (1 ∷ []) $ peeks ! turn-row (Is turn-row) (shows 𝓤 H A turn-row) r (out ∷ []) (λ is.
-        land ! (from ! (stop !)) (init ! 39 refl (turn-typed 𝓤 H A W r out is)) $ rewrite ! 39 (λ (v : Val). ‵ (fat fullShare turn-mir l₆ 0 v)) (turn-told r out is) refl $
-        drop ! $ move ! (3 ∷ 4 ∷ 5 ∷ []) $
+        calls-at ! fm (Core 𝓤 H A mem run) core-known to-core (and-then ! (local ! 26 refl) (and-then ! (local ! 22 refl) (and-then ! (local ! 18 refl) (and-then ! (local ! 14 refl) (and-then ! (local ! 44 refl) (and-then ! (local ! 42 refl) (and-then ! (local ! 10 refl) (and-then ! (local ! 6 refl) (no-more !))))))))) (λ out. returned ! tt core.ended (core.clauses 𝓤 H A mem run) to-core out (λ r zs. heard ! (AskTurn (front ps) s n b w r (zs .1 .1 .1 .1 .1 .1 .0) (zs .1 .1 .1 .1 .1 .1 .1 .0)) (λ e.
+        fsplit ! $ drop ! $ fsplit ! $ drop ! $ fsplit ! $ drop ! $ fsplit ! $ drop ! $ fsplit ! $ drop ! $ fsplit ! $ drop ! $ fsplit ! $ fsplit ! $ move ! (1 ∷ []) $ feqL ! (λ same₃. move ! (1 ∷ []) $ fsplit ! $ fsplit ! $ move ! (1 ∷ []) $ feqL ! (λ same₄. move ! (1 ∷ []) $ drop ! $ move ! (2 ∷ []) $ peeks ! turn-row (Is turn-row) (shows 𝓤 H A turn-row) r (out ∷ []) (λ is.
+        lands-as ! 39 refl (turn-told r out is) refl (turn-typed 𝓤 H A W r out is) $ drop ! $ move ! (3 ∷ 4 ∷ 5 ∷ 2 ∷ []) $
         -- [obs; the borrow; its token; the others' tokens; the last lists; the locals from 6]
-        assigns ! (of-opd ! (load ! (from ! (fld ! refl (stop !))) (look-in ! 38 (sub ! 0 refl (whole !))))) (from ! (stop !)) (init ! 36 refl (tt, record { fits = at-fits r out is })) $
-        assigns ! (bin ! (load ! (from ! (stop !)) (look ! 36 refl)) (lit ! tt) (record { fits = byte-fits (room .1) (reaches h (e .1)) })) (from ! (stop !)) (store ! 34 refl (tt, record { fits = byte-fits (room .1) (reaches h (e .1)) })) $
-        assigns ! (bin ! (load ! (from ! (fld ! refl (stop !))) (look-in ! 48 (sub ! 0 refl (whole !)))) (load ! (from ! (stop !)) (look ! 34 refl)) tt) (from ! (stop !)) (init ! 6 refl (tt, tt)) $ rewrite ! 6 (λ (k : ℕ). ‵ (fat fullShare tyPtr l₂₂ 0 (vptr block k))) (sym (place-is 67 o (r .at))) refl $
-        opens-slice ! tt R ps block o $ elem-out ! R (Is R) (shows 𝓤 H A R) vals-of place-told fullShare ps (r .at) blank block o (reaches h (e .1)) (λ _.
-        assigns ! (of-opd ! (load ! (from ! (fld ! refl (stop !))) (look-in ! 41 (sub ! 1 refl (whole !))))) (from ! (hop ! (look ! 9 refl) (stop !))) (store-raw ! 0 refl (place-typed 𝓤 H A W (r .place) (placed r out is))) $
-        move ! (1 ∷ []) $ drop ! $ owned ! R (Is R) (place-made 𝓤 H A W) (r .place) _ (placed r out is) $ move ! (1 ∷ 0 ∷ []) $ elem-put ! R fullShare ps (r .at) (r .place) (vals-of (r .place)) block o (reaches h (e .1)) $
-        closes-slice ! tt R ps (set ps (r .at) (r .place)) (length-set ps (r .at) (r .place)) block o $
-        assigns ! (of-opd ! (load ! (from ! (fld ! refl (stop !))) (look-in ! 38 (sub ! 2 refl (whole !))))) (from ! (stop !)) (init ! 50 refl (reply-typed 𝓤 H A W (r .reply) _ (said r out is))) $
-        returns ! (look ! 50 refl) $ forget ! 6 refl $ forget ! 8 refl $ forget ! 10 refl $ forget ! 12 refl $ forget ! 14 refl $ forget ! 16 refl $ forget ! 18 refl $ forget ! 20 refl $ forget ! 22 refl $ forget ! 24 refl $ forget ! 26 refl $ forget ! 28 refl $ forget ! 30 refl $ forget ! 32 refl $ forget ! 34 refl $ forget ! 36 refl $ forget ! 38 refl $ forget ! 40 refl $ forget ! 42 refl $ forget ! 44 refl $ forget ! 46 refl $ forget ! 48 refl $ forget ! 50 refl $
-        move ! (50 ∷ 51 ∷ []) $ free1 ! $ move ! (48 ∷ 49 ∷ []) $ free1 ! $ move ! (46 ∷ 47 ∷ []) $ free1 ! $ move ! (44 ∷ 45 ∷ []) $ free1 ! $ move ! (42 ∷ 43 ∷ []) $ free1 ! $ move ! (40 ∷ 41 ∷ []) $ free1 ! $ move ! (38 ∷ 39 ∷ []) $ free1 ! $ move ! (36 ∷ 37 ∷ []) $ free1 ! $ move ! (34 ∷ 35 ∷ []) $ free1 ! $ move ! (32 ∷ 33 ∷ []) $ free1 ! $ move ! (30 ∷ 31 ∷ []) $ free1 ! $ move ! (28 ∷ 29 ∷ []) $ free1 ! $ move ! (26 ∷ 27 ∷ []) $ free1 ! $ move ! (24 ∷ 25 ∷ []) $ free1 ! $ move ! (22 ∷ 23 ∷ []) $ free1 ! $ move ! (20 ∷ 21 ∷ []) $ free1 ! $ move ! (18 ∷ 19 ∷ []) $ free1 ! $ move ! (16 ∷ 17 ∷ []) $ free1 ! $ move ! (14 ∷ 15 ∷ []) $ free1 ! $ move ! (12 ∷ 13 ∷ []) $ free1 ! $ move ! (10 ∷ 11 ∷ []) $ free1 ! $ move ! (8 ∷ 9 ∷ []) $ free1 ! $ move ! (6 ∷ 7 ∷ []) $ free1 ! $ free0 ! $
-        by ! (exits (r .reply) (set ps (r .at) (r .place)) (zs .1 .1 .1 .1 .1 .1 .0) (zs .1 .1 .1 .1 .1 .1 .1 .0) (asks-row ps s n b w r (zs .1 .1 .1 .1 .1 .1 .0) (zs .1 .1 .1 .1 .1 .1 .1 .0) (nltb→le (length ps) fourPlaces h) e) (length-set ps (r .at) (r .place)) same₃ same₄ (said r out is))))))))))))))))))))))))))))))))))))))
+        sets ! 36 refl (of-opd ! (field-of ! 38 0 refl refl refl)) refl (tt, record { fits = at-fits r out is }) $
+        assigns ! (bin ! (local ! 36 refl) (lit ! tt) (record { fits = byte-fits (room .1) (reaches h (e .1)) })) (from ! (stop !)) (store ! 34 refl (tt, record { fits = byte-fits (room .1) (reaches h (e .1)) })) $
+        sets ! 6 refl (points-to ! block o (r .at) (field-of ! 48 0 refl refl refl) (local ! 34 refl) refl) refl (tt, tt) $
+        stores-place ! ps block o (r .at) 3 (r .place) (reaches h (e .1)) (placed r out is) refl refl (λ _ _ _ _ _ _. (field-of ! 41 1 refl refl refl)) $
+        sets ! 50 refl (of-opd ! (field-of ! 38 2 refl refl refl)) refl (reply-typed 𝓤 H A W (r .reply) _ (said r out is)) $
+        returns ! (look ! 50 refl) $ frees-cell ! 50 refl refl $ frees-cell ! 48 refl refl $ frees-cell ! 46 refl refl $ frees-cell ! 44 refl refl $ frees-cell ! 42 refl refl $ frees-cell ! 40 refl refl $ frees-cell ! 38 refl refl $ frees-cell ! 36 refl refl $ frees-cell ! 34 refl refl $ frees-cell ! 32 refl refl $ frees-cell ! 30 refl refl $ frees-cell ! 28 refl refl $ frees-cell ! 26 refl refl $ frees-cell ! 24 refl refl $ frees-cell ! 22 refl refl $ frees-cell ! 20 refl refl $ frees-cell ! 18 refl refl $ frees-cell ! 16 refl refl $ frees-cell ! 14 refl refl $ frees-cell ! 12 refl refl $ frees-cell ! 10 refl refl $ frees-cell ! 8 refl refl $ frees-cell ! 6 refl refl $ free0 ! $
+        by ! (exits (r .reply) (set ps (r .at) (r .place)) (zs .1 .1 .1 .1 .1 .1 .0) (zs .1 .1 .1 .1 .1 .1 .1 .0) (asks-row ps s n b w r (zs .1 .1 .1 .1 .1 .1 .0) (zs .1 .1 .1 .1 .1 .1 .1 .0) (nltb→le (length ps) fourPlaces h) e) (length-set ps (r .at) (r .place)) same₃ same₄ (said r out is))))))))))))))))))))))))))))))))))))
 
 meets : {M : Type 1} (𝓤 : URA M) (H : Heap 𝓤) (A : Atoms 𝓤) → Given 𝓤 H A → (mem : Memory → SProp 𝓤) (run : Routine → Fun 𝓤) (𝓣 : Tables 𝓤 H) → Triple 𝓤 (𝓣 .C #core) (Core 𝓤 H A mem run) → Meets 𝓤 H A this.signature (WpFn 𝓤 H (𝓣 .C) (𝓣 .Λ) code.function) (this.spec 𝓤 H A mem run)
-meets 𝓤 H A W mem run 𝓣 known =
+meets 𝓤 H A W mem run 𝓣 core-known =
     walk-meets 𝓤 H A this.ended stayed W (goes-gave-slice 𝓤 H A W 4 0 tt (plain (λ _. R)), (goes-dropped 𝓤 H A W 4 (shrSliceOf (1 ∷ []) tt (plain (λ _. u8))) yes (λ κs x f. refl), (goes-dropped 𝓤 H A W 4 (plain (λ _. u8)) yes (λ κs x f. refl), (goes-gave-slice 𝓤 H A W 4 2 tt (plain (λ _. u8)), (goes-gave-slice 𝓤 H A W 4 3 tt (plain (λ _. u16)), tt))))) (this.clauses 𝓤 H A mem run)
     (WpFn 𝓤 H (𝓣 .C) (𝓣 .Λ) code.function) (WpFn-mono 𝓤 H (W .laws) 𝓣 code.function) (walked 𝓤 H A this.ended stayed (this.clauses 𝓤 H A mem run) (WpFn 𝓤 H (𝓣 .C) (𝓣 .Λ) code.function)
     (λ κs. (slice-vals, (slice-vals, (uint-vals w8, (slice-vals, (slice-vals, tt)))))) (λ κs. (mut-slice-tells (named 0) (κs .0) R, (shr-slice-tells (named 1) (κs .1 .0) u8, (uint-tells w8, (mut-slice-tells (named 2) (κs .1 .1 .0) u8, (mut-slice-tells (named 3) (κs .1 .1 .1 .0) u16, tt))))))
-    (λ κs qs bounds a g are. via 𝓤 _ (fst∗ 𝓤 _ (emp 𝓤)) (walk 𝓤 H A W mem run κs qs a (are .0 .0 .1) (are .1 .0 .0 .1) (are .1 .1 .0 .1) (are .1 .1 .1 .0 .0 .1) (are .1 .1 .1 .1 .0 .0 .1) (𝓣 .C) (𝓣 .Λ) (fmOf 𝓤 H (W .laws) 𝓣) known)))
+    (λ κs qs bounds a g are. via 𝓤 _ (fst∗ 𝓤 _ (emp 𝓤)) (walk 𝓤 H A W mem run κs qs a (are .0 .0 .1) (are .1 .0 .0 .1) (are .1 .1 .0 .1) (are .1 .1 .1 .0 .0 .1) (are .1 .1 .1 .1 .0 .0 .1) (𝓣 .C) (𝓣 .Λ) (fmOf 𝓤 H (W .laws) 𝓣) core-known)))
 
 pub ask-spec : {M : Type 1} → stated.statement M
 unfolding code.routine tablesOf
