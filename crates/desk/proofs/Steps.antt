@@ -20,7 +20,7 @@ use denote.Signature.{typeAt}
 use denote.Triple.Entry.{Res, alive}
 use denote.Triple.Spec.{tripleOf}
 use denote.Triple.Clauses.{Ended, Clauses, Lasts, lasts, atExit, ensured, closing}
-use types.Run.{Opd, Rv, Walks, Finds, look, hop, load, from, fld, stop, init, store, assigns, land, forget, free1}
+use types.Run.{Opd, Rv, Walks, Finds, look, hop, load, from, fld, stop, init, assigns, land, forget, free1}
 use types.Part.{Part, whole, sub, look-in}
 
 module _ {M : Type 1} {𝓤 : URA M} {H : Heap 𝓤} {A : Atoms 𝓤} {K : Type 0} {W : Given 𝓤 H A} {Γ : List (Item 𝓤)} where

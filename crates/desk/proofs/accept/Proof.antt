@@ -1,6 +1,6 @@
 -- `desk::accept` meets its contract: a walk of its MIR by hand, printed by tools/walks. Of what it calls it is known only that it meets its contract.
 -- Assumes nothing.
-use Rattle.desk.proofs.Walk.{_≡_, refl, ℕ, _<_, List, [], _∷_, ltb→lt, nltb→le, lit<, length, getD, set, length-set, URA, spell, named, erased, imm, mut, w8, w64, tyInt, tyBool, tyPtr, tyRef, Val, SProp, ent, sep, emp, via, fst∗, id⊢, GName, Fml, flft, fobs, fbor, Memory, Routine, Heap, Env, Calls, Loops, WpFn, Tables, Atoms, sem, Fun, Lfts, Shares, toks, givenOf, tables, tablesOf, Given, Item, ‵, raw, _⊛_, ⋆, atRet, _$_, _∵_, !, qed, by, move, keep, drop, use1, use2, split, join, fsplit, fjoin, feqL, suffices, frame, done, look, init, store, stop, hop, fld, from, lit, addr, of-opd, bin, and-then, no-more, assigns, first, branches, skips, exec, returns, returns-within, enter, alloc1, alloc0, params1, pass1, pass0, free0, agg, whole, sub, look-in, local, field-of, sets, lands-as, frees-room, frees-cell, returned, R, vals-of, byte-fits, reaches, points-to, reads-place, stores-place, four-made, FmC, fmOf, WpFn-mono, owns, Is, shows, u8, sliceVal, sliceTy, MutSlice, Room, heres, codedHoleys, slice-vals, mut-slice-tells, finally, ShrSlice, shr-slice-tells, Held, opens-slice, closes-slice, owned, peeks, heard, nothing, Args, Vals, onEntry, Meets, tripleOf, Contract, Triple, calls-at, entered, cited, says, Stays, gave-slice, stay-dropped, walkOf, goes-gave-slice, goes-dropped, ends-at, walked, walk-meets, yes, plain, shrSliceOf, answered, readRecord, packets, recordOf, Place, Reply, Refused, blank, fourPlaces, front, Accepts, AcceptTurn, accepts-row, accepts-short, place-ty, turn-ty, reply-ty, IsReply, replied, reply-told, reply-row, reply-val, turn-row, turn-told, at-fits, placed, said, reply-typed, turn-typed, reply-made, lasting}
+use Rattle.desk.proofs.Walk.{_≡_, refl, ℕ, _<_, List, [], _∷_, ltb→lt, nltb→le, lit<, length, set, length-set, URA, spell, named, erased, imm, mut, w8, w64, tyInt, tyBool, tyPtr, tyRef, Val, SProp, ent, sep, emp, via, fst∗, id⊢, Fml, flft, Memory, Routine, Heap, Env, Calls, Loops, WpFn, Tables, Atoms, sem, Fun, Lfts, Shares, toks, givenOf, tables, tablesOf, Given, Item, ‵, raw, _⊛_, ⋆, atRet, _$_, _∵_, !, qed, by, move, keep, drop, use1, use2, split, join, fsplit, fjoin, feqL, suffices, frame, done, look, init, store, stop, hop, fld, from, lit, addr, of-opd, bin, and-then, no-more, assigns, first, branches, skips, exec, returns, returns-within, enter, alloc1, alloc0, params1, pass1, pass0, free0, agg, whole, sub, look-in, local, field-of, sets, lands-as, frees-room, frees-cell, returned, R, vals-of, byte-fits, reaches, knows, lent, points-to, reads-place, stores-place, four-made, FmC, fmOf, WpFn-mono, owns, Is, shows, u8, sliceVal, sliceTy, MutSlice, Room, slice-vals, mut-slice-tells, finally, ShrSlice, shr-slice-tells, opens-slice, closes-slice, owned, peeks, heard, nothing, Args, Vals, onEntry, Meets, tripleOf, Contract, Triple, calls-at, entered, cited, says, Stays, gave-slice, stay-dropped, walkOf, goes-gave-slice, goes-dropped, ends-at, walked, walk-meets, yes, plain, shrSliceOf, answered, readRecord, packets, recordOf, Place, Reply, Refused, fourPlaces, placeAt, front, Accepts, AcceptTurn, accepts-row, accepts-short, place-ty, turn-ty, reply-ty, IsReply, replied, reply-told, reply-row, reply-val, turn-row, turn-told, at-fits, placed, said, reply-typed, turn-typed, reply-made, lasting}
 use Rattle.desk.proofs.stub_accept as core
 use Rattle.desk.proofs.stub_accept.Symbol as core-def
 use Rattle.desk.proofs.stub_accept.Symbol.{name as #core}
@@ -28,15 +28,6 @@ module _ {M : Type 1} (𝓤 : URA M) (H : Heap 𝓤) (A : Atoms 𝓤) (W : Given
   abbrev ps : List Place
   ps = a .0 .now
 
-  abbrev block : ℕ
-  block = a .0 .ptr .0
-
-  abbrev o : ℕ
-  o = a .0 .ptr .1
-
-  abbrev γ : GName
-  γ = a .0 .name
-
   abbrev s : List ℕ
   s = a .1 .0 .now
 
@@ -56,11 +47,8 @@ module _ {M : Type 1} (𝓤 : URA M) (H : Heap 𝓤) (A : Atoms 𝓤) (W : Given
   abbrev Post : Val → SProp 𝓤
   Post = walkOf 𝓤 H A this.ended stayed (this.clauses 𝓤 H A mem run) .post ((κs, qs, tt, a, vals), tt)
 
-  abbrev p : ℕ → Place
-  p k = getD ps k blank
-
   abbrev to-core : Core 𝓤 H A mem run .Ghost
-  to-core = ((κs .1, qs .1, tt, (p 0, (p 1, (p 2, (p 3, a .1)))), (vals-of (p 0), (vals-of (p 1), (vals-of (p 2), (vals-of (p 3), vals .1))))), tt)
+  to-core = ((κs .1, qs .1, tt, (placeAt ps 0, (placeAt ps 1, (placeAt ps 2, (placeAt ps 3, a .1)))), (vals-of (placeAt ps 0), (vals-of (placeAt ps 1), (vals-of (placeAt ps 2), (vals-of (placeAt ps 3), vals .1))))), tt)
 
   abbrev to-short : Short 𝓤 H A mem run .Ghost
   to-short = ((κs .1 .1, qs .1 .1, tt, a .1 .1, vals .1 .1), tt)
@@ -69,11 +57,11 @@ module _ {M : Type 1} (𝓤 : URA M) (H : Heap 𝓤) (A : Atoms 𝓤) (W : Given
   short-goes = qed W (raw (toks 𝓤 A 1 (κs .1 .1) (qs .1 .1)) ∷ ‵ (owns (ShrSlice (named 2) (κs .1 .1 .0) u8 ∷ []) (a .1 .1) (vals .1 .1)) ∷ []) ∵ join ! $ frame ! $ done !
 
   exits : (r : Reply) (qs′ : List Place) (s′ : List ℕ) → Accepts ps s m r qs′ s′ → length qs′ ≡ length ps → length s′ ≡ length s → IsReply r
-      → ent 𝓤 (⋆ 𝓤 H A (‵ (fobs γ (codedHoleys R .code (heres R qs′))) ∷ ‵ (fbor (κs .0) (Held R (length qs′) block o γ)) ∷ ‵ (flft (κs .0) (qs .0)) ∷ others ∷ ‵ (finally u8 (a .1 .0 .name) s′) ∷ [])) (Post (reply-val r))
+      → ent 𝓤 (⋆ 𝓤 H A (‵ (knows (a .0) qs′) ∷ ‵ (lent (κs .0) (a .0) qs′) ∷ ‵ (flft (κs .0) (qs .0)) ∷ others ∷ ‵ (finally u8 (a .1 .0 .name) s′) ∷ [])) (Post (reply-val r))
   exits r qs′ s′ e same same₁ is =
-      qed W (‵ (fobs γ (codedHoleys R .code (heres R qs′))) ∷ ‵ (fbor (κs .0) (Held R (length qs′) block o γ)) ∷ ‵ (flft (κs .0) (qs .0)) ∷ others ∷ ‵ (finally u8 (a .1 .0 .name) s′) ∷ []) ∵
+      qed W (‵ (knows (a .0) qs′) ∷ ‵ (lent (κs .0) (a .0) qs′) ∷ ‵ (flft (κs .0) (qs .0)) ∷ others ∷ ‵ (finally u8 (a .1 .0 .name) s′) ∷ []) ∵
       suffices ! _ (ends-at 𝓤 H A this.ended stayed (this.clauses 𝓤 H A mem run) W ((κs, qs, tt, a, vals), tt) (reply-val r) r (qs′, (s′, (tt, tt))) (same, (same₁, (tt, tt)))) $ says ! e $
-      use1 W (‵ (finally R γ qs′)) (lasting 𝓤 H A W R (κs .0) γ qs′) $ move ! (2 ∷ 3 ∷ []) $ join ! $ frame ! $
+      use1 W (‵ (finally R (a .0 .name) qs′)) (lasting 𝓤 H A W R (κs .0) (a .0 .name) qs′) $ move ! (2 ∷ 3 ∷ []) $ join ! $ frame ! $
       nothing ! $ nothing ! $ fjoin ! $ move ! (3 ∷ 0 ∷ []) $ fjoin ! $ move ! (1 ∷ 0 ∷ []) $ fjoin ! $ owned ! reply-row (Is reply-row) (reply-made 𝓤 H A W) r _ is $ keep ! (1 ∷ 0 ∷ []) $ done !
 
   -- the locals, at the types that the code spells
@@ -100,12 +88,12 @@ module _ {M : Type 1} (𝓤 : URA M) (H : Heap 𝓤) (A : Atoms 𝓤) (W : Given
         returns-within ! Post refl (look ! 42 refl) $ frees-cell ! 42 refl refl $ frees-cell ! 40 refl refl $ frees-cell ! 38 refl refl $ frees-cell ! 36 refl refl $ frees-room ! 34 refl refl $ frees-room ! 32 refl refl $ frees-cell ! 30 refl refl $ frees-cell ! 28 refl refl $ frees-room ! 26 refl refl $ frees-room ! 24 refl refl $ frees-room ! 22 refl refl $ frees-room ! 20 refl refl $ frees-room ! 18 refl refl $ frees-room ! 16 refl refl $ frees-room ! 14 refl refl $ frees-room ! 12 refl refl $ frees-room ! 10 refl refl $ frees-room ! 8 refl refl $ frees-room ! 6 refl refl $ free0 ! $
         move ! (2 ∷ 0 ∷ []) $ join ! $ move ! (1 ∷ []) $ fsplit ! $ drop ! $ fsplit ! $ use1 W (‵ (finally u8 (a .1 .0 .name) s)) (lasting 𝓤 H A W u8 (κs .1 .0) (a .1 .0 .name) s) $ keep ! (3 ∷ 4 ∷ 5 ∷ 2 ∷ 0 ∷ []) $
         by ! (exits r ps s (accepts-short ps s m r (ltb→lt (length ps) fourPlaces h) e) refl refl (replied r _ is)))))))
-        (λ h. skips ! $ exec ! C Λ (En l₀ l₁ l₂ l₃ l₄ l₅ l₆ l₇ l₈ l₉ l₁₀ l₁₁ l₁₂ l₁₃ l₁₄ l₁₅ l₁₆ l₁₇ l₁₈) mir′.t-4 (atRet (En l₀ l₁ l₂ l₃ l₄ l₅ l₆ l₇ l₈ l₉ l₁₀ l₁₁ l₁₂ l₁₃ l₁₄ l₁₅ l₁₆ l₁₇ l₁₈) Post) $ opens-slice ! tt R ps block o $
-        reads-place ! ps block o 0 25 23 (reaches h (lit< tt)) (field-of ! 40 0 refl refl refl) tt refl refl refl refl refl refl (λ g₀.
-        reads-place ! ps block o 1 21 19 (reaches h (lit< tt)) (field-of ! 40 0 refl refl refl) tt refl refl refl refl refl refl (λ g₁.
-        reads-place ! ps block o 2 17 15 (reaches h (lit< tt)) (field-of ! 40 0 refl refl refl) tt refl refl refl refl refl refl (λ g₂.
-        reads-place ! ps block o 3 13 11 (reaches h (lit< tt)) (field-of ! 40 0 refl refl refl) tt refl refl refl refl refl refl (λ g₃.
-        closes-slice ! tt R ps ps refl block o $
+        (λ h. skips ! $ exec ! C Λ (En l₀ l₁ l₂ l₃ l₄ l₅ l₆ l₇ l₈ l₉ l₁₀ l₁₁ l₁₂ l₁₃ l₁₄ l₁₅ l₁₆ l₁₇ l₁₈) mir′.t-4 (atRet (En l₀ l₁ l₂ l₃ l₄ l₅ l₆ l₇ l₈ l₉ l₁₀ l₁₁ l₁₂ l₁₃ l₁₄ l₁₅ l₁₆ l₁₇ l₁₈) Post) $ opens-slice ! tt R ps (a .0 .ptr .0) (a .0 .ptr .1) $
+        reads-place ! (a .0) 0 25 23 (reaches h (lit< tt)) (field-of ! 40 0 refl refl refl) tt refl refl refl refl refl refl (λ g₀.
+        reads-place ! (a .0) 1 21 19 (reaches h (lit< tt)) (field-of ! 40 0 refl refl refl) tt refl refl refl refl refl refl (λ g₁.
+        reads-place ! (a .0) 2 17 15 (reaches h (lit< tt)) (field-of ! 40 0 refl refl refl) tt refl refl refl refl refl refl (λ g₂.
+        reads-place ! (a .0) 3 13 11 (reaches h (lit< tt)) (field-of ! 40 0 refl refl refl) tt refl refl refl refl refl refl (λ g₃.
+        closes-slice ! tt R ps ps refl (a .0 .ptr .0) (a .0 .ptr .1) $
         sets ! 9 refl (addr ! (from ! (fld ! refl (hop ! (look-in ! 37 (sub ! 0 refl (whole !))) (stop !))))) refl (tt, tt) $
         sets ! 7 refl (agg ! (and-then ! (local ! 9 refl) (and-then ! (field-of ! 37 1 refl refl refl) (no-more !)))) refl (tt, (tt, (record { fits = given₁ .0 }, tt))) $
         move ! (3 ∷ 4 ∷ []) $ use2 W (raw (Core 𝓤 H A mem run .pre to-core)) (four-made 𝓤 H A W ps (toks 𝓤 A 2 (κs .1) (qs .1)) rest g₀ g₁ g₂ g₃) $
@@ -116,8 +104,8 @@ module _ {M : Type 1} (𝓤 : URA M) (H : Heap 𝓤) (A : Atoms 𝓤) (W : Given
         -- [obs; the borrow; its token; the others' tokens; the last lists; the locals from 5]
         sets ! 31 refl (of-opd ! (field-of ! 33 0 refl refl refl)) refl (tt, record { fits = at-fits r out is }) $
         assigns ! (bin ! (local ! 31 refl) (lit ! tt) (record { fits = byte-fits (room .1) (reaches h (e .1)) })) (from ! (stop !)) (store ! 29 refl (tt, record { fits = byte-fits (room .1) (reaches h (e .1)) })) $
-        sets ! 5 refl (points-to ! block o (r .at) (field-of ! 39 0 refl refl refl) (local ! 29 refl) refl) refl (tt, tt) $
-        stores-place ! ps block o (r .at) 2 (r .place) (reaches h (e .1)) (placed r out is) refl refl (λ _ _ _ _ _ _. (field-of ! 36 1 refl refl refl)) $
+        sets ! 5 refl (points-to ! (a .0) (r .at) (field-of ! 39 0 refl refl refl) (local ! 29 refl) refl) refl (tt, tt) $
+        stores-place ! (a .0) (r .at) 2 (r .place) (reaches h (e .1)) (placed r out is) refl refl (λ _ _ _ _ _ _. (field-of ! 36 1 refl refl refl)) $
         sets ! 41 refl (of-opd ! (field-of ! 33 2 refl refl refl)) refl (reply-typed 𝓤 H A W (r .reply) _ (said r out is)) $
         returns ! (look ! 41 refl) $ frees-cell ! 41 refl refl $ frees-cell ! 39 refl refl $ frees-cell ! 37 refl refl $ frees-cell ! 35 refl refl $ frees-cell ! 33 refl refl $ frees-cell ! 31 refl refl $ frees-cell ! 29 refl refl $ frees-cell ! 27 refl refl $ frees-cell ! 25 refl refl $ frees-cell ! 23 refl refl $ frees-cell ! 21 refl refl $ frees-cell ! 19 refl refl $ frees-cell ! 17 refl refl $ frees-cell ! 15 refl refl $ frees-cell ! 13 refl refl $ frees-cell ! 11 refl refl $ frees-cell ! 9 refl refl $ frees-cell ! 7 refl refl $ frees-cell ! 5 refl refl $ free0 ! $
         by ! (exits (r .reply) (set ps (r .at) (r .place)) (zs .1 .1 .1 .1 .0) (accepts-row ps s m r (zs .1 .1 .1 .1 .0) (nltb→le (length ps) fourPlaces h) e) (length-set ps (r .at) (r .place)) same₁ (said r out is)))))))))))))))))))))))))))))))

@@ -1,6 +1,6 @@
 -- `desk::ask` meets its contract: a walk of its MIR by hand, printed by tools/walks. Of what it calls it is known only that it meets its contract.
 -- Assumes nothing.
-use Rattle.desk.proofs.Walk.{_≡_, refl, ℕ, _<_, _^_, List, [], _∷_, ltb→lt, nltb→le, lit<, length, getD, set, length-set, URA, spell, named, erased, imm, mut, w8, w16, w64, tyInt, tyBool, tyPtr, tyRef, Val, vint, SProp, ent, emp, via, fst∗, GName, Fml, flft, fobs, fbor, Memory, Routine, Heap, Env, Calls, Loops, WpFn, Tables, Atoms, Fun, Lfts, Shares, toks, givenOf, tables, tablesOf, Given, Item, ‵, raw, _⊛_, ⋆, atRet, _$_, _∵_, !, qed, by, move, keep, drop, use1, use2, split, join, fsplit, fjoin, feqL, suffices, frame, done, look, init, store, stop, hop, fld, from, lit, addr, of-opd, bin, and-then, no-more, assigns, first, branches, skips, exec, returns, returns-within, enter, alloc1, alloc0, params1, pass1, pass0, free0, agg, whole, sub, look-in, local, field-of, sets, lands-as, frees-room, frees-cell, returned, R, vals-of, byte-fits, reaches, points-to, reads-place, stores-place, four-made, FmC, fmOf, WpFn-mono, owns, Is, shows, uint-vals, uint-tells, u8, u16, sliceVal, sliceTy, MutSlice, Room, heres, codedHoleys, slice-vals, mut-slice-tells, finally, ShrSlice, shr-slice-tells, Held, opens-slice, closes-slice, owned, peeks, heard, nothing, Args, Vals, onEntry, Meets, tripleOf, Contract, Triple, calls-at, entered, cited, says, Stays, gave-slice, stay-dropped, walkOf, goes-gave-slice, goes-dropped, ends-at, walked, walk-meets, yes, plain, shrSliceOf, Place, Reply, Refused, blank, fourPlaces, front, Asks, AskTurn, asks-row, asks-short, place-ty, turn-ty, reply-ty, IsReply, refused-is, reply-row, reply-val, turn-row, turn-told, at-fits, placed, said, reply-typed, turn-typed, reply-made, lasting}
+use Rattle.desk.proofs.Walk.{_≡_, refl, ℕ, _<_, _^_, List, [], _∷_, ltb→lt, nltb→le, lit<, length, set, length-set, URA, spell, named, erased, imm, mut, w8, w16, w64, tyInt, tyBool, tyPtr, tyRef, Val, vint, SProp, ent, emp, via, fst∗, Fml, flft, Memory, Routine, Heap, Env, Calls, Loops, WpFn, Tables, Atoms, Fun, Lfts, Shares, toks, givenOf, tables, tablesOf, Given, Item, ‵, raw, _⊛_, ⋆, atRet, _$_, _∵_, !, qed, by, move, keep, drop, use1, use2, split, join, fsplit, fjoin, feqL, suffices, frame, done, look, init, store, stop, hop, fld, from, lit, addr, of-opd, bin, and-then, no-more, assigns, first, branches, skips, exec, returns, returns-within, enter, alloc1, alloc0, params1, pass1, pass0, free0, agg, whole, sub, look-in, local, field-of, sets, lands-as, frees-room, frees-cell, returned, R, vals-of, byte-fits, reaches, knows, lent, points-to, reads-place, stores-place, four-made, FmC, fmOf, WpFn-mono, owns, Is, shows, uint-vals, uint-tells, u8, u16, sliceVal, sliceTy, MutSlice, Room, slice-vals, mut-slice-tells, finally, ShrSlice, shr-slice-tells, opens-slice, closes-slice, owned, peeks, heard, nothing, Args, Vals, onEntry, Meets, tripleOf, Contract, Triple, calls-at, entered, cited, says, Stays, gave-slice, stay-dropped, walkOf, goes-gave-slice, goes-dropped, ends-at, walked, walk-meets, yes, plain, shrSliceOf, Place, Reply, Refused, fourPlaces, placeAt, front, Asks, AskTurn, asks-row, asks-short, place-ty, turn-ty, reply-ty, IsReply, refused-is, reply-row, reply-val, turn-row, turn-told, at-fits, placed, said, reply-typed, turn-typed, reply-made, lasting}
 use Rattle.desk.proofs.stub_ask as core
 use Rattle.desk.proofs.stub_ask.Symbol as core-def
 use Rattle.desk.proofs.stub_ask.Symbol.{name as #core}
@@ -20,15 +20,6 @@ Core 𝓤 H A mem run = tripleOf 𝓤 H A core.signature (core.spec 𝓤 H A mem
 module _ {M : Type 1} (𝓤 : URA M) (H : Heap 𝓤) (A : Atoms 𝓤) (W : Given 𝓤 H A) (mem : Memory → SProp 𝓤) (run : Routine → Fun 𝓤) (κs : Lfts 4) (qs : Shares 4) (a : Args this.signature κs) where
   abbrev ps : List Place
   ps = a .0 .now
-
-  abbrev block : ℕ
-  block = a .0 .ptr .0
-
-  abbrev o : ℕ
-  o = a .0 .ptr .1
-
-  abbrev γ : GName
-  γ = a .0 .name
 
   abbrev s : List ℕ
   s = a .1 .0 .now
@@ -55,18 +46,15 @@ module _ {M : Type 1} (𝓤 : URA M) (H : Heap 𝓤) (A : Atoms 𝓤) (W : Given
   abbrev Post : Val → SProp 𝓤
   Post = walkOf 𝓤 H A this.ended stayed (this.clauses 𝓤 H A mem run) .post ((κs, qs, tt, a, vals), tt)
 
-  abbrev p : ℕ → Place
-  p k = getD ps k blank
-
   abbrev to-core : Core 𝓤 H A mem run .Ghost
-  to-core = ((κs .1, qs .1, tt, (p 0, (p 1, (p 2, (p 3, a .1)))), (vals-of (p 0), (vals-of (p 1), (vals-of (p 2), (vals-of (p 3), vals .1))))), tt)
+  to-core = ((κs .1, qs .1, tt, (placeAt ps 0, (placeAt ps 1, (placeAt ps 2, (placeAt ps 3, a .1)))), (vals-of (placeAt ps 0), (vals-of (placeAt ps 1), (vals-of (placeAt ps 2), (vals-of (placeAt ps 3), vals .1))))), tt)
 
   exits : (r : Reply) (qs′ : List Place) (b′ : List ℕ) (w′ : List ℕ) → Asks ps s n b w r qs′ b′ w′ → length qs′ ≡ length ps → length b′ ≡ length b → length w′ ≡ length w → IsReply r
-      → ent 𝓤 (⋆ 𝓤 H A (‵ (fobs γ (codedHoleys R .code (heres R qs′))) ∷ ‵ (fbor (κs .0) (Held R (length qs′) block o γ)) ∷ ‵ (flft (κs .0) (qs .0)) ∷ others ∷ ‵ (finally u16 (a .1 .1 .1 .1 .0 .name) w′) ∷ ‵ (finally u8 (a .1 .1 .1 .0 .name) b′) ∷ [])) (Post (reply-val r))
+      → ent 𝓤 (⋆ 𝓤 H A (‵ (knows (a .0) qs′) ∷ ‵ (lent (κs .0) (a .0) qs′) ∷ ‵ (flft (κs .0) (qs .0)) ∷ others ∷ ‵ (finally u16 (a .1 .1 .1 .1 .0 .name) w′) ∷ ‵ (finally u8 (a .1 .1 .1 .0 .name) b′) ∷ [])) (Post (reply-val r))
   exits r qs′ b′ w′ e same same₃ same₄ is =
-      qed W (‵ (fobs γ (codedHoleys R .code (heres R qs′))) ∷ ‵ (fbor (κs .0) (Held R (length qs′) block o γ)) ∷ ‵ (flft (κs .0) (qs .0)) ∷ others ∷ ‵ (finally u16 (a .1 .1 .1 .1 .0 .name) w′) ∷ ‵ (finally u8 (a .1 .1 .1 .0 .name) b′) ∷ []) ∵
+      qed W (‵ (knows (a .0) qs′) ∷ ‵ (lent (κs .0) (a .0) qs′) ∷ ‵ (flft (κs .0) (qs .0)) ∷ others ∷ ‵ (finally u16 (a .1 .1 .1 .1 .0 .name) w′) ∷ ‵ (finally u8 (a .1 .1 .1 .0 .name) b′) ∷ []) ∵
       suffices ! _ (ends-at 𝓤 H A this.ended stayed (this.clauses 𝓤 H A mem run) W ((κs, qs, tt, a, vals), tt) (reply-val r) r (qs′, (tt, (tt, (b′, (w′, tt))))) (same, (tt, (tt, (same₃, (same₄, tt)))))) $ says ! e $
-      use1 W (‵ (finally R γ qs′)) (lasting 𝓤 H A W R (κs .0) γ qs′) $ move ! (2 ∷ 3 ∷ []) $ join ! $ frame ! $
+      use1 W (‵ (finally R (a .0 .name) qs′)) (lasting 𝓤 H A W R (κs .0) (a .0 .name) qs′) $ move ! (2 ∷ 3 ∷ []) $ join ! $ frame ! $
       nothing ! $ move ! (3 ∷ 0 ∷ []) $ fjoin ! $ move ! (3 ∷ 0 ∷ []) $ fjoin ! $ nothing ! $ fjoin ! $ nothing ! $ fjoin ! $ move ! (1 ∷ 0 ∷ []) $ fjoin ! $ owned ! reply-row (Is reply-row) (reply-made 𝓤 H A W) r _ is $ keep ! (1 ∷ 0 ∷ []) $ done !
 
   -- the locals, at the types that the code spells
@@ -88,12 +76,12 @@ module _ {M : Type 1} (𝓤 : URA M) (H : Heap 𝓤) (A : Atoms 𝓤) (W : Given
         returns-within ! Post refl (look ! 49 refl) $ frees-cell ! 49 refl refl $ frees-cell ! 47 refl refl $ frees-cell ! 45 refl refl $ frees-cell ! 43 refl refl $ frees-cell ! 41 refl refl $ frees-cell ! 39 refl refl $ frees-room ! 37 refl refl $ frees-room ! 35 refl refl $ frees-cell ! 33 refl refl $ frees-cell ! 31 refl refl $ frees-room ! 29 refl refl $ frees-room ! 27 refl refl $ frees-room ! 25 refl refl $ frees-room ! 23 refl refl $ frees-room ! 21 refl refl $ frees-room ! 19 refl refl $ frees-room ! 17 refl refl $ frees-room ! 15 refl refl $ frees-room ! 13 refl refl $ frees-room ! 11 refl refl $ frees-room ! 9 refl refl $ frees-room ! 7 refl refl $ frees-room ! 5 refl refl $ free0 ! $
         move ! (4 ∷ []) $ fsplit ! $ drop ! $ fsplit ! $ drop ! $ fsplit ! $ fsplit ! $ drop ! $ fsplit ! $ use1 W (‵ (finally u8 (a .1 .1 .1 .0 .name) b)) (lasting 𝓤 H A W u8 (κs .1 .1 .0) (a .1 .1 .1 .0 .name) b) $ move ! (1 ∷ []) $ drop ! $ move ! (1 ∷ []) $ fsplit ! $ fsplit ! $ drop ! $ fsplit ! $ use1 W (‵ (finally u16 (a .1 .1 .1 .1 .0 .name) w)) (lasting 𝓤 H A W u16 (κs .1 .1 .1 .0) (a .1 .1 .1 .1 .0 .name) w) $ move ! (1 ∷ []) $ drop ! $ move ! (1 ∷ []) $ keep ! (3 ∷ 4 ∷ 5 ∷ 6 ∷ 1 ∷ 2 ∷ []) $
         by ! (exits (Refused 6) ps b w (asks-short ps s n b w (ltb→lt (length ps) fourPlaces h)) refl refl refl refused-is))
-        (λ h. skips ! $ exec ! C Λ (En l₀ l₁ l₂ l₃ l₄ l₅ l₆ l₇ l₈ l₉ l₁₀ l₁₁ l₁₂ l₁₃ l₁₄ l₁₅ l₁₆ l₁₇ l₁₈ l₁₉ l₂₀ l₂₁ l₂₂) mir′.t-4 (atRet (En l₀ l₁ l₂ l₃ l₄ l₅ l₆ l₇ l₈ l₉ l₁₀ l₁₁ l₁₂ l₁₃ l₁₄ l₁₅ l₁₆ l₁₇ l₁₈ l₁₉ l₂₀ l₂₁ l₂₂) Post) $ opens-slice ! tt R ps block o $
-        reads-place ! ps block o 0 29 27 (reaches h (lit< tt)) (field-of ! 48 0 refl refl refl) tt refl refl refl refl refl refl (λ g₀.
-        reads-place ! ps block o 1 25 23 (reaches h (lit< tt)) (field-of ! 48 0 refl refl refl) tt refl refl refl refl refl refl (λ g₁.
-        reads-place ! ps block o 2 21 19 (reaches h (lit< tt)) (field-of ! 48 0 refl refl refl) tt refl refl refl refl refl refl (λ g₂.
-        reads-place ! ps block o 3 17 15 (reaches h (lit< tt)) (field-of ! 48 0 refl refl refl) tt refl refl refl refl refl refl (λ g₃.
-        closes-slice ! tt R ps ps refl block o $
+        (λ h. skips ! $ exec ! C Λ (En l₀ l₁ l₂ l₃ l₄ l₅ l₆ l₇ l₈ l₉ l₁₀ l₁₁ l₁₂ l₁₃ l₁₄ l₁₅ l₁₆ l₁₇ l₁₈ l₁₉ l₂₀ l₂₁ l₂₂) mir′.t-4 (atRet (En l₀ l₁ l₂ l₃ l₄ l₅ l₆ l₇ l₈ l₉ l₁₀ l₁₁ l₁₂ l₁₃ l₁₄ l₁₅ l₁₆ l₁₇ l₁₈ l₁₉ l₂₀ l₂₁ l₂₂) Post) $ opens-slice ! tt R ps (a .0 .ptr .0) (a .0 .ptr .1) $
+        reads-place ! (a .0) 0 29 27 (reaches h (lit< tt)) (field-of ! 48 0 refl refl refl) tt refl refl refl refl refl refl (λ g₀.
+        reads-place ! (a .0) 1 25 23 (reaches h (lit< tt)) (field-of ! 48 0 refl refl refl) tt refl refl refl refl refl refl (λ g₁.
+        reads-place ! (a .0) 2 21 19 (reaches h (lit< tt)) (field-of ! 48 0 refl refl refl) tt refl refl refl refl refl refl (λ g₂.
+        reads-place ! (a .0) 3 17 15 (reaches h (lit< tt)) (field-of ! 48 0 refl refl refl) tt refl refl refl refl refl refl (λ g₃.
+        closes-slice ! tt R ps ps refl (a .0 .ptr .0) (a .0 .ptr .1) $
         sets ! 13 refl (addr ! (from ! (fld ! refl (hop ! (look-in ! 41 (sub ! 0 refl (whole !))) (stop !))))) refl (tt, tt) $
         sets ! 11 refl (agg ! (and-then ! (local ! 13 refl) (and-then ! (field-of ! 41 1 refl refl refl) (no-more !)))) refl (tt, (tt, (record { fits = given₃ .0 }, tt))) $
         sets ! 9 refl (addr ! (from ! (fld ! refl (hop ! (look-in ! 39 (sub ! 0 refl (whole !))) (stop !))))) refl (tt, tt) $
@@ -106,8 +94,8 @@ module _ {M : Type 1} (𝓤 : URA M) (H : Heap 𝓤) (A : Atoms 𝓤) (W : Given
         -- [obs; the borrow; its token; the others' tokens; the last lists; the locals from 6]
         sets ! 36 refl (of-opd ! (field-of ! 38 0 refl refl refl)) refl (tt, record { fits = at-fits r out is }) $
         assigns ! (bin ! (local ! 36 refl) (lit ! tt) (record { fits = byte-fits (room .1) (reaches h (e .1)) })) (from ! (stop !)) (store ! 34 refl (tt, record { fits = byte-fits (room .1) (reaches h (e .1)) })) $
-        sets ! 6 refl (points-to ! block o (r .at) (field-of ! 48 0 refl refl refl) (local ! 34 refl) refl) refl (tt, tt) $
-        stores-place ! ps block o (r .at) 3 (r .place) (reaches h (e .1)) (placed r out is) refl refl (λ _ _ _ _ _ _. (field-of ! 41 1 refl refl refl)) $
+        sets ! 6 refl (points-to ! (a .0) (r .at) (field-of ! 48 0 refl refl refl) (local ! 34 refl) refl) refl (tt, tt) $
+        stores-place ! (a .0) (r .at) 3 (r .place) (reaches h (e .1)) (placed r out is) refl refl (λ _ _ _ _ _ _. (field-of ! 41 1 refl refl refl)) $
         sets ! 50 refl (of-opd ! (field-of ! 38 2 refl refl refl)) refl (reply-typed 𝓤 H A W (r .reply) _ (said r out is)) $
         returns ! (look ! 50 refl) $ frees-cell ! 50 refl refl $ frees-cell ! 48 refl refl $ frees-cell ! 46 refl refl $ frees-cell ! 44 refl refl $ frees-cell ! 42 refl refl $ frees-cell ! 40 refl refl $ frees-cell ! 38 refl refl $ frees-cell ! 36 refl refl $ frees-cell ! 34 refl refl $ frees-cell ! 32 refl refl $ frees-cell ! 30 refl refl $ frees-cell ! 28 refl refl $ frees-cell ! 26 refl refl $ frees-cell ! 24 refl refl $ frees-cell ! 22 refl refl $ frees-cell ! 20 refl refl $ frees-cell ! 18 refl refl $ frees-cell ! 16 refl refl $ frees-cell ! 14 refl refl $ frees-cell ! 12 refl refl $ frees-cell ! 10 refl refl $ frees-cell ! 8 refl refl $ frees-cell ! 6 refl refl $ free0 ! $
         by ! (exits (r .reply) (set ps (r .at) (r .place)) (zs .1 .1 .1 .1 .1 .1 .0) (zs .1 .1 .1 .1 .1 .1 .1 .0) (asks-row ps s n b w r (zs .1 .1 .1 .1 .1 .1 .0) (zs .1 .1 .1 .1 .1 .1 .1 .0) (nltb→le (length ps) fourPlaces h) e) (length-set ps (r .at) (r .place)) same₃ same₄ (said r out is))))))))))))))))))))))))))))))))))))

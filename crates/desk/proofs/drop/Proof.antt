@@ -1,6 +1,6 @@
 -- `desk::drop` meets its contract: a walk of its MIR by hand, printed by tools/walks. Of what it calls it is known only that it meets its contract.
 -- Assumes nothing.
-use Rattle.desk.proofs.Walk.{_≡_, refl, ℕ, _<_, _^_, List, [], _∷_, ltb→lt, nltb→le, lit<, length, getD, set, length-set, URA, spell, named, imm, mut, w8, w64, tyInt, tyBool, tyPtr, tyRef, Val, vint, SProp, ent, emp, via, fst∗, GName, Fml, flft, fobs, fbor, Memory, Routine, Heap, Env, Calls, Loops, WpFn, Tables, Atoms, Fun, Lfts, Shares, toks, givenOf, tables, tablesOf, Given, Item, ‵, raw, _⊛_, ⋆, atRet, _$_, _∵_, !, qed, by, move, keep, drop, use1, use2, split, join, fsplit, fjoin, suffices, frame, done, look, init, store, stop, from, lit, of-opd, bin, and-then, no-more, assigns, first, branches, skips, exec, returns, returns-within, enter, alloc1, alloc0, params1, pass1, pass0, free0, agg, local, field-of, sets, lands-as, frees-room, frees-cell, returned, R, vals-of, byte-fits, reaches, points-to, reads-place, stores-place, four-made, FmC, fmOf, WpFn-mono, owns, Is, shows, uint-vals, uint-tells, u8, sliceVal, sliceTy, MutSlice, Room, heres, codedHoleys, slice-vals, mut-slice-tells, finally, ShrSlice, shr-slice-tells, Held, opens-slice, closes-slice, owned, peeks, heard, nothing, Args, Vals, onEntry, Meets, tripleOf, Contract, Triple, calls-at, entered, cited, says, Stays, gave-slice, stay-dropped, walkOf, goes-gave-slice, goes-dropped, ends-at, walked, walk-meets, yes, plain, shrSliceOf, Place, Reply, Refused, blank, fourPlaces, front, Drops, DropTurn, drops-row, drops-short, place-ty, turn-ty, reply-ty, IsReply, refused-is, reply-row, reply-val, turn-row, turn-told, at-fits, placed, said, reply-typed, turn-typed, reply-made, lasting}
+use Rattle.desk.proofs.Walk.{_≡_, refl, ℕ, _<_, _^_, List, [], _∷_, ltb→lt, nltb→le, lit<, length, set, length-set, URA, spell, named, imm, mut, w8, w64, tyInt, tyBool, tyPtr, tyRef, Val, vint, SProp, ent, emp, via, fst∗, Fml, flft, Memory, Routine, Heap, Env, Calls, Loops, WpFn, Tables, Atoms, Fun, Lfts, Shares, toks, givenOf, tables, tablesOf, Given, Item, ‵, raw, _⊛_, ⋆, atRet, _$_, _∵_, !, qed, by, move, keep, drop, use1, use2, split, join, fsplit, fjoin, suffices, frame, done, look, init, store, stop, from, lit, of-opd, bin, and-then, no-more, assigns, first, branches, skips, exec, returns, returns-within, enter, alloc1, alloc0, params1, pass1, pass0, free0, agg, local, field-of, sets, lands-as, frees-room, frees-cell, returned, R, vals-of, byte-fits, reaches, knows, lent, points-to, reads-place, stores-place, four-made, FmC, fmOf, WpFn-mono, owns, Is, shows, uint-vals, uint-tells, u8, sliceVal, sliceTy, MutSlice, Room, slice-vals, mut-slice-tells, finally, ShrSlice, shr-slice-tells, opens-slice, closes-slice, owned, peeks, heard, nothing, Args, Vals, onEntry, Meets, tripleOf, Contract, Triple, calls-at, entered, cited, says, Stays, gave-slice, stay-dropped, walkOf, goes-gave-slice, goes-dropped, ends-at, walked, walk-meets, yes, plain, shrSliceOf, Place, Reply, Refused, fourPlaces, placeAt, front, Drops, DropTurn, drops-row, drops-short, place-ty, turn-ty, reply-ty, IsReply, refused-is, reply-row, reply-val, turn-row, turn-told, at-fits, placed, said, reply-typed, turn-typed, reply-made, lasting}
 use Rattle.desk.proofs.stub_drop as core
 use Rattle.desk.proofs.stub_drop.Symbol as core-def
 use Rattle.desk.proofs.stub_drop.Symbol.{name as #core}
@@ -21,15 +21,6 @@ module _ {M : Type 1} (𝓤 : URA M) (H : Heap 𝓤) (A : Atoms 𝓤) (W : Given
   abbrev ps : List Place
   ps = a .0 .now
 
-  abbrev block : ℕ
-  block = a .0 .ptr .0
-
-  abbrev o : ℕ
-  o = a .0 .ptr .1
-
-  abbrev γ : GName
-  γ = a .0 .name
-
   abbrev s : List ℕ
   s = a .1 .0 .now
 
@@ -49,18 +40,15 @@ module _ {M : Type 1} (𝓤 : URA M) (H : Heap 𝓤) (A : Atoms 𝓤) (W : Given
   abbrev Post : Val → SProp 𝓤
   Post = walkOf 𝓤 H A this.ended stayed (this.clauses 𝓤 H A mem run) .post ((κs, qs, tt, a, vals), tt)
 
-  abbrev p : ℕ → Place
-  p k = getD ps k blank
-
   abbrev to-core : Core 𝓤 H A mem run .Ghost
-  to-core = ((κs .1, qs .1, tt, (p 0, (p 1, (p 2, (p 3, a .1)))), (vals-of (p 0), (vals-of (p 1), (vals-of (p 2), (vals-of (p 3), vals .1))))), tt)
+  to-core = ((κs .1, qs .1, tt, (placeAt ps 0, (placeAt ps 1, (placeAt ps 2, (placeAt ps 3, a .1)))), (vals-of (placeAt ps 0), (vals-of (placeAt ps 1), (vals-of (placeAt ps 2), (vals-of (placeAt ps 3), vals .1))))), tt)
 
   exits : (r : Reply) (qs′ : List Place) → Drops ps s n r qs′ → length qs′ ≡ length ps → IsReply r
-      → ent 𝓤 (⋆ 𝓤 H A (‵ (fobs γ (codedHoleys R .code (heres R qs′))) ∷ ‵ (fbor (κs .0) (Held R (length qs′) block o γ)) ∷ ‵ (flft (κs .0) (qs .0)) ∷ others ∷ [])) (Post (reply-val r))
+      → ent 𝓤 (⋆ 𝓤 H A (‵ (knows (a .0) qs′) ∷ ‵ (lent (κs .0) (a .0) qs′) ∷ ‵ (flft (κs .0) (qs .0)) ∷ others ∷ [])) (Post (reply-val r))
   exits r qs′ e same is =
-      qed W (‵ (fobs γ (codedHoleys R .code (heres R qs′))) ∷ ‵ (fbor (κs .0) (Held R (length qs′) block o γ)) ∷ ‵ (flft (κs .0) (qs .0)) ∷ others ∷ []) ∵
+      qed W (‵ (knows (a .0) qs′) ∷ ‵ (lent (κs .0) (a .0) qs′) ∷ ‵ (flft (κs .0) (qs .0)) ∷ others ∷ []) ∵
       suffices ! _ (ends-at 𝓤 H A this.ended stayed (this.clauses 𝓤 H A mem run) W ((κs, qs, tt, a, vals), tt) (reply-val r) r (qs′, (tt, (tt, tt))) (same, (tt, (tt, tt)))) $ says ! e $
-      use1 W (‵ (finally R γ qs′)) (lasting 𝓤 H A W R (κs .0) γ qs′) $ move ! (2 ∷ 3 ∷ []) $ join ! $ frame ! $
+      use1 W (‵ (finally R (a .0 .name) qs′)) (lasting 𝓤 H A W R (κs .0) (a .0 .name) qs′) $ move ! (2 ∷ 3 ∷ []) $ join ! $ frame ! $
       nothing ! $ nothing ! $ fjoin ! $ nothing ! $ fjoin ! $ move ! (1 ∷ 0 ∷ []) $ fjoin ! $ owned ! reply-row (Is reply-row) (reply-made 𝓤 H A W) r _ is $ keep ! (1 ∷ 0 ∷ []) $ done !
 
   -- the locals, at the types that the code spells
@@ -82,12 +70,12 @@ module _ {M : Type 1} (𝓤 : URA M) (H : Heap 𝓤) (A : Atoms 𝓤) (W : Given
         returns-within ! Post refl (look ! 37 refl) $ frees-cell ! 37 refl refl $ frees-cell ! 35 refl refl $ frees-cell ! 33 refl refl $ frees-cell ! 31 refl refl $ frees-room ! 29 refl refl $ frees-room ! 27 refl refl $ frees-cell ! 25 refl refl $ frees-cell ! 23 refl refl $ frees-room ! 21 refl refl $ frees-room ! 19 refl refl $ frees-room ! 17 refl refl $ frees-room ! 15 refl refl $ frees-room ! 13 refl refl $ frees-room ! 11 refl refl $ frees-room ! 9 refl refl $ frees-room ! 7 refl refl $ frees-room ! 5 refl refl $ free0 ! $
         move ! (4 ∷ []) $ keep ! (1 ∷ 2 ∷ 3 ∷ 4 ∷ []) $
         by ! (exits (Refused 6) ps (drops-short ps s n (ltb→lt (length ps) fourPlaces h)) refl refused-is))
-        (λ h. skips ! $ exec ! C Λ (En l₀ l₁ l₂ l₃ l₄ l₅ l₆ l₇ l₈ l₉ l₁₀ l₁₁ l₁₂ l₁₃ l₁₄ l₁₅ l₁₆) mir′.t-4 (atRet (En l₀ l₁ l₂ l₃ l₄ l₅ l₆ l₇ l₈ l₉ l₁₀ l₁₁ l₁₂ l₁₃ l₁₄ l₁₅ l₁₆) Post) $ opens-slice ! tt R ps block o $
-        reads-place ! ps block o 0 21 19 (reaches h (lit< tt)) (field-of ! 36 0 refl refl refl) tt refl refl refl refl refl refl (λ g₀.
-        reads-place ! ps block o 1 17 15 (reaches h (lit< tt)) (field-of ! 36 0 refl refl refl) tt refl refl refl refl refl refl (λ g₁.
-        reads-place ! ps block o 2 13 11 (reaches h (lit< tt)) (field-of ! 36 0 refl refl refl) tt refl refl refl refl refl refl (λ g₂.
-        reads-place ! ps block o 3 9 7 (reaches h (lit< tt)) (field-of ! 36 0 refl refl refl) tt refl refl refl refl refl refl (λ g₃.
-        closes-slice ! tt R ps ps refl block o $
+        (λ h. skips ! $ exec ! C Λ (En l₀ l₁ l₂ l₃ l₄ l₅ l₆ l₇ l₈ l₉ l₁₀ l₁₁ l₁₂ l₁₃ l₁₄ l₁₅ l₁₆) mir′.t-4 (atRet (En l₀ l₁ l₂ l₃ l₄ l₅ l₆ l₇ l₈ l₉ l₁₀ l₁₁ l₁₂ l₁₃ l₁₄ l₁₅ l₁₆) Post) $ opens-slice ! tt R ps (a .0 .ptr .0) (a .0 .ptr .1) $
+        reads-place ! (a .0) 0 21 19 (reaches h (lit< tt)) (field-of ! 36 0 refl refl refl) tt refl refl refl refl refl refl (λ g₀.
+        reads-place ! (a .0) 1 17 15 (reaches h (lit< tt)) (field-of ! 36 0 refl refl refl) tt refl refl refl refl refl refl (λ g₁.
+        reads-place ! (a .0) 2 13 11 (reaches h (lit< tt)) (field-of ! 36 0 refl refl refl) tt refl refl refl refl refl refl (λ g₂.
+        reads-place ! (a .0) 3 9 7 (reaches h (lit< tt)) (field-of ! 36 0 refl refl refl) tt refl refl refl refl refl refl (λ g₃.
+        closes-slice ! tt R ps ps refl (a .0 .ptr .0) (a .0 .ptr .1) $
         move ! (3 ∷ 4 ∷ []) $ use2 W (raw (Core 𝓤 H A mem run .pre to-core)) (four-made 𝓤 H A W ps (toks 𝓤 A 1 (κs .1) (qs .1)) rest g₀ g₁ g₂ g₃) $
         -- [what the core asks; obs; the borrow; its token; the locals from 4]
         calls-at ! fm (Core 𝓤 H A mem run) core-known to-core (and-then ! (local ! 18 refl) (and-then ! (local ! 14 refl) (and-then ! (local ! 10 refl) (and-then ! (local ! 6 refl) (and-then ! (local ! 32 refl) (and-then ! (local ! 30 refl) (no-more !))))))) (λ out. returned ! tt core.ended (core.clauses 𝓤 H A mem run) to-core out (λ r zs. heard ! (DropTurn (front ps) s n r) (λ e.
@@ -96,8 +84,8 @@ module _ {M : Type 1} (𝓤 : URA M) (H : Heap 𝓤) (A : Atoms 𝓤) (W : Given
         -- [obs; the borrow; its token; the others' tokens; the last lists; the locals from 4]
         sets ! 26 refl (of-opd ! (field-of ! 28 0 refl refl refl)) refl (tt, record { fits = at-fits r out is }) $
         assigns ! (bin ! (local ! 26 refl) (lit ! tt) (record { fits = byte-fits (room .1) (reaches h (e .1)) })) (from ! (stop !)) (store ! 24 refl (tt, record { fits = byte-fits (room .1) (reaches h (e .1)) })) $
-        sets ! 4 refl (points-to ! block o (r .at) (field-of ! 34 0 refl refl refl) (local ! 24 refl) refl) refl (tt, tt) $
-        stores-place ! ps block o (r .at) 1 (r .place) (reaches h (e .1)) (placed r out is) refl refl (λ _ _ _ _ _ _. (field-of ! 31 1 refl refl refl)) $
+        sets ! 4 refl (points-to ! (a .0) (r .at) (field-of ! 34 0 refl refl refl) (local ! 24 refl) refl) refl (tt, tt) $
+        stores-place ! (a .0) (r .at) 1 (r .place) (reaches h (e .1)) (placed r out is) refl refl (λ _ _ _ _ _ _. (field-of ! 31 1 refl refl refl)) $
         sets ! 36 refl (of-opd ! (field-of ! 28 2 refl refl refl)) refl (reply-typed 𝓤 H A W (r .reply) _ (said r out is)) $
         returns ! (look ! 36 refl) $ frees-cell ! 36 refl refl $ frees-cell ! 34 refl refl $ frees-cell ! 32 refl refl $ frees-cell ! 30 refl refl $ frees-cell ! 28 refl refl $ frees-cell ! 26 refl refl $ frees-cell ! 24 refl refl $ frees-cell ! 22 refl refl $ frees-cell ! 20 refl refl $ frees-cell ! 18 refl refl $ frees-cell ! 16 refl refl $ frees-cell ! 14 refl refl $ frees-cell ! 12 refl refl $ frees-cell ! 10 refl refl $ frees-cell ! 8 refl refl $ frees-cell ! 6 refl refl $ frees-cell ! 4 refl refl $ free0 ! $
         by ! (exits (r .reply) (set ps (r .at) (r .place)) (drops-row ps s n r (nltb→le (length ps) fourPlaces h) e) (length-set ps (r .at) (r .place)) (said r out is))))))))))))))))))))))))))))
