@@ -2,3 +2,4 @@
 pub mod Below
 pub mod Alike
 pub mod Laid
+pub mod Front

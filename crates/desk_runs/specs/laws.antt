@@ -1,0 +1,3 @@
+-- What is proved of runs.
+pub mod Parts
+pub mod Stands
