@@ -9,7 +9,7 @@ use Rattle.format.specs.Promises.{answered, readRecord}
 use Rattle.packet_reading.specs.Packet.{packets, recordOf}
 use Rattle.packet_reading.specs.declared.Packet.{Packet}
 use Rattle.places.specs.Places.{fourPlaces, placeAt}
-use Rattle.places.specs.Desk.{storeBytes, numberOf, applied, accepting, asking, dropping}
+use Rattle.places.specs.Desk.{storeBytes, numberOf, applied, accepting, Asking, asking, dropping}
 use Rattle.places.specs.declared.Place.{Place}
 use Rattle.places.specs.declared.Reply.{Reply}
 use Rattle.places.specs.declared.Reply.the-variants.{Joined, Missing, Refused}
@@ -109,6 +109,9 @@ pub record Given : Type 0 where
   pub reply : Reply
   pub notice : List ℕ
   pub missing : List ℕ
+
+abbrev pub given : Asking → Given
+given o = record { reply = o .reply; notice = o .notice; missing = o .missing }
 
 abbrev pub refusal : List ℕ → List ℕ → ℕ → Given
 refusal b w code = record { reply = Refused code; notice = b; missing = w }

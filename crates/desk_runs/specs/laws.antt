@@ -1,3 +1,5 @@
 -- What is proved of runs.
 pub mod Parts
 pub mod Stands
+pub mod Told
+pub mod Steps
