@@ -3,3 +3,4 @@ pub mod Parts
 pub mod Stands
 pub mod Told
 pub mod Steps
+pub mod Demand

@@ -1,7 +1,7 @@
 -- Packets of one notice that have come: their contents, and that `notCome` lists all and only the numbers that have not, rising. Assumes nothing.
 use mathlib.Core.Path.{_≡_, refl, sym, ap, ap₂, _∙_, subst}
 use mathlib.Core.Bool.{Bool, true, false, not, cond, _||_, false≢true, true≢false}
-use mathlib.Core.List.{List, [], _∷_, _++_, List·Memᴰ, List·Memᴰ·head, List·Memᴰ·tail, Memᴰ·append-left, Memᴰ·append-right, List·Memᴰ·append-cases, List·Memᴰ·eq-of-singleton, List·Memᴰ·not-nil}
+use mathlib.Core.List.{List, [], _∷_, _++_, List·Memᴰ, List·Memᴰ·head, List·Memᴰ·tail, List·Memᴰ·cases-cons, Memᴰ·append-left, Memᴰ·append-right, List·Memᴰ·append-cases, List·Memᴰ·eq-of-singleton, List·Memᴰ·not-nil}
 use mathlib.Core.Logic.{_↔_, _⊎_, inl, inr}
 use Prim.Native.Nat.{ℕ, zero, suc, _+_, _≤_, _<_}
 use native.Mathlib.Omega.{arith}
@@ -24,6 +24,14 @@ pub record Member (t l : ℕ) (x : Part) : Type 0 where
 abbrev pub Members : ℕ → ℕ → List Part → Type 0
 Members t l [] = Unit
 Members t l (x ∷ xs) = Member t l x × Members t l xs
+
+pub member-of : (t l : ℕ) (xs : List Part) → Members t l xs → (y : Part) → List·Memᴰ y xs → Member t l y
+member-of t l [] ms y h = absurd (List·Memᴰ·not-nil h)
+member-of t l (x ∷ xs) (m, ms) y h = go (List·Memᴰ·cases-cons h) (member-of t l xs ms y)
+  where
+    go : (y ≡ x) ⊎ List·Memᴰ y xs → (List·Memᴰ y xs → Member t l y) → Member t l y
+    go (inl q) r = subst (Member t l) (sym q) m
+    go (inr k) r = r k
 
 pub content-cons : (x : Part) (xs : List Part) (k : ℕ) → contentOf (x ∷ xs) k ≡ cond (eqb (x .0 .own) k) (x .1) (contentOf xs k)
 unfolding contentOf

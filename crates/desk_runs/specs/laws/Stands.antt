@@ -1,7 +1,7 @@
 -- One open place against the packets that have come: each number's content stands in its cell, and its size in the place. Shown anew for a packet that is put in. Assumes nothing.
 use mathlib.Core.Path.{_≡_, refl, sym, ap, ap₂, _∙_, subst}
 use mathlib.Core.Bool.{Bool, true, false, not, cond, _&&_, _||_}
-use mathlib.Core.List.{List, [], _∷_, _++_}
+use mathlib.Core.List.{List, [], _∷_, _++_, List·Memᴰ, List·Memᴰ·cases-cons}
 use mathlib.Core.Logic.{_⊎_, inl, inr}
 use Prim.Native.Nat.{ℕ, zero, suc, _+_, _≤_, _<_}
 use native.Mathlib.Omega.{arith}
@@ -17,12 +17,14 @@ use Rattle.places.specs.declared.Place.{Place}
 use Rattle.places.specs.laws.Below.{each-every, some-every}
 use Rattle.places.specs.laws.Laid.{laid-there, other-cell}
 use Rattle.desk_runs.specs.Runs.{Part, came, contentOf, notCome, inOrder}
-use Rattle.desk_runs.specs.laws.Parts.{Member, Members, content-cons, came-content, content-few, content-below}
+use Rattle.desk_runs.specs.laws.Parts.{Member, Members, member-of, content-cons, came-content, content-few, content-below}
 
 -- place i is p, and the packets xs of its notice have come
 pub record Stands (s : List ℕ) (i : ℕ) (p : Place) (xs : List Part) : Type 0 where
   pub some : 1 ≤ length xs
   pub members : Members (p .total) (p .language) xs
+  -- packets of one number have one content
+  pub agreed : (y : Part) → List·Memᴰ y xs → contentOf xs (y .0 .own) ≡ y .1
   pub row : length (p .sizes) ≡ mostPackets
   pub sizes : (k : ℕ) → held p k ≡ length (contentOf xs k)
   pub cells : (k : ℕ) → take (length (contentOf xs k)) (drop (cell i k) s) ≡ contentOf xs k
@@ -90,6 +92,7 @@ pub moved : {s : List ℕ} {i : ℕ} {p : Place} {xs : List Part} (t : List ℕ)
 moved {s} {i} {p} {xs} t x h = record {
   some = x .some;
   members = x .members;
+  agreed = x .agreed;
   row = x .row;
   sizes = x .sizes;
   cells = λ k.
@@ -98,12 +101,14 @@ moved {s} {i} {p} {xs} t x h = record {
 }
 
 -- a packet of a number that has not come is put in, where xs had come and the sizes were z
-pub put-in : (s : List ℕ) (i : ℕ) (p : Place) (x : Part) (xs : List Part) (z : List ℕ) → cell i (x .0 .own) + length (x .1) ≤ length s → Members (p .total) (p .language) (x ∷ xs) → length z ≡ mostPackets
+pub put-in : (s : List ℕ) (i : ℕ) (p : Place) (x : Part) (xs : List Part) (z : List ℕ) → cell i (x .0 .own) + length (x .1) ≤ length s → Members (p .total) (p .language) (x ∷ xs)
+    → ((y : Part) → List·Memᴰ y xs → contentOf xs (y .0 .own) ≡ y .1) → length (contentOf xs (x .0 .own)) ≡ 0 → length z ≡ mostPackets
     → ((k : ℕ) → getD z k 0 ≡ length (contentOf xs k)) → ((k : ℕ) → take (length (contentOf xs k)) (drop (cell i k) s) ≡ contentOf xs k) → p .sizes ≡ set z (x .0 .own) (length (x .1))
     → Stands (laid s (cell i (x .0 .own)) (x .1)) i p (x ∷ xs)
-put-in s i p x xs z fits ms row sizes cells is = record {
+put-in s i p x xs z fits ms agreed new row sizes cells is = record {
   some = omega arith;
   members = ms;
+  agreed = λ y h. content-cons x xs (y .0 .own) ∙ one y (List·Memᴰ·cases-cons h);
   row = ap length is ∙ length-set z own (length c) ∙ row;
   sizes = λ k. ap (λ y. getD y k 0) is ∙ rw (content-cons x xs k) (size k (eqb own k) refl);
   cells = λ k. rw (content-cons x xs k) (stood k (eqb own k) refl);
@@ -117,6 +122,16 @@ put-in s i p x xs z fits ms row sizes cells is = record {
 
     low : own < mostPackets
     low = let f = ms .0 .fit in omega (arith, f .own, f .total)
+
+    one : (y : Part) → (y ≡ x) ⊎ List·Memᴰ y xs → cond (eqb own (y .0 .own)) c (contentOf xs (y .0 .own)) ≡ y .1
+    one y (inl q) = rw (eq-eqb own (y .0 .own) (ap (λ u. u .0 .own) (sym q))) (ap (λ u. u .1) (sym q))
+    one y (inr h) = other (eqb own (y .0 .own)) refl
+      where
+        other : (b : Bool) → eqb own (y .0 .own) ≡ b → cond b c (contentOf xs (y .0 .own)) ≡ y .1
+        other true e =
+            let full = member-of (p .total) (p .language) xs (ms .1) y h .fit .some in
+            absurd (omega (arith, full, new, ap length (agreed y h), ap (λ k. length (contentOf xs k)) (eqb-true own (y .0 .own) e)))
+        other false e = agreed y h
 
     size : (k : ℕ) (y : Bool) → eqb own k ≡ y → getD (set z own (length c)) k 0 ≡ length (cond y c (contentOf xs k))
     size k true e = ap (λ j. getD (set z own (length c)) j 0) (sym (eqb-true own k e)) ∙ getD-set-same z own (length c) 0 (omega (arith, low, row))
@@ -135,6 +150,7 @@ pub again : {s : List ℕ} {i : ℕ} {p : Place} {xs : List Part} (x : Part) →
 again {s} {i} {p} {xs} x y m e = record {
   some = omega arith;
   members = (m, y .members);
+  agreed = λ u h. same (u .0 .own) ∙ one u (List·Memᴰ·cases-cons h);
   row = y .row;
   sizes = λ k. rw (same k) (y .sizes k);
   cells = λ k. rw (same k) (y .cells k);
@@ -146,3 +162,7 @@ again {s} {i} {p} {xs} x y m e = record {
         go : (b : Bool) → eqb (x .0 .own) k ≡ b → cond b (x .1) (contentOf xs k) ≡ contentOf xs k
         go true q = sym e ∙ ap (contentOf xs) (eqb-true (x .0 .own) k q)
         go false q = refl
+
+    one : (u : Part) → (u ≡ x) ⊎ List·Memᴰ u xs → contentOf xs (u .0 .own) ≡ u .1
+    one u (inl q) = rw q e
+    one u (inr h) = y .agreed u h

@@ -1,7 +1,7 @@
 -- Each call keeps what is told of the desk, where its entry of the log is counted; and asking gives what is due. Assumes nothing.
 use mathlib.Core.Path.{_≡_, refl, sym, ap, _∙_, subst}
 use mathlib.Core.Bool.{Bool, true, false, not, cond, _&&_, _||_, false≢true, and-eq-true-iff}
-use mathlib.Core.List.{List, [], _∷_, _++_}
+use mathlib.Core.List.{List, [], _∷_, _++_, List·Memᴰ·not-nil}
 use Prim.Native.Nat.{ℕ, zero, suc, _+_, _≤_, _<_}
 use native.Mathlib.Omega.{arith}
 use lib.Dec.{leb, ltb, eqb}
@@ -13,7 +13,7 @@ use Rattle.format.specs.Promises.{answered, readRecord}
 use Rattle.packet_reading.specs.Packet.{mostPackets, partBytes, packets, recordOf}
 use Rattle.packet_reading.specs.declared.Packet.{Packet}
 use Rattle.packet_reading.specs.laws.Accepted.{Fit, read-fit}
-use Rattle.places.specs.Places.{blank, lacks, opened, holding, freed, fourPlaces, placeAt, front, openAt, freeAt}
+use Rattle.places.specs.Places.{blank, held, lacks, opened, holding, freed, fourPlaces, placeAt, front, openAt, freeAt}
 use Rattle.places.specs.Desk.{storeBytes, cell, inCell, laid, alike, numberOf, applied, firstTests, stays, Accepting, turnedAway, taken, contradicts, joins, opens, received, accepting, turns, Asking, notAnswered, answers, asking, Dropping, dropping, missingBelow, joinedBelow}
 use Rattle.places.specs.declared.Place.{Place}
 use Rattle.places.specs.declared.Reply.{Reply}
@@ -46,9 +46,9 @@ none-held (suc n) (suc k) = none-held n k
 agrees : (s : List ℕ) (i : ℕ) (p : Place) (r : Packet) (c : List ℕ) → contradicts s i p r c ≡ false
     → (r .language ≡ p .language) × (r .total ≡ p .total) × ((lacks p (r .own) || alike (inCell s i p (r .own)) c) ≡ true)
 agrees s i p r c e =
-    let held = lacks p (r .own) || alike (inCell s i p (r .own)) c in
-    let (a, b) = and-eq-true-iff (eqb (r .language) (p .language)) (eqb (r .total) (p .total) && held) .0 (not-false (eqb (r .language) (p .language) && (eqb (r .total) (p .total) && held)) e) in
-    let (t, h) = and-eq-true-iff (eqb (r .total) (p .total)) held .0 b in
+    let like = lacks p (r .own) || alike (inCell s i p (r .own)) c in
+    let (a, b) = and-eq-true-iff (eqb (r .language) (p .language)) (eqb (r .total) (p .total) && like) .0 (not-false (eqb (r .language) (p .language) && (eqb (r .total) (p .total) && like)) e) in
+    let (t, h) = and-eq-true-iff (eqb (r .total) (p .total)) like .0 b in
     (eqb-true (r .language) (p .language) a, eqb-true (r .total) (p .total) t, h)
 
 each-given : (u v w : Bool) (o o′ q q′ : Asking) → given (cond u (cond v o o′) (cond w q q′)) ≡ cond u (cond v (given o) (given o′)) (cond w (given q) (given q′))
@@ -101,7 +101,7 @@ module _ {ps : List Place} {s : List ℕ} {f : ℕ → List Part} (x : Told ps s
             let member : Member (p .total) (p .language) y = record { fit = fit; total = total; language = language } in
             filled x i l (holding p (r .own) (length c)) (laid s (cell i (r .own)) c) (λ n. grown n (comes m, Done) (f n)) (length-laid s (cell i (r .own)) c (fits i l)) o
             (λ j a d oj e. d (x .alone j i a l oj o e)) (λ k. refl) (others i l)
-            (rw (grown-here m y Done (p .number) (f (p .number)) reads refl (sym q)) (put-in s i (holding p (r .own) (length c)) y (f (p .number)) (p .sizes) (fits i l) (member, st .members) (st .row) (st .sizes) (st .cells) refl))
+            (rw (grown-here m y Done (p .number) (f (p .number)) reads refl (sym q)) (put-in s i (holding p (r .own) (length c)) y (f (p .number)) (p .sizes) (fits i l) (member, st .members) (st .agreed) (sym (st .sizes (r .own)) ∙ eqb-true (held p (r .own)) 0 ev) (st .row) (st .sizes) (st .cells) refl))
             (λ n d. grown-there m y Done n (f n) reads refl (λ e. d (sym e ∙ sym q)))
         go false false eu ev = 
             let (language, total, h) = agrees s i p r c eu in
@@ -128,7 +128,7 @@ module _ {ps : List Place} {s : List ℕ} {f : ℕ → List Part} (x : Told ps s
             let member : Member (r .total) (r .language) y = record { fit = fit; total = refl; language = refl } in
             filled x i l (opened r (length c)) (laid s (cell i (r .own)) c) (λ n. grown n (comes m, Done) (f n)) (length-laid s (cell i (r .own)) c (fits i l)) refl
             (λ j a d oj q. h j a oj q) (λ o. absurd (false≢true (sym shut ∙ o))) (others i l)
-            (rw (grown-here m y Done (r .number) (f (r .number)) reads refl refl, x .away (r .number) h) (put-in s i (opened r (length c)) y [] (replicate mostPackets 0) (fits i l) (member, tt) (length-replicate {A = ℕ} mostPackets 0) (none-held mostPackets) (λ k. refl) refl))
+            (rw (grown-here m y Done (r .number) (f (r .number)) reads refl refl, x .away (r .number) h) (put-in s i (opened r (length c)) y [] (replicate mostPackets 0) (fits i l) (member, tt) (λ z k. absurd (List·Memᴰ·not-nil k)) refl (length-replicate {A = ℕ} mostPackets 0) (none-held mostPackets) (λ k. refl) refl))
             (λ n d. grown-there m y Done n (f n) reads refl (λ q. d (sym q)))
         go false e = retold x (λ n. grown n (comes m, Refused 8) (f n)) (λ n. refl)
 
