@@ -4,3 +4,4 @@ pub mod Stands
 pub mod Told
 pub mod Steps
 pub mod Demand
+pub mod Older

@@ -1,5 +1,5 @@
 -- Demand 2 of every run of calls from an empty desk: asking gives what is due for the packets that have come since the notice was opened, and nothing older. Assumes nothing.
-use mathlib.Core.Path.{_≡_, refl, sym, ap, _∙_, subst}
+use mathlib.Core.Path.{_≡_, refl, sym, ap, _∙_}
 use mathlib.Core.Bool.{Bool, true, false, cond, false≢true}
 use mathlib.Core.List.{List, [], _∷_, _++_, List·Memᴰ, List·Memᴰ·head, List·Memᴰ·not-nil}
 use mathlib.Core.Logic.{_↔_}
@@ -7,14 +7,13 @@ use Prim.Native.Nat.{ℕ, _≤_, _<_}
 use native.Mathlib.Omega.{arith}
 use lib.Dec.{leb, eqb}
 use lib.ListN.{length, drop}
-use borrow.Author.Tests.{leb-true, leb-false, eqb-true, eqb-false, ne-eqb, le-leb, lt-leb}
-use Rattle.places.specs.Places.{fourPlaces, placeAt, goodPlaces, openAt}
+use borrow.Author.Tests.{eqb-true, ne-eqb, le-leb, lt-leb}
+use Rattle.places.specs.Places.{goodPlaces}
 use Rattle.places.specs.Desk.{numberOf, firstTests}
-use Rattle.places.specs.declared.Reply.{Reply}
-use Rattle.places.specs.declared.Reply.the-variants.{Joined, Missing, Refused}
-use Rattle.desk_runs.specs.Runs.{Desk, Empty, Call, comes, asks, drops, replyTo, run, log, Part, frees, grown, since, came, contentOf, notCome, inOrder, Complete, Given, asked, refusal, due}
-use Rattle.desk_runs.specs.laws.Parts.{Members, all-and-only}
-use Rattle.desk_runs.specs.laws.Told.{Told, good-places, tests-pass}
+use Rattle.places.specs.declared.Reply.the-variants.{Joined, Missing}
+use Rattle.desk_runs.specs.Runs.{Desk, Empty, Call, comes, asks, drops, run, log, Part, since, came, contentOf, notCome, inOrder, Complete, Given, asked, refusal, due}
+use Rattle.desk_runs.specs.laws.Parts.{Member, member-of, all-and-only}
+use Rattle.desk_runs.specs.laws.Told.{Told, good-places, tests-pass, its-place}
 use Rattle.desk_runs.specs.laws.Steps.{accepts-told, asks-told, drops-told, asked-due}
 
 -- ---- what is due
@@ -155,3 +154,11 @@ module _ (d : Desk) (empty : Empty d) where
 
     pub asked-cramped-row : (Complete (x ∷ xs) → ⊥) → length w < length (lacking x xs) → asked n b w (run d cs) ≡ refusal b w 6
     asked-cramped-row h room = is-due ∙ incomplete-cramped x xs b w h room
+
+    -- All of them have one total and one language, and those of one number have one content.
+    pub one-notice : (y : Part) → List·Memᴰ y (x ∷ xs) → Member (x .0 .total) (x .0 .language) y × (contentOf (x ∷ xs) (y .0 .own) ≡ y .1)
+    one-notice y h =
+        let (i, st) = its-place (told cs) n x xs have in
+        let first = st .members .0 in
+        let m = member-of _ _ (x ∷ xs) (st .members) y h in
+        (record { fit = m .fit; total = m .total ∙ sym (first .total); language = m .language ∙ sym (first .language) }, st .agreed y h)

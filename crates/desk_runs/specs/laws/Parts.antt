@@ -1,6 +1,6 @@
 -- Packets of one notice that have come: their contents, and that `notCome` lists all and only the numbers that have not, rising. Assumes nothing.
-use mathlib.Core.Path.{_≡_, refl, sym, ap, ap₂, _∙_, subst}
-use mathlib.Core.Bool.{Bool, true, false, not, cond, _||_, false≢true, true≢false}
+use mathlib.Core.Path.{_≡_, refl, sym, ap, _∙_, subst}
+use mathlib.Core.Bool.{Bool, true, false, not, cond, _||_}
 use mathlib.Core.List.{List, [], _∷_, _++_, List·Memᴰ, List·Memᴰ·head, List·Memᴰ·tail, List·Memᴰ·cases-cons, Memᴰ·append-left, Memᴰ·append-right, List·Memᴰ·append-cases, List·Memᴰ·eq-of-singleton, List·Memᴰ·not-nil}
 use mathlib.Core.Logic.{_↔_, _⊎_, inl, inr}
 use Prim.Native.Nat.{ℕ, zero, suc, _+_, _≤_, _<_}
@@ -11,7 +11,7 @@ use lib.Seq.{getD-at}
 use borrow.Author.Tests.{ltb-true, ltb-false, eqb-true, eqb-false, ne-eqb}
 use Rattle.packet_reading.specs.Packet.{mostPackets, partBytes}
 use Rattle.packet_reading.specs.laws.Accepted.{Fit}
-use Rattle.desk_runs.specs.Runs.{Part, came, contentOf, notCome, inOrder}
+use Rattle.desk_runs.specs.Runs.{Part, came, contentOf, notCome}
 
 -- ---- what each of them has
 

@@ -1,18 +1,18 @@
 -- One open place against the packets that have come: each number's content stands in its cell, and its size in the place. Shown anew for a packet that is put in. Assumes nothing.
-use mathlib.Core.Path.{_≡_, refl, sym, ap, ap₂, _∙_, subst}
+use mathlib.Core.Path.{_≡_, refl, sym, ap, ap₂, _∙_}
 use mathlib.Core.Bool.{Bool, true, false, not, cond, _&&_, _||_}
 use mathlib.Core.List.{List, [], _∷_, _++_, List·Memᴰ, List·Memᴰ·cases-cons}
 use mathlib.Core.Logic.{_⊎_, inl, inr}
 use Prim.Native.Nat.{ℕ, zero, suc, _+_, _≤_, _<_}
 use native.Mathlib.Omega.{arith}
 use lib.Dec.{leb, ltb, eqb}
-use lib.ListN.{length, getD, set, take, drop, replicate, length-set, getD-replicate, length-replicate, List·getD-eq-default}
+use lib.ListN.{length, getD, set, take, drop, length-set}
 use lib.Seq.{getD-set-same, getD-set-other}
-use borrow.Author.Tests.{ltb-true, ltb-false, eqb-true, eqb-false, eq-eqb, ne-eqb, le-leb, lt-ltb}
+use borrow.Author.Tests.{eqb-true, eqb-false, eq-eqb, ne-eqb, le-leb, lt-ltb}
 use Rattle.format.specs.Message.{between}
 use Rattle.packet_reading.specs.Packet.{mostPackets, partBytes}
 use Rattle.places.specs.Places.{everyBelow, held, lacks, entryGood, goodPlace}
-use Rattle.places.specs.Desk.{cell, inCell, laid, storeBytes, missingBelow, joinedBelow}
+use Rattle.places.specs.Desk.{cell, inCell, laid, missingBelow, joinedBelow}
 use Rattle.places.specs.declared.Place.{Place}
 use Rattle.places.specs.laws.Below.{each-every, some-every}
 use Rattle.places.specs.laws.Laid.{laid-there, other-cell}
@@ -96,8 +96,8 @@ moved {s} {i} {p} {xs} t x h = record {
   row = x .row;
   sizes = x .sizes;
   cells = λ k.
-    kept (contentOf xs k) (drop (cell i k) s) (drop (cell i k) t) (x .cells k)
-    (λ n. let b = content-below (p .total) (p .language) xs (x .members) k n in h k (length (contentOf xs k)) (omega (arith, b)) (content-few (p .total) (p .language) xs (x .members) k));
+      kept (contentOf xs k) (drop (cell i k) s) (drop (cell i k) t) (x .cells k)
+      (λ n. let b = content-below (p .total) (p .language) xs (x .members) k n in h k (length (contentOf xs k)) (omega (arith, b)) (content-few (p .total) (p .language) xs (x .members) k));
 }
 
 -- a packet of a number that has not come is put in, where xs had come and the sizes were z
@@ -142,8 +142,8 @@ put-in s i p x xs z fits ms agreed new row sizes cells is = record {
     stood k false e =
         kept (contentOf xs k) (drop (cell i k) s) (drop (cell i k) (laid s (cell i own) c)) (cells k)
         (λ n.
-          let b = content-below (p .total) (p .language) xs (ms .1) k n in
-          other-cell s i own c fits low (ms .0 .fit .few) i k (length (contentOf xs k)) (omega (arith, b)) (content-few (p .total) (p .language) xs (ms .1) k) (λ a q. eqb-false own k e q))
+        let b = content-below (p .total) (p .language) xs (ms .1) k n in
+        other-cell s i own c fits low (ms .0 .fit .few) i k (length (contentOf xs k)) (omega (arith, b)) (content-few (p .total) (p .language) xs (ms .1) k) (λ a q. eqb-false own k e q))
 
 -- the same packet comes again
 pub again : {s : List ℕ} {i : ℕ} {p : Place} {xs : List Part} (x : Part) → Stands s i p xs → Member (p .total) (p .language) x → contentOf xs (x .0 .own) ≡ x .1 → Stands s i p (x ∷ xs)

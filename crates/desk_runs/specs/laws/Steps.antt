@@ -1,28 +1,28 @@
 -- Each call keeps what is told of the desk, where its entry of the log is counted; and asking gives what is due. Assumes nothing.
-use mathlib.Core.Path.{_≡_, refl, sym, ap, _∙_, subst}
-use mathlib.Core.Bool.{Bool, true, false, not, cond, _&&_, _||_, false≢true, and-eq-true-iff}
+use mathlib.Core.Path.{_≡_, refl, sym, _∙_, subst}
+use mathlib.Core.Bool.{Bool, true, false, cond, _&&_, _||_, false≢true, and-eq-true-iff}
 use mathlib.Core.List.{List, [], _∷_, _++_, List·Memᴰ·not-nil}
 use Prim.Native.Nat.{ℕ, zero, suc, _+_, _≤_, _<_}
 use native.Mathlib.Omega.{arith}
 use lib.Dec.{leb, ltb, eqb}
-use lib.ListN.{length, getD, set, take, drop, replicate, length-replicate, getD-replicate, List·getD-eq-default}
+use lib.ListN.{length, getD, set, take, drop, replicate, length-replicate}
 use lib.Seq.{set-getD}
-use borrow.Author.Tests.{ltb-true, ltb-false, eqb-true, eqb-false, eq-eqb, ne-eqb, not-false}
+use borrow.Author.Tests.{ltb-true, ltb-false, eqb-true, eq-eqb, ne-eqb, not-false}
 use Rattle.format.specs.Fmt.{Out, accepted, refused}
 use Rattle.format.specs.Promises.{answered, readRecord}
 use Rattle.packet_reading.specs.Packet.{mostPackets, partBytes, packets, recordOf}
 use Rattle.packet_reading.specs.declared.Packet.{Packet}
 use Rattle.packet_reading.specs.laws.Accepted.{Fit, read-fit}
 use Rattle.places.specs.Places.{blank, held, lacks, opened, holding, freed, fourPlaces, placeAt, front, openAt, freeAt}
-use Rattle.places.specs.Desk.{storeBytes, cell, inCell, laid, alike, numberOf, applied, firstTests, stays, Accepting, turnedAway, taken, contradicts, joins, opens, received, accepting, turns, Asking, notAnswered, answers, asking, Dropping, dropping, missingBelow, joinedBelow}
+use Rattle.places.specs.Desk.{cell, inCell, laid, alike, numberOf, applied, firstTests, stays, Accepting, turnedAway, taken, contradicts, joins, opens, received, accepting, turns, Asking, notAnswered, answers, asking, Dropping, dropping, missingBelow, joinedBelow}
 use Rattle.places.specs.declared.Place.{Place}
 use Rattle.places.specs.declared.Reply.{Reply}
 use Rattle.places.specs.declared.Reply.the-variants.{Done, Again, Joined, Missing, Refused}
 use Rattle.places.specs.laws.Alike.{alike-same}
 use Rattle.places.specs.laws.Front.{front-open, front-free, front-at, open-found, open-none, free-found}
 use Rattle.places.specs.laws.Laid.{length-laid, other-cell}
-use Rattle.desk_runs.specs.Runs.{Call, comes, asks, drops, Part, grown, notCome, inOrder, contentOf, Given, given, due, refusal}
-use Rattle.desk_runs.specs.laws.Parts.{Member, Members}
+use Rattle.desk_runs.specs.Runs.{comes, asks, drops, Part, grown, notCome, inOrder, contentOf, given, due}
+use Rattle.desk_runs.specs.laws.Parts.{Member}
 use Rattle.desk_runs.specs.laws.Stands.{Stands, in-cell, missing-is, joined-is, put-in, again}
 use Rattle.desk_runs.specs.laws.Told.{Told, Unopened, tests-pass, retold, filled, emptied}
 
@@ -103,14 +103,14 @@ module _ {ps : List Place} {s : List ℕ} {f : ℕ → List Part} (x : Told ps s
             (λ j a d oj e. d (x .alone j i a l oj o e)) (λ k. refl) (others i l)
             (rw (grown-here m y Done (p .number) (f (p .number)) reads refl (sym q)) (put-in s i (holding p (r .own) (length c)) y (f (p .number)) (p .sizes) (fits i l) (member, st .members) (st .agreed) (sym (st .sizes (r .own)) ∙ eqb-true (held p (r .own)) 0 ev) (st .row) (st .sizes) (st .cells) refl))
             (λ n d. grown-there m y Done n (f n) reads refl (λ e. d (sym e ∙ sym q)))
-        go false false eu ev = 
+        go false false eu ev =
             let (language, total, h) = agrees s i p r c eu in
             let member : Member (p .total) (p .language) y = record { fit = fit; total = total; language = language } in
             let same = sym (in-cell st (r .own)) ∙ alike-same (inCell s i p (r .own)) c (subst (λ v. (v || alike (inCell s i p (r .own)) c) ≡ true) ev h) in
             let told =
-                filled x i l p s (λ n. grown n (comes m, Again) (f n)) refl o (λ j a d oj e. d (x .alone j i a l oj o e)) (λ k. refl) (λ j k n d a b. refl)
-                (rw (grown-here m y Again (p .number) (f (p .number)) reads refl (sym q)) (again y st member same))
-                (λ n d. grown-there m y Again n (f n) reads refl (λ e. d (sym e ∙ sym q))) in
+            filled x i l p s (λ n. grown n (comes m, Again) (f n)) refl o (λ j a d oj e. d (x .alone j i a l oj o e)) (λ k. refl) (λ j k n d a b. refl)
+            (rw (grown-here m y Again (p .number) (f (p .number)) reads refl (sym q)) (again y st member same))
+            (λ n d. grown-there m y Again n (f n) reads refl (λ e. d (sym e ∙ sym q))) in
             subst (λ qs. Told qs s (λ n. grown n (comes m, Again) (f n))) (set-getD ps i blank) told
 
     -- it is not
@@ -220,9 +220,9 @@ module _ {ps : List Place} {s : List ℕ} {f : ℕ → List Part} (x : Told ps s
       let total = st .members .0 .total in
       let language = st .members .0 .language in
       rw (missing-is st (p .total), joined-is st (p .total), sym total, sym language) (
-        let ns = notCome (z .0 .total) (z ∷ xs) in
-        let c = inOrder (z .0 .total) (z ∷ xs) in
-        each-given (eqb (length ns) 0) (leb (length c) (length b)) (leb (length ns) (length w)) _ _ _ _
+      let ns = notCome (z .0 .total) (z ∷ xs) in
+      let c = inOrder (z .0 .total) (z ∷ xs) in
+      each-given (eqb (length ns) 0) (leb (length c) (length b)) (leb (length ns) (length w)) _ _ _ _
       )
 
   pub asked-due : (n : ℕ) (b w : List ℕ) → given (asking ps s n b w) ≡ due (f n) b w

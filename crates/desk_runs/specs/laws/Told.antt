@@ -1,19 +1,20 @@
 -- The desk against the packets that have come of each notice: what holds between them, kept where a place is filled or freed; the desk's tests pass it. Assumes nothing.
 use mathlib.Core.Path.{_≡_, refl, sym, ap, _∙_, subst}
-use mathlib.Core.Bool.{Bool, true, false, not, cond, _&&_, _||_, false≢true}
-use mathlib.Core.List.{List, []}
+use mathlib.Core.Bool.{Bool, true, false, not, _&&_, _||_, false≢true}
+use mathlib.Core.List.{List, [], _∷_}
 use mathlib.Core.Logic.{_⊎_, inl, inr}
-use Prim.Native.Nat.{ℕ, _≤_, _<_}
+use Prim.Native.Nat.{ℕ, suc, _≤_, _<_}
 use native.Mathlib.Omega.{arith}
-use lib.Dec.{leb, eqb}
+use lib.Dec.{ltb, eqb}
 use lib.ListN.{length, set, take, drop, length-set}
 use lib.Seq.{getD-set-same, getD-set-other}
-use borrow.Author.Tests.{eqb-true, eqb-false, le-leb}
+use borrow.Author.Tests.{ltb-true, ltb-false, eqb-true, eqb-false, le-leb}
 use Rattle.packet_reading.specs.Packet.{mostPackets, partBytes}
-use Rattle.places.specs.Places.{everyBelow, blank, goodPlace, clash, fourPlaces, placeAt, goodPlaces}
+use Rattle.places.specs.Places.{everyBelow, blank, goodPlace, clash, fourPlaces, placeAt, goodPlaces, openAt}
 use Rattle.places.specs.Desk.{storeBytes, cell, firstTests}
 use Rattle.places.specs.declared.Place.{Place}
 use Rattle.places.specs.laws.Below.{each-every}
+use Rattle.places.specs.laws.Front.{open-found, open-none}
 use Rattle.desk_runs.specs.Runs.{Part}
 use Rattle.desk_runs.specs.laws.Stands.{Stands, good-place, moved}
 
@@ -61,6 +62,17 @@ module _ {ps : List Place} {s : List ℕ} {f : ℕ → List Part} (x : Told ps s
   pub tests-pass : firstTests ps s ≡ 0
   unfolding firstTests
   tests-pass = rw (le-leb fourPlaces (length ps) (x .wide), le-leb storeBytes (length s) (x .deep), good-places) refl
+
+  -- the place of a notice of which a packet has come
+  pub its-place : (n : ℕ) (y : Part) (ys : List Part) → f n ≡ y ∷ ys → (i : ℕ) × Stands s i (placeAt ps i) (y ∷ ys)
+  its-place n y ys e = go (ltb (openAt ps n) fourPlaces) refl
+    where
+      go : (u : Bool) → ltb (openAt ps n) fourPlaces ≡ u → (i : ℕ) × Stands s i (placeAt ps i) (y ∷ ys)
+      go true l =
+          let a = ltb-true (openAt ps n) fourPlaces l in
+          let (o, q) = open-found ps n a in
+          (openAt ps n, subst (Stands s (openAt ps n) (placeAt ps (openAt ps n))) (ap f q ∙ e) (x .stands (openAt ps n) a o))
+      go false l = let z : _≡_ {A = ℕ} 0 (suc (length ys)) = ap length (sym (x .away n (open-none ps n (ltb-false (openAt ps n) fourPlaces l))) ∙ e) in absurd (omega arith)
 
   -- the same packets, said otherwise
   pub retold : (f′ : ℕ → List Part) → ((n : ℕ) → f′ n ≡ f n) → Told ps s f′
