@@ -12,7 +12,7 @@ use Rattle.places.specs.Places.{goodPlaces}
 use Rattle.places.specs.Desk.{numberOf, firstTests}
 use Rattle.places.specs.declared.Reply.the-variants.{Joined, Missing}
 use Rattle.desk_runs.specs.Runs.{Desk, Empty, Call, comes, asks, drops, run, log, Part, since, came, contentOf, notCome, inOrder, Complete, Given, asked, refusal, due}
-use Rattle.desk_runs.specs.laws.Parts.{Member, member-of, all-and-only}
+use Rattle.desk_runs.specs.laws.Parts.{each-answer, Member, member-of, all-and-only}
 use Rattle.desk_runs.specs.laws.Told.{Told, good-places, tests-pass, its-place}
 use Rattle.desk_runs.specs.laws.Steps.{accepts-told, asks-told, drops-told, asked-due}
 
@@ -25,12 +25,6 @@ nothing-in (n ∷ ns) h = absurd (h n (List·Memᴰ·head refl))
 something-in : (k : ℕ) (ns : List ℕ) → List·Memᴰ k ns → 1 ≤ length ns
 something-in k [] m = absurd (List·Memᴰ·not-nil m)
 something-in k (n ∷ ns) m = omega arith
-
-each-number : (u v y : Bool) (o o′ q q′ : Given) → numberOf ((cond u (cond v o o′) (cond y q q′)) .reply) ≡ cond u (cond v (numberOf (o .reply)) (numberOf (o′ .reply))) (cond y (numberOf (q .reply)) (numberOf (q′ .reply)))
-each-number true true y o o′ q q′ = refl
-each-number true false y o o′ q q′ = refl
-each-number false v true o o′ q q′ = refl
-each-number false v false o o′ q q′ = refl
 
 module _ (x : Part) (xs : List Part) where
   -- the missing numbers, and the contents in number order
@@ -65,7 +59,7 @@ module _ (x : Part) (xs : List Part) where
 
     -- the paper's number
     pub number-due : numberOf (due (x ∷ xs) b w .reply) ≡ cond (eqb (length lacking) 0) (cond (leb (length whole) (length b)) 0 6) (cond (leb (length lacking) (length w)) 9 6)
-    number-due = each-number (eqb (length lacking) 0) (leb (length whole) (length b)) (leb (length lacking) (length w)) _ _ _ _
+    number-due = each-answer (λ (g : Given). numberOf (g .reply)) (eqb (length lacking) 0) (leb (length whole) (length b)) (leb (length lacking) (length w)) _ _ _ _
 
     -- what is handed out is complete
     pub joined-complete : numberOf (due (x ∷ xs) b w .reply) ≡ 0 → Complete (x ∷ xs)

@@ -13,6 +13,13 @@ use Rattle.packet_reading.specs.Packet.{mostPackets, partBytes}
 use Rattle.packet_reading.specs.laws.Accepted.{Fit}
 use Rattle.desk_runs.specs.Runs.{Part, came, contentOf, notCome}
 
+-- what holds of each of asking's four answers
+pub each-answer : {A B : Type 0} (f : A → B) (u v w : Bool) (a b c d : A) → f (cond u (cond v a b) (cond w c d)) ≡ cond u (cond v (f a) (f b)) (cond w (f c) (f d))
+each-answer f true true w a b c d = refl
+each-answer f true false w a b c d = refl
+each-answer f false v true a b c d = refl
+each-answer f false v false a b c d = refl
+
 -- ---- what each of them has
 
 -- a good packet of a notice with t packets in language l

@@ -22,7 +22,7 @@ use Rattle.places.specs.laws.Alike.{alike-same}
 use Rattle.places.specs.laws.Front.{front-open, front-free, front-at, open-found, open-none, free-found}
 use Rattle.places.specs.laws.Laid.{length-laid, other-cell}
 use Rattle.desk_runs.specs.Runs.{comes, asks, drops, Part, grown, notCome, inOrder, contentOf, given, due}
-use Rattle.desk_runs.specs.laws.Parts.{Member}
+use Rattle.desk_runs.specs.laws.Parts.{Member, each-answer}
 use Rattle.desk_runs.specs.laws.Stands.{Stands, in-cell, missing-is, joined-is, put-in, again}
 use Rattle.desk_runs.specs.laws.Told.{Told, Unopened, tests-pass, retold, filled, emptied}
 
@@ -50,12 +50,6 @@ agrees s i p r c e =
     let (a, b) = and-eq-true-iff (eqb (r .language) (p .language)) (eqb (r .total) (p .total) && like) .0 (not-false (eqb (r .language) (p .language) && (eqb (r .total) (p .total) && like)) e) in
     let (t, h) = and-eq-true-iff (eqb (r .total) (p .total)) like .0 b in
     (eqb-true (r .language) (p .language) a, eqb-true (r .total) (p .total) t, h)
-
-each-given : (u v w : Bool) (o o′ q q′ : Asking) → given (cond u (cond v o o′) (cond w q q′)) ≡ cond u (cond v (given o) (given o′)) (cond w (given q) (given q′))
-each-given true true w o o′ q q′ = refl
-each-given true false w o o′ q q′ = refl
-each-given false v true o o′ q q′ = refl
-each-given false v false o o′ q q′ = refl
 
 module _ {ps : List Place} {s : List ℕ} {f : ℕ → List Part} (x : Told ps s f) where
   -- ---- a packet comes in
@@ -107,11 +101,9 @@ module _ {ps : List Place} {s : List ℕ} {f : ℕ → List Part} (x : Told ps s
             let (language, total, h) = agrees s i p r c eu in
             let member : Member (p .total) (p .language) y = record { fit = fit; total = total; language = language } in
             let same = sym (in-cell st (r .own)) ∙ alike-same (inCell s i p (r .own)) c (subst (λ v. (v || alike (inCell s i p (r .own)) c) ≡ true) ev h) in
-            let told =
-            filled x i l p s (λ n. grown n (comes m, Again) (f n)) refl o (λ j a d oj e. d (x .alone j i a l oj o e)) (λ k. refl) (λ j k n d a b. refl)
-            (rw (grown-here m y Again (p .number) (f (p .number)) reads refl (sym q)) (again y st member same))
-            (λ n d. grown-there m y Again n (f n) reads refl (λ e. d (sym e ∙ sym q))) in
-            subst (λ qs. Told qs s (λ n. grown n (comes m, Again) (f n))) (set-getD ps i blank) told
+            subst (λ qs. Told qs s (λ n. grown n (comes m, Again) (f n))) (set-getD ps i blank)
+            (filled x i l p s (λ n. grown n (comes m, Again) (f n)) refl o (λ j a d oj e. d (x .alone j i a l oj o e)) (λ k. refl) (λ j k n d a b. refl)
+            (rw (grown-here m y Again (p .number) (f (p .number)) reads refl (sym q)) (again y st member same)) (λ n d. grown-there m y Again n (f n) reads refl (λ e. d (sym e ∙ sym q))))
 
     -- it is not
     opens-told : Unopened ps (r .number) → Accepted m (opens (front ps) s r c)
@@ -222,7 +214,7 @@ module _ {ps : List Place} {s : List ℕ} {f : ℕ → List Part} (x : Told ps s
       rw (missing-is st (p .total), joined-is st (p .total), sym total, sym language) (
       let ns = notCome (z .0 .total) (z ∷ xs) in
       let c = inOrder (z .0 .total) (z ∷ xs) in
-      each-given (eqb (length ns) 0) (leb (length c) (length b)) (leb (length ns) (length w)) _ _ _ _
+      each-answer given (eqb (length ns) 0) (leb (length c) (length b)) (leb (length ns) (length w)) _ _ _ _
       )
 
   pub asked-due : (n : ℕ) (b w : List ℕ) → given (asking ps s n b w) ≡ due (f n) b w
