@@ -1,0 +1,3 @@
+-- What is proved of the places and the desk's definitions.
+pub mod Below
+pub mod Four
