@@ -1,17 +1,10 @@
 -- `still_good` meets its contract: the entry is good where its size is 0, or its number and size are within their bounds.
-use mathlib.Core.Path.{_≡_, refl, sym, ap, _∙_}
-use mathlib.Core.Bool.{Bool, true, false, not, cond, _&&_, _||_}
-use Prim.Native.Nat.{ℕ, _+_, _-_, _≤_, _<_}
+use mathlib.Core.Path.{sym}
+use Prim.Native.Nat.{_-_}
 use native.Mathlib.Omega.{arith}
-use lib.Dec.{eqb, ltb, leb}
-use lib.ListN.{getD}
-use borrow.Author.Needs.{needs}
-use borrow.Author.Tests.{not-true, not-false, eq-eqb, ne-eqb, lt-ltb, le-ltb, le-leb, lt-leb, ltb-true}
-use Rattle.packet_reading.specs.Packet.{mostPackets, partBytes}
-use Rattle.places.specs.Places.{everyBelow, firstFrom, lacks, entryGood, goodPlace, goodPlaces, allApart, clash, passes, serves, placeAt}
-use Rattle.places.specs.Desk.{firstTests}
-use Rattle.places.specs.laws.Below.{below-next, below-fails, and-false, and-true}
-use Rattle.places.specs.laws.Four.{good-four, apart-four, open-four, free-four}
+use borrow.Author.Tests.{eq-eqb, ne-eqb, lt-ltb, le-ltb, le-leb, lt-leb}
+use Rattle.packet_reading.specs.Packet.{partBytes}
+use Rattle.places.specs.laws.Below.{and-false, and-true}
 use Rattle.places.proofs.still_good.Statement.{statement}
 use Rattle.places.proofs.still_good.Tie as tie
 

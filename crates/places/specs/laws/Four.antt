@@ -1,6 +1,6 @@
 -- The four places, one by one: what is asked of all of them is asked of each in turn, lowest first. Assumes nothing.
 use mathlib.Core.Path.{_≡_, refl}
-use mathlib.Core.Bool.{Bool, not, cond, _&&_}
+use mathlib.Core.Bool.{not, cond, _&&_}
 use mathlib.Core.List.{List, [], _∷_}
 use Prim.Native.Nat.{ℕ}
 use Rattle.places.specs.Places.{everyBelow, firstFrom, passes, serves, clash, allApart, goodPlaces, openAt, freeAt}
