@@ -2,3 +2,4 @@
 pub mod Places
 pub mod Desk
 pub mod Promises
+pub mod laws
