@@ -1,11 +1,11 @@
 -- The packets of a place, joined in front of a buffer: one packet more, and how many bytes they are. Assumes nothing.
 use Prim.Native.Nat.{ℕ, zero, suc, _+_, _*_, _≤_, _<_}
-use mathlib.Core.Bool.{true}
-use mathlib.Core.List.{List, [], _++_, append-assoc}
+use mathlib.Core.List.{List, _++_, append-assoc}
 use mathlib.Core.Path.{_≡_, refl, sym, ap, ap₂, _∙_}
 use native.Mathlib.Decide.{le-ind}
 use native.Mathlib.Omega.{arith}
-use lib.ListN.{length, take, drop, length-append, length-drop}
+use native.Mathlib.Numerals.{add-one}
+use lib.ListN.{length, drop, length-append, length-drop}
 use lib.Seq.{length-take-le, take-at, drop-drop, drop-append-add}
 use Rattle.packet_reading.specs.Packet.{mostPackets, partBytes}
 use Rattle.places.specs.Desk.{storeBytes, cell, inCell, laid, joinedBelow}
@@ -17,13 +17,17 @@ unfoldable pub heldBelow : ℕ → Place → ℕ
 heldBelow zero p = 0
 heldBelow (suc n) p = heldBelow n p + held p n
 
-pub held-more : (n : ℕ) (p : Place) → heldBelow (suc n) p ≡ heldBelow n p + held p n
+pub held-more : (n : ℕ) (p : Place) → heldBelow (n + 1) p ≡ heldBelow n p + held p n
 unfolding heldBelow
-held-more n p = refl
+held-more n p = ap (λ m. heldBelow m p) (add-one n)
 
-pub held-within : (m n : ℕ) (p : Place) → m ≤ n → heldBelow m p ≤ heldBelow n p
+held-within : (m n : ℕ) (p : Place) → m ≤ n → heldBelow m p ≤ heldBelow n p
 held-within m n p h =
-    le-ind {n = m} (λ k. heldBelow m p ≤ heldBelow k p) (omega arith) (λ k _ l. omega (arith, l, held-more k p)) n h
+    le-ind {n = m} (λ k. heldBelow m p ≤ heldBelow k p) (omega arith) (λ k _ l. omega (arith, l, held-more k p, ap (λ m. heldBelow m p) (add-one k))) n h
+
+-- each packet has its own room
+pub held-room : (k n : ℕ) (p : Place) → k < n → heldBelow k p + held p k ≤ heldBelow n p
+held-room k n p h = omega (arith, held-within (k + 1) n p (omega arith), held-more k p)
 
 -- place p's total and sizes are within a notice's and a packet's
 pub record Sized (p : Place) : Type 0 where
@@ -43,9 +47,9 @@ pub in-cell-length : {p : Place} → Sized p → (i k : ℕ) (s : List ℕ) → 
 in-cell-length {p} z i k s hi hk hs =
     length-take-le (held p k) (drop (cell i k) s) (omega (arith, length-drop (cell i k) s, cell-within i k (held p k) s hi hk (z .small k hk) hs))
 
-pub joined-more : (n : ℕ) (s : List ℕ) (i : ℕ) (p : Place) → joinedBelow (suc n) s i p ≡ joinedBelow n s i p ++ inCell s i p n
+pub joined-more : (n : ℕ) (s : List ℕ) (i : ℕ) (p : Place) → joinedBelow (n + 1) s i p ≡ joinedBelow n s i p ++ inCell s i p n
 unfolding joinedBelow
-joined-more n s i p = refl
+joined-more n s i p = ap (λ m. joinedBelow m s i p) (add-one n)
 
 pub joined-length : {p : Place} → Sized p → (i : ℕ) (s : List ℕ) → i < fourPlaces → storeBytes ≤ length s → (n : ℕ) → n ≤ mostPackets → length (joinedBelow n s i p) ≡ heldBelow n p
 unfolding joinedBelow heldBelow
