@@ -1,3 +1,5 @@
--- What is proved of the places and the desk's calls.
+-- What is proved of the places and the desk's definitions.
+pub mod Below
+pub mod Four
 pub mod Listed
 pub mod Joined
