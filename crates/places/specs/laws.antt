@@ -1,5 +1,6 @@
 -- What is proved of the places and the desk's definitions.
 pub mod Below
 pub mod Four
+pub mod Good
 pub mod Listed
 pub mod Joined

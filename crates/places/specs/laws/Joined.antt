@@ -10,6 +10,7 @@ use lib.Seq.{length-take-le, take-at, drop-drop, drop-append-add}
 use Rattle.packet_reading.specs.Packet.{mostPackets, partBytes}
 use Rattle.places.specs.Desk.{storeBytes, cell, inCell, laid, joinedBelow}
 use Rattle.places.specs.Places.{held, fourPlaces}
+use Rattle.places.specs.laws.Good.{Sized}
 use Rattle.places.specs.declared.Place.{Place}
 
 -- how many bytes of the packets below n are held
@@ -28,11 +29,6 @@ held-within m n p h =
 -- each packet has its own room
 pub held-room : (k n : ℕ) (p : Place) → k < n → heldBelow k p + held p k ≤ heldBelow n p
 held-room k n p h = omega (arith, held-within (k + 1) n p (omega arith), held-more k p)
-
--- place p's total and sizes are within a notice's and a packet's
-pub record Sized (p : Place) : Type 0 where
-  pub few : p .total ≤ mostPackets
-  pub small : (k : ℕ) → k < mostPackets → held p k ≤ partBytes
 
 pub held-most : {p : Place} → Sized p → (n : ℕ) → n ≤ mostPackets → heldBelow n p ≤ n * partBytes
 unfolding heldBelow
