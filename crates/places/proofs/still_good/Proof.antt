@@ -1,10 +1,10 @@
 -- `still_good` meets its contract: the entry is good where its size is 0, or its number and size are within their bounds.
+use mathlib.Core.Bool.{and-false, and-true}
 use mathlib.Core.Path.{sym}
 use Prim.Native.Nat.{_-_}
 use native.Mathlib.Omega.{arith}
 use borrow.Author.Tests.{eq-eqb, ne-eqb, lt-ltb, le-ltb, le-leb, lt-leb}
 use Rattle.packet_reading.specs.Packet.{partBytes}
-use Rattle.places.specs.laws.Below.{and-false, and-true}
 use Rattle.places.proofs.still_good.Statement.{statement}
 use Rattle.places.proofs.still_good.Tie as tie
 

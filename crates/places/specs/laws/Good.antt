@@ -1,36 +1,15 @@
 -- The open place of a number is good where the four are, and a good place's total and sizes are within their limits. Assumes nothing.
-use Prim.Native.Nat.{ℕ, zero, suc, _+_, _≤_, _<_}
-use mathlib.Core.Bool.{Bool, true, false, not, cond, _&&_, _||_, and-eq-true-iff}
+use Prim.Native.Nat.{ℕ, _≤_, _<_}
+use mathlib.Core.Bool.{Bool, true, false, not, _&&_, _||_, and-eq-true-iff}
 use mathlib.Core.List.{List}
 use mathlib.Core.Path.{_≡_, refl}
 use native.Mathlib.Omega.{arith}
 use lib.Dec.{leb, ltb, eqb}
 use borrow.Author.Tests.{leb-true, eqb-true}
 use Rattle.packet_reading.specs.Packet.{mostPackets, partBytes}
-use Rattle.places.specs.Places.{everyBelow, firstFrom, held, lacks, entryGood, goodPlace, passes, serves, fourPlaces, placeAt, allApart, goodPlaces, openAt}
-use Rattle.places.specs.laws.Below.{below-fails}
+use Rattle.places.specs.Places.{everyBelow, held, lacks, entryGood, goodPlace, passes, serves, fourPlaces, placeAt, allApart, goodPlaces, openAt}
+use Rattle.places.specs.laws.Below.{every-each, first-holds}
 use Rattle.places.specs.declared.Place.{Place}
-
--- what holds of every number below n holds of each
-pub below-holds : (n : ℕ) (f : ℕ → Bool) → everyBelow n f ≡ true → (k : ℕ) → k < n → f k ≡ true
-below-holds n f e k h = by-case (f k) refl
-  where
-    by-case : (b : Bool) → f k ≡ b → f k ≡ true
-    by-case true q = q
-    by-case false q = cc (below-fails n f k h q)
-
--- what is tried for holds of the number found
-first-holds : (k n : ℕ) (f : ℕ → Bool) → firstFrom k n f < k + n → f (firstFrom k n f) ≡ true
-unfolding firstFrom
-first-holds k zero f h = absurd (omega (arith, h))
-first-holds k (suc n) f h = by-case (f k) refl h (λ l. first-holds (suc k) n f l)
-  where
-    r : ℕ
-    r = firstFrom (suc k) n f
-
-    by-case : (b : Bool) → f k ≡ b → cond b k r < k + suc n → (r < suc k + n → f r ≡ true) → f (cond b k r) ≡ true
-    by-case true q l _ = q
-    by-case false q l on = on (omega (arith, l))
 
 pub open-serves : (ps : List Place) (n : ℕ) → openAt ps n < fourPlaces → serves (placeAt ps (openAt ps n)) n ≡ true
 unfolding openAt
@@ -54,7 +33,7 @@ good-sized p e =
     let (total, rest) = and-eq-true-iff (leb 1 (p .total) && leb (p .total) mostPackets) (not (everyBelow mostPackets (lacks p)) && everyBelow mostPackets (entryGood p)) .0 e in
     let (_, few) = and-eq-true-iff (leb 1 (p .total)) (leb (p .total) mostPackets) .0 total in
     let (_, entries) = and-eq-true-iff (not (everyBelow mostPackets (lacks p))) (everyBelow mostPackets (entryGood p)) .0 rest in
-    record { few = leb-true (p .total) mostPackets few; small = λ k h. entry-small p k (below-holds mostPackets (entryGood p) entries k h) }
+    record { few = leb-true (p .total) mostPackets few; small = λ k h. entry-small p k (every-each mostPackets (entryGood p) entries k h) }
 
 pub open-sized : (ps : List Place) (n : ℕ) → goodPlaces ps ≡ true → openAt ps n < fourPlaces → Sized (placeAt ps (openAt ps n))
 unfolding goodPlaces
@@ -63,5 +42,5 @@ open-sized ps n e h =
     let p = placeAt ps i in
     let (_, each) = and-eq-true-iff (allApart ps) (everyBelow fourPlaces (λ i. passes (placeAt ps i))) .0 e in
     let (at-work, _) = and-eq-true-iff (p .«open») (eqb (p .number) n) .0 (open-serves ps n h) in
-    let good : passes p ≡ true = below-holds fourPlaces (λ i. passes (placeAt ps i)) each i h in
+    let good : passes p ≡ true = every-each fourPlaces (λ i. passes (placeAt ps i)) each i h in
     good-sized p (rw at-work at good)

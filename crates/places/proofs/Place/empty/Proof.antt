@@ -9,7 +9,7 @@ use borrow.Author.Needs.{needs}
 use borrow.Author.Tests.{eq-eqb, ne-eqb}
 use Rattle.packet_reading.specs.Packet.{mostPackets}
 use Rattle.places.specs.Places.{everyBelow, lacks}
-use Rattle.places.specs.laws.Below.{below-next, below-fails}
+use Rattle.places.specs.laws.Below.{every-next, some-every}
 use Rattle.places.proofs.Place.empty.Statement.{statement}
 use Rattle.places.proofs.Place.empty.Tie as tie
 
@@ -29,7 +29,7 @@ array-read-if1 c = search needs
 returns : tie.Need-returns Inv-loop μ-loop
 returns c =
     let l = c .before .before in
-    sym (below-fails mostPackets (lacks (l .before .before .args .self)) (l .loop .k) (omega arith) (ne-eqb _ 0 (c .if1 .taken)))
+    sym (some-every mostPackets (lacks (l .before .before .args .self)) (l .loop .k) (omega arith) (ne-eqb _ 0 (c .if1 .taken)))
 
 add-k : tie.Need-add-k Inv-loop μ-loop
 add-k c = search needs
@@ -40,7 +40,7 @@ loop-less c = search needs
 loop-again : tie.Need-loop-again Inv-loop μ-loop
 loop-again c =
     let l = c .before .before in
-    (omega arith, below-next (l .loop .k) (lacks (l .before .before .args .self)) ∙ rw (l .loop .inv .1, eq-eqb _ 0 (c .if1 .left)) refl)
+    (omega arith, every-next (l .loop .k) (lacks (l .before .before .args .self)) ∙ rw (l .loop .inv .1, eq-eqb _ 0 (c .if1 .left)) refl)
 
 returns-2 : tie.Need-returns-2 Inv-loop μ-loop
 returns-2 c = let l = c .before in let e : l .loop .k ≡ mostPackets = omega arith in sym (ap (λ n. everyBelow n (lacks (l .before .before .args .self))) (sym e) ∙ l .loop .inv .1)

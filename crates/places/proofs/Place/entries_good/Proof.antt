@@ -6,7 +6,7 @@ use native.Mathlib.Omega.{arith}
 use borrow.Author.Needs.{needs}
 use Rattle.packet_reading.specs.Packet.{mostPackets}
 use Rattle.places.specs.Places.{everyBelow, entryGood}
-use Rattle.places.specs.laws.Below.{below-next}
+use Rattle.places.specs.laws.Below.{every-next}
 use Rattle.places.proofs.Place.entries_good.Statement.{statement}
 use Rattle.places.proofs.Place.entries_good.Tie as tie
 
@@ -36,7 +36,7 @@ loop-again : tie.Need-loop-again Inv-loop μ-loop
 loop-again c =
     let l = c .before .before in
     let p = l .before .before .args .self in
-    (omega arith, c .still-good .ensures ∙ ap (_&& entryGood p (l .loop .k)) (l .loop .inv .1) ∙ sym (below-next (l .loop .k) (entryGood p)))
+    (omega arith, c .still-good .ensures ∙ ap (_&& entryGood p (l .loop .k)) (l .loop .inv .1) ∙ sym (every-next (l .loop .k) (entryGood p)))
 
 returns : tie.Need-returns Inv-loop μ-loop
 returns c =
