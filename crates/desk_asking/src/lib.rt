@@ -1,11 +1,12 @@
 // Asking for a notice at the desk (paper 01, "The desk"): the four places by value, over the lent store.
 ghost use mathlib.Core.Path.{_≡_};
 ghost use mathlib.Core.List.{_++_};
-ghost use Prim.Native.Nat.{_+_, _≤_, _<_};
-ghost use lib.ListN.{length, take, drop};
+ghost use Prim.Native.Nat.{_≤_, _<_};
+ghost use lib.ListN.{length, drop};
 ghost use Rattle.places.specs.Places.{fourPlaces};
-ghost use Rattle.places.specs.Desk.{storeBytes, laid, missingBelow, joinedBelow};
-ghost use Rattle.places.specs.laws.Joined.{Sized, heldBelow};
+ghost use Rattle.places.specs.Desk.{storeBytes, missingBelow, joinedBelow};
+ghost use Rattle.places.specs.laws.Good.{Sized};
+ghost use Rattle.places.specs.laws.Joined.{heldBelow};
 use packet_reading::JOINED;
 use packet_reading::PART;
 use places::Place;
@@ -70,17 +71,10 @@ fn join(p: Place, i: usize, store: &[u8], notice: &mut [u8])
     let mut k: usize = 0;
     while k < p.total as usize {
         let n = sizes[k] as usize;
-        lay(store, i * JOINED + k * PART, n, notice, at);
+        let from = i * JOINED + k * PART;
+        let end = from + n;
+        places::lay(notice, at, &store[from..end]);
         at += n;
         k += 1;
     }
-}
-
-// The `n` bytes of the store from byte `from` on, into the buffer from byte `at` on.
-fn lay(store: &[u8], from: usize, n: usize, notice: &mut [u8], at: usize)
-    requires { ⌜ (from + n ≤ length (now store)) × (at + n ≤ length (now notice)) ⌝ }
-    ensures { λ _. ⌜ now (notice .exit) ≡ laid (now (notice .entry)) at (take n (drop from (now (store .entry)))) ⌝ }
-{
-    let end = from + n;
-    bytes::copy(&store[from..end], &mut notice[at..]);
 }
