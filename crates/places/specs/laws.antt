@@ -3,3 +3,6 @@ pub mod Below
 pub mod Four
 pub mod Alike
 pub mod Laid
+pub mod Good
+pub mod Listed
+pub mod Joined

@@ -3,10 +3,11 @@ ghost use mathlib.Core.Path.{_≡_};
 ghost use mathlib.Core.Bool.{cond, _&&_, _||_};
 ghost use mathlib.Core.List.{[], _∷_};
 ghost use lib.Dec.{leb, ltb, eqb};
-ghost use Prim.Native.Nat.{_<_};
+ghost use lib.ListN.{length};
+ghost use Prim.Native.Nat.{_+_, _≤_, _<_};
 ghost use Rattle.packet_reading.specs.Packet.{mostPackets, partBytes};
 ghost use Rattle.places.specs.Places.{everyBelow, lacks, entryGood, goodPlace, passes, serves, clash, allApart, opened, holding, freed, placeAt, goodPlaces, openAt, freeAt};
-ghost use Rattle.places.specs.Desk.{firstTests, numberOf};
+ghost use Rattle.places.specs.Desk.{laid, firstTests, numberOf, stays, turnOf};
 use packet_reading::JOINED;
 use packet_reading::MOST;
 use packet_reading::PART;
@@ -58,6 +59,19 @@ impl Reply {
             Reply::Joined(_, _) => 0,
             Reply::Missing(_) => format::INCOMPLETE,
             Reply::Refused(code) => code,
+        }
+    }
+}
+
+impl Turn {
+    // No place changes: the first one again.
+    pub fn staying(first: Place, reply: Reply) -> Turn
+        ensures { λ r. ⌜ r ≡ turnOf (first ∷ []) reply stays ⌝ }
+    {
+        Turn {
+            at: 0,
+            place: first,
+            reply,
         }
     }
 }
@@ -294,4 +308,14 @@ pub fn pick(a: Place, b: Place, c: Place, d: Place, i: usize) -> Place
         return c;
     }
     d
+}
+
+// ---- what the calls share
+
+// Puts the bytes `part` into `s` from byte `at` on.
+pub fn lay(s: &mut [u8], at: usize, part: &[u8])
+    requires { ⌜ at + length (now part) ≤ length (now s) ⌝ }
+    ensures { λ _. ⌜ now (s .exit) ≡ laid (now (s .entry)) at (now (part .entry)) ⌝ }
+{
+    bytes::copy(part, &mut s[at..]);
 }
