@@ -9,8 +9,8 @@ use Rattle.format.specs.Fmt.{readField, read}
 use Rattle.format.specs.Message.{readMessage}
 use Rattle.format.specs.Words.{walk}
 use Rattle.packet_reading.specs.Packet.{packet, packets, recordOf}
-use Rattle.places.specs.Places.{blank, fourPlaces, everyBelow, firstFrom, goodPlace, goodPlaces, openAt, freeAt}
-use Rattle.places.specs.Desk.{storeBytes, alike, firstTests, joins, opens, received, accepting, missingBelow, joinedBelow, answers, asking, dropping}
+use Rattle.places.specs.Places.{blank, fourPlaces, everyBelow, firstFrom, goodPlace, allApart, goodPlaces, openAt, freeAt}
+use Rattle.places.specs.Desk.{storeBytes, alike, firstTests, joins, received, accepting, missingBelow, joinedBelow, answers, asking, dropping}
 use Rattle.places.specs.declared.Reply.the-variants.{Joined, Missing}
 use Rattle.desk_runs.specs.Runs.{Desk, Empty, comes, drops, run, asked}
 
@@ -37,15 +37,15 @@ third = 0xE1 ∷ 0x20 ∷ 0x70 ∷ 0xC2 ∷ 0x43 ∷ []
 
 -- packets 2 and 0 held: missing 1
 case-J : asked 7 [] (9 ∷ 9 ∷ []) (run empty (comes first ∷ comes third ∷ [])) ≡ record { reply = Missing 1; notice = []; missing = 1 ∷ 9 ∷ [] }
-unfolding run accepting received joins opens asking answers missingBelow joinedBelow firstTests goodPlaces goodPlace everyBelow firstFrom openAt freeAt alike readMessage packets packet recordOf read readField walk fieldAt valueOf bit digits bitsOf bytesOf
+unfolding run accepting received joins asking answers missingBelow joinedBelow firstTests goodPlaces allApart goodPlace everyBelow firstFrom openAt freeAt alike readMessage packets packet recordOf read readField walk fieldAt valueOf bit digits bitsOf bytesOf
 case-J = refl
 
 -- when packet 1 has come too, the notice is handed out in number order
 then-whole : asked 7 (9 ∷ 9 ∷ 9 ∷ 9 ∷ []) [] (run empty (comes second ∷ comes first ∷ comes third ∷ [])) ≡ record { reply = Joined 3 0; notice = 0x41 ∷ 0x42 ∷ 0x43 ∷ 9 ∷ []; missing = [] }
-unfolding run accepting received joins opens asking answers missingBelow joinedBelow firstTests goodPlaces goodPlace everyBelow firstFrom openAt freeAt alike readMessage packets packet recordOf read readField walk fieldAt valueOf bit digits bitsOf bytesOf
+unfolding run accepting received joins asking answers missingBelow joinedBelow firstTests goodPlaces allApart goodPlace everyBelow firstFrom openAt freeAt alike readMessage packets packet recordOf read readField walk fieldAt valueOf bit digits bitsOf bytesOf
 then-whole = refl
 
 -- the old box's fault: packets of a notice that was dropped are none of the next one's under the same number
 number-again : asked 7 [] (9 ∷ 9 ∷ []) (run empty (comes second ∷ drops 7 ∷ comes first ∷ comes third ∷ [])) ≡ record { reply = Missing 2; notice = []; missing = 0 ∷ 2 ∷ [] }
-unfolding run accepting received joins opens asking answers dropping missingBelow joinedBelow firstTests goodPlaces goodPlace everyBelow firstFrom openAt freeAt alike readMessage packets packet recordOf read readField walk fieldAt valueOf bit digits bitsOf bytesOf
+unfolding run accepting received joins asking answers dropping missingBelow joinedBelow firstTests goodPlaces allApart goodPlace everyBelow firstFrom openAt freeAt alike readMessage packets packet recordOf read readField walk fieldAt valueOf bit digits bitsOf bytesOf
 number-again = refl

@@ -1,5 +1,9 @@
--- What is proved of the desk's definitions.
+-- What is proved of the places and the desk's definitions.
 pub mod Below
+pub mod Four
 pub mod Alike
 pub mod Laid
+pub mod Good
+pub mod Listed
+pub mod Joined
 pub mod Front

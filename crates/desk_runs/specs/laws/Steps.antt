@@ -20,6 +20,7 @@ use Rattle.places.specs.declared.Reply.{Reply}
 use Rattle.places.specs.declared.Reply.the-variants.{Done, Again, Joined, Missing, Refused}
 use Rattle.places.specs.laws.Alike.{alike-same}
 use Rattle.places.specs.laws.Front.{front-open, front-free, front-at, open-found, open-none, free-found}
+use Rattle.places.specs.laws.Joined.{cell-within}
 use Rattle.places.specs.laws.Laid.{length-laid, other-cell}
 use Rattle.desk_runs.specs.Runs.{comes, asks, drops, Part, grown, notCome, inOrder, contentOf, given, due}
 use Rattle.desk_runs.specs.laws.Parts.{Member, each-answer}
@@ -71,7 +72,7 @@ module _ {ps : List Place} {s : List ℕ} {f : ℕ → List Part} (x : Told ps s
     low = omega (arith, fit .own, fit .total)
 
     fits : (i : ℕ) → i < fourPlaces → cell i (r .own) + length c ≤ length s
-    fits i l = omega (arith, l, low, fit .few, x .deep)
+    fits i l = cell-within i (r .own) (length c) s l low (fit .few) (x .deep)
 
     others : (i : ℕ) → i < fourPlaces → (j k n : ℕ) → (j ≡ i → ⊥) → k < mostPackets → n ≤ partBytes → take n (drop (cell j k) (laid s (cell i (r .own)) c)) ≡ take n (drop (cell j k) s)
     others i l j k n d a b = other-cell s i (r .own) c (fits i l) low (fit .few) j k n a b (λ e q. d (sym e))
@@ -106,9 +107,9 @@ module _ {ps : List Place} {s : List ℕ} {f : ℕ → List Part} (x : Told ps s
             (rw (grown-here m y Again (p .number) (f (p .number)) reads refl (sym q)) (again y st member same)) (λ n d. grown-there m y Again n (f n) reads refl (λ e. d (sym e ∙ sym q))))
 
     -- it is not
-    opens-told : Unopened ps (r .number) → Accepted m (opens (front ps) s r c)
-    unfolding opens contentOf
-    opens-told h = rw (front-free ps) (go (ltb (freeAt ps) fourPlaces) refl)
+    opens-told : Unopened ps (r .number) → Accepted m (opens s (freeAt ps) r c)
+    unfolding contentOf
+    opens-told h = go (ltb (freeAt ps) fourPlaces) refl
       where
         i : ℕ
         i = freeAt ps
@@ -126,12 +127,12 @@ module _ {ps : List Place} {s : List ℕ} {f : ℕ → List Part} (x : Told ps s
 
     received-told : Accepted m (received (front ps) s r c)
     unfolding received
-    received-told = rw (front-open ps (r .number)) (go (ltb (openAt ps (r .number)) fourPlaces) refl)
+    received-told = rw (front-open ps (r .number), front-free ps) (go (ltb (openAt ps (r .number)) fourPlaces) refl)
       where
         i : ℕ
         i = openAt ps (r .number)
 
-        go : (u : Bool) → ltb i fourPlaces ≡ u → Accepted m (cond u (joins s i (placeAt (front ps) i) r c) (opens (front ps) s r c))
+        go : (u : Bool) → ltb i fourPlaces ≡ u → Accepted m (cond u (joins s i (placeAt (front ps) i) r c) (opens s (freeAt ps) r c))
         go true e = let l = ltb-true i fourPlaces e in let (o, q) = open-found ps (r .number) l in rw (front-at ps i l) (joins-told i l o q)
         go false e = opens-told (open-none ps (r .number) (ltb-false i fourPlaces e))
 

@@ -10,7 +10,7 @@ use lib.ListN.{length, set, take, drop, length-set}
 use lib.Seq.{getD-set-same, getD-set-other}
 use borrow.Author.Tests.{ltb-true, ltb-false, eqb-true, eqb-false, le-leb}
 use Rattle.packet_reading.specs.Packet.{mostPackets, partBytes}
-use Rattle.places.specs.Places.{everyBelow, blank, goodPlace, clash, fourPlaces, placeAt, goodPlaces, openAt}
+use Rattle.places.specs.Places.{everyBelow, blank, goodPlace, passes, clash, fourPlaces, placeAt, allApart, goodPlaces, openAt}
 use Rattle.places.specs.Desk.{storeBytes, cell, firstTests}
 use Rattle.places.specs.declared.Place.{Place}
 use Rattle.places.specs.laws.Below.{each-every}
@@ -36,15 +36,15 @@ pub record Told (ps : List Place) (s : List ℕ) (f : ℕ → List Part) : Type 
 
 module _ {ps : List Place} {s : List ℕ} {f : ℕ → List Part} (x : Told ps s f) where
   no-clash : (i j : ℕ) → i < fourPlaces → j < i → not (clash (placeAt ps j) (placeAt ps i)) ≡ true
-  no-clash i j a b = go (placeAt ps j .«open») (placeAt ps i .«open») (eqb (placeAt ps j .number) (placeAt ps i .number)) refl refl refl
+  no-clash i j a b = go (placeAt ps i .«open») (placeAt ps j .«open») (eqb (placeAt ps j .number) (placeAt ps i .number)) refl refl refl
     where
-      go : (u v w : Bool) → placeAt ps j .«open» ≡ u → placeAt ps i .«open» ≡ v → eqb (placeAt ps j .number) (placeAt ps i .number) ≡ w → not (u && (v && w)) ≡ true
-      go true true true eu ev ew = let q = x .alone j i (omega arith) a eu ev (eqb-true (placeAt ps j .number) (placeAt ps i .number) ew) in absurd (omega arith)
+      go : (u v w : Bool) → placeAt ps i .«open» ≡ u → placeAt ps j .«open» ≡ v → eqb (placeAt ps j .number) (placeAt ps i .number) ≡ w → not (u && (v && w)) ≡ true
+      go true true true eu ev ew = let q = x .alone j i (omega arith) a ev eu (eqb-true (placeAt ps j .number) (placeAt ps i .number) ew) in absurd (omega arith)
       go true true false eu ev ew = refl
       go true false w eu ev ew = refl
       go false v w eu ev ew = refl
 
-  each-good : (i : ℕ) → i < fourPlaces → (not (placeAt ps i .«open») || goodPlace (placeAt ps i)) ≡ true
+  each-good : (i : ℕ) → i < fourPlaces → passes (placeAt ps i) ≡ true
   each-good i a = go (placeAt ps i .«open») refl
     where
       go : (u : Bool) → placeAt ps i .«open» ≡ u → (not u || goodPlace (placeAt ps i)) ≡ true
@@ -52,11 +52,11 @@ module _ {ps : List Place} {s : List ℕ} {f : ℕ → List Part} (x : Told ps s
       go false e = refl
 
   pub good-places : goodPlaces ps ≡ true
-  unfolding goodPlaces
+  unfolding goodPlaces allApart
   good-places =
       rw (
         each-every fourPlaces (λ i. everyBelow i (λ j. not (clash (placeAt ps j) (placeAt ps i)))) (λ i a. each-every i (λ j. not (clash (placeAt ps j) (placeAt ps i))) (λ j b. no-clash i j a b)),
-        each-every fourPlaces (λ i. not (placeAt ps i .«open») || goodPlace (placeAt ps i)) each-good,
+        each-every fourPlaces (λ i. passes (placeAt ps i)) each-good,
       ) refl
 
   pub tests-pass : firstTests ps s ≡ 0

@@ -1,6 +1,6 @@
 -- What `everyBelow` and `firstFrom` say of each number. Assumes nothing.
 use mathlib.Core.Path.{_≡_, refl, sym, ap, _∙_}
-use mathlib.Core.Bool.{Bool, true, false, cond, false≢true, and-eq-true-iff}
+use mathlib.Core.Bool.{Bool, true, false, cond, _&&_, false≢true, and-eq-true-iff}
 use mathlib.Core.Logic.{_⊎_, inl, inr}
 use Prim.Native.Nat.{ℕ, zero, suc, _+_, _≤_, _<_}
 use native.Mathlib.Omega.{arith}
@@ -39,6 +39,11 @@ some-every n f i l e = go (everyBelow n f) refl
     go : (x : Bool) → everyBelow n f ≡ x → x ≡ false
     go true d = absurd (false≢true (sym e ∙ every-each n f d i l))
     go false d = refl
+
+-- one number more
+pub every-next : (k : ℕ) (f : ℕ → Bool) → everyBelow (k + 1) f ≡ (everyBelow k f && f k)
+unfolding everyBelow
+every-next k f = let e : k + 1 ≡ suc k = omega arith in rw e refl
 
 -- the first of which it holds, or the end
 pub first-within : (k n : ℕ) (f : ℕ → Bool) → firstFrom k n f ≤ k + n
