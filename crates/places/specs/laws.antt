@@ -6,3 +6,4 @@ pub mod Laid
 pub mod Good
 pub mod Listed
 pub mod Joined
+pub mod Outcomes

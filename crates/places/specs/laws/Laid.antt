@@ -1,14 +1,14 @@
 -- Bytes laid into the store: they stand there, nothing else changes, and no two cells overlap. Assumes nothing.
 use mathlib.Core.Path.{_≡_, refl, sym, ap, _∙_}
 use mathlib.Core.Bool.{Bool, true, false}
-use mathlib.Core.List.{List, [], _∷_, _++_, append-assoc}
+use mathlib.Core.List.{List, _++_, append-assoc}
 use mathlib.Core.Logic.{_⊎_, inl, inr}
 use Prim.Native.Nat.{ℕ, _+_, _-_, _≤_, _<_}
 use native.Mathlib.Omega.{arith}
-use lib.Dec.{ltb, eqb}
+use lib.Dec.{ltb}
 use lib.ListN.{length, take, drop, length-append, length-drop, take-append-drop}
-use lib.Seq.{length-take-le, take-append-le, take-at, drop-at, drop-append-le, drop-append-add, drop-drop, take-append-seam}
-use borrow.Author.Tests.{ltb-true, ltb-false, eqb-true, eqb-false}
+use lib.Seq.{length-take-le, take-append-le, drop-at, drop-append-le, drop-drop, take-append-seam}
+use borrow.Author.Tests.{ltb-true, ltb-false}
 use Rattle.packet_reading.specs.Packet.{mostPackets, partBytes}
 use Rattle.places.specs.Desk.{cell, laid}
 
