@@ -5,7 +5,7 @@ use mathlib.Core.List.{List, []}
 use Prim.Native.Nat.{ℕ, _+_, _-_, _*_, _/_, _≤_, _<_, _^_}
 use native.Mathlib.Omega.{arith}
 use lib.Dec.{leb, lit<}
-use lib.ListN.{length, getD}
+use lib.ListN.{length, take, drop, getD}
 use borrow.Author.Tests.{le-leb, leb-true}
 use Rattle.bits.specs.Bits.{Bytes, valueOf, digits, bitsOf, bytesOf}
 use Rattle.bits.specs.laws.Bytes.{length-bits, length-bytes}
@@ -23,7 +23,10 @@ use Rattle.format.specs.laws.Tells.{only-tells}
 use Rattle.format.specs.laws.Whole.{was}
 use Rattle.format.specs.laws.Written.{held-message}
 use Rattle.packet_reading.specs.Packet.{version, mostPackets, partBytes, greatest, packet, packets, valuesOf, recordOf}
-use Rattle.packet_reading.specs.laws.Demands.{counted, family}
+use Rattle.packet_reading.specs.laws.Demands.{counted, family, good as reads-good}
+use Rattle.packet_reading.specs.laws.Shown.{shown}
+use Rattle.packet_reading.specs.Promises.{Reads}
+use Rattle.packet_reading.specs.declared.Answer.the-variants.{Good}
 use Rattle.packet_reading.specs.laws.Sound.{listed, read-sized}
 use Rattle.packet_reading.specs.declared.Packet.{Packet}
 
@@ -132,3 +135,7 @@ read-fit s x e = go (readMessage packets s) refl e
     go : (o : Out (List ℕ)) → readMessage packets s ≡ o → also recordOf o ≡ accepted x → Fit (x .0) (x .1)
     go (accepted vs) o d = let k : recordOf vs ≡ x = cc in subst (λ (y : Packet × List ℕ). Fit (y .0) (y .1)) k (fields vs o)
     go (refused c p) o d = let z : _≡_ {A = ℕ} 0 1 = cc in absurd (omega arith)
+
+-- So is one that is answered good, with what stands behind its head.
+pub read-good : (s : List ℕ) (r : Packet) → Bytes s → Reads s (Good r) → let c = take (length s - 4) (drop 4 s) in (4 ≤ length s) × (readRecord packets recordOf s ≡ accepted (r, c)) × Fit r c
+read-good s r fine a = let (n, shows) = shown s a refl fine refl in let e = reads-good s r _ a shows in (n, e, read-fit s _ e)
