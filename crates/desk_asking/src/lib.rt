@@ -1,15 +1,81 @@
-// Asking for a notice at the desk (paper 01, "The desk"): the four places by value, over the lent store.
+// Asking for a notice at the desk, and dropping one (paper 01, "The desk"): the four places by value, over the lent store.
 ghost use mathlib.Core.Path.{_≡_};
-ghost use mathlib.Core.List.{_++_};
+ghost use mathlib.Core.List.{[], _∷_, _++_};
 ghost use Prim.Native.Nat.{_≤_, _<_};
 ghost use lib.ListN.{length, drop};
 ghost use Rattle.places.specs.Places.{fourPlaces};
 ghost use Rattle.places.specs.Desk.{storeBytes, missingBelow, joinedBelow};
+ghost use Rattle.places.specs.Promises.{AskTurn, DropTurn};
 ghost use Rattle.places.specs.laws.Good.{Sized};
 ghost use Rattle.places.specs.laws.Joined.{heldBelow};
 use packet_reading::JOINED;
 use packet_reading::PART;
+use places::PLACES;
 use places::Place;
+use places::Reply;
+use places::Turn;
+
+// The notice of that message number, joined in the buffer, and its place free; or, where packets are missing, their numbers in the row.
+pub fn ask(
+    a: Place,
+    b: Place,
+    c: Place,
+    d: Place,
+    store: &[u8],
+    number: u8,
+    notice: &mut [u8],
+    missing: &mut [u16],
+) -> Turn
+    ensures { λ r. ⌜ AskTurn (a ∷ b ∷ c ∷ d ∷ []) (now (store .entry)) number (now (notice .entry)) (now (missing .entry)) r (now (notice .exit)) (now (missing .exit)) ⌝ }
+{
+    let code = places::first_tests(a, b, c, d, store);
+    if code != 0 {
+        return Turn::staying(a, Reply::Refused(code));
+    }
+    let at = places::open_at(a, b, c, d, number);
+    if at >= PLACES {
+        return Turn::staying(a, Reply::Refused(format::UNKNOWN));
+    }
+    let p = places::pick(a, b, c, d, at);
+    let count = count_missing(p);
+    if count != 0 {
+        if count > missing.len() {
+            return Turn::staying(a, Reply::Refused(format::ROOM));
+        }
+        list_missing(p, missing);
+        return Turn::staying(a, Reply::Missing(count));
+    }
+    let bytes = count_bytes(p);
+    if bytes > notice.len() {
+        return Turn::staying(a, Reply::Refused(format::ROOM));
+    }
+    join(p, at, store, notice);
+    Turn {
+        at,
+        place: p.freed(),
+        reply: Reply::Joined(bytes, p.language),
+    }
+}
+
+// The notice of that message number is given up, and its place free.
+pub fn drop(a: Place, b: Place, c: Place, d: Place, store: &[u8], number: u8) -> Turn
+    ensures { λ r. ⌜ DropTurn (a ∷ b ∷ c ∷ d ∷ []) (now (store .entry)) number r ⌝ }
+{
+    let code = places::first_tests(a, b, c, d, store);
+    if code != 0 {
+        return Turn::staying(a, Reply::Refused(code));
+    }
+    let at = places::open_at(a, b, c, d, number);
+    if at >= PLACES {
+        return Turn::staying(a, Reply::Refused(format::UNKNOWN));
+    }
+    let p = places::pick(a, b, c, d, at);
+    Turn {
+        at,
+        place: p.freed(),
+        reply: Reply::Done,
+    }
+}
 
 // How many numbers are missing.
 fn count_missing(p: Place) -> usize

@@ -7,3 +7,4 @@ pub mod Good
 pub mod Listed
 pub mod Joined
 pub mod Front
+pub mod Outcomes

@@ -1,9 +1,12 @@
 -- The four places, one by one: what is asked of all of them is asked of each in turn, lowest first. Assumes nothing.
 use mathlib.Core.Path.{_≡_, refl}
-use mathlib.Core.Bool.{not, cond, _&&_}
+use mathlib.Core.Bool.{Bool, true, false, not, cond, _&&_}
 use mathlib.Core.List.{List, [], _∷_}
-use Prim.Native.Nat.{ℕ}
-use Rattle.places.specs.Places.{everyBelow, firstFrom, passes, serves, clash, allApart, goodPlaces, openAt, freeAt}
+use Prim.Native.Nat.{ℕ, _<_}
+use native.Mathlib.Omega.{arith}
+use lib.Dec.{ltb}
+use borrow.Author.Tests.{ltb-false}
+use Rattle.places.specs.Places.{everyBelow, firstFrom, passes, serves, clash, fourPlaces, allApart, goodPlaces, openAt, freeAt}
 use Rattle.places.specs.declared.Place.{Place}
 
 module _ (a b c d : Place) where
@@ -25,3 +28,11 @@ module _ (a b c d : Place) where
   pub free-four : freeAt four ≡ cond (not (a .«open»)) 0 (cond (not (b .«open»)) 1 (cond (not (c .«open»)) 2 (cond (not (d .«open»)) 3 4)))
   unfolding freeAt firstFrom
   free-four = refl
+
+-- the last one stands for every greater number
+pub last-of-four : (i : ℕ) → i < fourPlaces → cond (ltb i 3) i 3 ≡ i
+last-of-four i h = go (ltb i 3) refl
+  where
+    go : (b : Bool) → ltb i 3 ≡ b → cond b i 3 ≡ i
+    go true _ = refl
+    go false e = let l = ltb-false i 3 e in omega (arith, l)

@@ -1,12 +1,14 @@
 -- The open place of a number is good where the four are, and a good place's total and sizes are within their limits. Assumes nothing.
 use Prim.Native.Nat.{ℕ, _≤_, _<_}
-use mathlib.Core.Bool.{Bool, true, false, not, _&&_, _||_, and-eq-true-iff}
+use mathlib.Core.Bool.{Bool, true, false, not, cond, _&&_, _||_, and-eq-true-iff}
 use mathlib.Core.List.{List}
 use mathlib.Core.Path.{_≡_, refl}
 use native.Mathlib.Omega.{arith}
+use lib.ListN.{length}
 use lib.Dec.{leb, ltb, eqb}
 use borrow.Author.Tests.{leb-true, eqb-true}
 use Rattle.packet_reading.specs.Packet.{mostPackets, partBytes}
+use Rattle.places.specs.Desk.{storeBytes, firstTests}
 use Rattle.places.specs.Places.{everyBelow, held, lacks, entryGood, goodPlace, passes, serves, fourPlaces, placeAt, allApart, goodPlaces, openAt}
 use Rattle.places.specs.laws.Below.{every-each, first-holds}
 use Rattle.places.specs.declared.Place.{Place}
@@ -44,3 +46,14 @@ open-sized ps n e h =
     let (at-work, _) = and-eq-true-iff (p .«open») (eqb (p .number) n) .0 (open-serves ps n h) in
     let good : passes p ≡ true = every-each fourPlaces (λ i. passes (placeAt ps i)) each i h in
     good-sized p (rw at-work at good)
+
+-- where the first tests pass, the store is long enough and the places are good
+pub tests-passed : (ps : List Place) (s : List ℕ) → firstTests ps s ≡ 0 → (storeBytes ≤ length s) × (goodPlaces ps ≡ true)
+unfolding firstTests
+tests-passed ps s e = go (leb fourPlaces (length ps)) (leb storeBytes (length s)) (goodPlaces ps) refl refl e
+  where
+    go : (wide deep good : Bool) → leb storeBytes (length s) ≡ deep → goodPlaces ps ≡ good → _≡_ {A = ℕ} (cond (wide && deep) (cond good 0 4) 6) 0 → (storeBytes ≤ length s) × (goodPlaces ps ≡ true)
+    go true true true d g _ = (leb-true storeBytes (length s) d, g)
+    go true true false d g z = absurd (omega (arith, z))
+    go true false _ d g z = absurd (omega (arith, z))
+    go false _ _ d g z = absurd (omega (arith, z))
