@@ -89,12 +89,12 @@ joins s i p r c =
     cond (contradicts s i p r c) (turnedAway s 7)
     (cond (lacks p (r .own)) (taken s i (holding p (r .own) (length c)) r c) (record { reply = Again; change = stays; store = s }))
 
--- its notice is not open
-unfoldable pub opens : List Place → List ℕ → Packet → List ℕ → Accepting
-opens ps s r c = let i = freeAt ps in cond (ltb i fourPlaces) (taken s i (opened r (length c)) r c) (turnedAway s 8)
+-- its notice is not open, and the lowest free place is i
+abbrev pub opens : List ℕ → ℕ → Packet → List ℕ → Accepting
+opens s i r c = cond (ltb i fourPlaces) (taken s i (opened r (length c)) r c) (turnedAway s 8)
 
 unfoldable pub received : List Place → List ℕ → Packet → List ℕ → Accepting
-received ps s r c = let i = openAt ps (r .number) in cond (ltb i fourPlaces) (joins s i (placeAt ps i) r c) (opens ps s r c)
+received ps s r c = let i = openAt ps (r .number) in cond (ltb i fourPlaces) (joins s i (placeAt ps i) r c) (opens s (freeAt ps) r c)
 
 -- the packet's own refusals, the first tests, then the places
 unfoldable pub accepting : List Place → List ℕ → List ℕ → Accepting

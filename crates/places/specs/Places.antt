@@ -43,9 +43,17 @@ entryGood p k = lacks p k || (ltb k (p .total) && leb (held p k) partBytes)
 unfoldable pub goodPlace : Place → Bool
 goodPlace p = between 1 mostPackets (p .total) && (not (everyBelow mostPackets (lacks p)) && everyBelow mostPackets (entryGood p))
 
+-- a closed place's other entries are not looked at
+abbrev pub passes : Place → Bool
+passes p = not (p .«open») || goodPlace p
+
+-- open with message number n
+abbrev pub serves : Place → ℕ → Bool
+serves p n = p .«open» && eqb (p .number) n
+
 -- two open with one number
 abbrev pub clash : Place → Place → Bool
-clash p q = p .«open» && (q .«open» && eqb (p .number) (q .number))
+clash p q = q .«open» && serves p (q .number)
 
 -- ---- what a place becomes
 
@@ -73,15 +81,16 @@ placeAt ps i = getD ps i blank
 abbrev pub front : List Place → List Place
 front ps = placeAt ps 0 ∷ placeAt ps 1 ∷ placeAt ps 2 ∷ placeAt ps 3 ∷ []
 
--- a closed place's other entries are not looked at
+unfoldable pub allApart : List Place → Bool
+allApart ps = everyBelow fourPlaces (λ i. everyBelow i (λ j. not (clash (placeAt ps j) (placeAt ps i))))
+
+-- no two open with one number, and each that is open is good
 unfoldable pub goodPlaces : List Place → Bool
-goodPlaces ps =
-    everyBelow fourPlaces (λ i. everyBelow i (λ j. not (clash (placeAt ps j) (placeAt ps i))))
-    && everyBelow fourPlaces (λ i. not (placeAt ps i .«open») || goodPlace (placeAt ps i))
+goodPlaces ps = allApart ps && everyBelow fourPlaces (λ i. passes (placeAt ps i))
 
 -- the open place of message number n; 4 where there is none
 unfoldable pub openAt : List Place → ℕ → ℕ
-openAt ps n = firstFrom 0 fourPlaces (λ i. placeAt ps i .«open» && eqb (placeAt ps i .number) n)
+openAt ps n = firstFrom 0 fourPlaces (λ i. serves (placeAt ps i) n)
 
 -- the lowest free place; 4 where there is none
 unfoldable pub freeAt : List Place → ℕ

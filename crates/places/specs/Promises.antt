@@ -1,8 +1,8 @@
 -- What the desk's calls promise of the places ps, the store s and what else they are lent: the reply, and what is left of each. Assumes nothing.
 use mathlib.Core.Path.{_≡_}
-use mathlib.Core.List.{List}
+use mathlib.Core.List.{List, [], _∷_}
 use Prim.Native.Nat.{ℕ, _<_}
-use Rattle.places.specs.Desk.{applied, turnOf, accepting, asking, dropping}
+use Rattle.places.specs.Desk.{Accepting, applied, turnOf, accepting, asking, dropping}
 use Rattle.places.specs.Places.{fourPlaces}
 use Rattle.places.specs.declared.Place.{Place}
 use Rattle.places.specs.declared.Reply.{Reply}
@@ -22,6 +22,10 @@ abbrev pub Drops : List Place → List ℕ → ℕ → Reply → List Place → 
 Drops ps s n a qs = let o = dropping ps s n in (a ≡ o .reply) × (qs ≡ applied ps (o .change))
 
 -- ---- the same by value, where ps are the four places: the turn r
+
+-- an acceptance o, where the first place is p
+abbrev pub Gives : Place → Accepting → Turn → List ℕ → Type 0
+Gives p o r t = (r ≡ turnOf (p ∷ []) (o .reply) (o .change)) × (r .at < fourPlaces) × (t ≡ o .store)
 
 abbrev pub AcceptTurn : List Place → List ℕ → List ℕ → Turn → List ℕ → Type 0
 AcceptTurn ps s m r t = let o = accepting ps s m in (r ≡ turnOf ps (o .reply) (o .change)) × (r .at < fourPlaces) × (t ≡ o .store)

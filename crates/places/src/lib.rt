@@ -1,10 +1,16 @@
 // A place of the desk (paper 01, "The desk"), and what is asked of the four places, by value.
 ghost use mathlib.Core.Path.{_≡_};
-ghost use Prim.Native.Nat.{_<_};
-ghost use Rattle.packet_reading.specs.Packet.{mostPackets};
-ghost use Rattle.places.specs.Places.{opened, holding, freed};
-ghost use Rattle.places.specs.Desk.{numberOf};
+ghost use mathlib.Core.Bool.{cond, _&&_, _||_};
+ghost use mathlib.Core.List.{[], _∷_};
+ghost use lib.Dec.{leb, ltb, eqb};
+ghost use lib.ListN.{length};
+ghost use Prim.Native.Nat.{_+_, _≤_, _<_};
+ghost use Rattle.packet_reading.specs.Packet.{mostPackets, partBytes};
+ghost use Rattle.places.specs.Places.{everyBelow, lacks, entryGood, goodPlace, passes, serves, clash, allApart, opened, holding, freed, placeAt, goodPlaces, openAt, freeAt};
+ghost use Rattle.places.specs.Desk.{laid, firstTests, numberOf, stays, turnOf};
 use packet_reading::JOINED;
+use packet_reading::MOST;
+use packet_reading::PART;
 use packet_reading::Packet;
 
 pub struct Place {
@@ -57,7 +63,93 @@ impl Reply {
     }
 }
 
+impl Turn {
+    // No place changes: the first one again.
+    pub fn staying(first: Place, reply: Reply) -> Turn
+        ensures { λ r. ⌜ r ≡ turnOf (first ∷ []) reply stays ⌝ }
+    {
+        Turn {
+            at: 0,
+            place: first,
+            reply,
+        }
+    }
+}
+
 impl Place {
+    // What an open place must show: its total within its range, a packet held, every entry good.
+    pub fn good(self) -> bool
+        ensures { λ r. ⌜ r ≡ goodPlace self ⌝ }
+    {
+        if self.total < 1 {
+            return false;
+        }
+        if self.total as usize > MOST {
+            return false;
+        }
+        if self.empty() {
+            return false;
+        }
+        self.entries_good()
+    }
+
+    fn empty(self) -> bool
+        ensures { λ r. ⌜ r ≡ everyBelow mostPackets (lacks self) ⌝ }
+    {
+        let sizes = self.sizes;
+        let mut k: usize = 0;
+        while k < MOST {
+            if sizes[k] != 0 {
+                return false;
+            }
+            k += 1;
+        }
+        true
+    }
+
+    // Whether every held number is below the total, and every held size at most a packet's.
+    fn entries_good(self) -> bool
+        ensures { λ r. ⌜ r ≡ everyBelow mostPackets (entryGood self) ⌝ }
+    {
+        let sizes = self.sizes;
+        let mut good = true;
+        let mut k: usize = 0;
+        while k < MOST {
+            good = still_good(good, sizes[k], k, self.total);
+            k += 1;
+        }
+        good
+    }
+
+    // A closed place's other entries are not looked at.
+    fn passes(self) -> bool
+        ensures { λ r. ⌜ r ≡ passes self ⌝ }
+    {
+        if self.open {
+            return self.good();
+        }
+        true
+    }
+
+    fn clashes(self, other: Place) -> bool
+        ensures { λ r. ⌜ r ≡ clash self other ⌝ }
+    {
+        if other.open {
+            return self.serves(other.number);
+        }
+        false
+    }
+
+    // Whether it is open, with that message number.
+    fn serves(self, number: u8) -> bool
+        ensures { λ r. ⌜ r ≡ serves self number ⌝ }
+    {
+        if self.open {
+            return self.number == number;
+        }
+        false
+    }
+
     // Opened by a packet of `n` bytes: no other number is held.
     pub fn opened(r: Packet, n: u8) -> Place
         requires { ⌜ r .own < mostPackets ⌝ }
@@ -90,4 +182,140 @@ impl Place {
         self.open = false;
         self
     }
+}
+
+// Whether all entries so far were good and so is a size `n` at number `k`.
+fn still_good(good: bool, n: u8, k: usize, total: u8) -> bool
+    ensures { λ r. ⌜ r ≡ (good && (eqb n 0 || (ltb k total && leb n partBytes))) ⌝ }
+{
+    if n == 0 {
+        return good;
+    }
+    if k >= total as usize {
+        return false;
+    }
+    if n as usize > PART {
+        return false;
+    }
+    good
+}
+
+// ---- the four places
+
+// The first tests of every call: a store too short (6), then the places themselves (4).
+pub fn first_tests(a: Place, b: Place, c: Place, d: Place, store: &[u8]) -> u8
+    ensures { λ r. ⌜ r ≡ firstTests (a ∷ b ∷ c ∷ d ∷ []) (now (store .entry)) ⌝ }
+{
+    if store.len() < STORE {
+        return format::ROOM;
+    }
+    if sound(a, b, c, d) {
+        return 0;
+    }
+    format::RANGE
+}
+
+// Whether no two are open with one number, and each that is open is good.
+fn sound(a: Place, b: Place, c: Place, d: Place) -> bool
+    ensures { λ r. ⌜ r ≡ goodPlaces (a ∷ b ∷ c ∷ d ∷ []) ⌝ }
+{
+    if !apart(a, b, c, d) {
+        return false;
+    }
+    if !a.passes() {
+        return false;
+    }
+    if !b.passes() {
+        return false;
+    }
+    if !c.passes() {
+        return false;
+    }
+    d.passes()
+}
+
+// Whether no two are open with one number.
+fn apart(a: Place, b: Place, c: Place, d: Place) -> bool
+    ensures { λ r. ⌜ r ≡ allApart (a ∷ b ∷ c ∷ d ∷ []) ⌝ }
+{
+    if a.clashes(b) {
+        return false;
+    }
+    if a.clashes(c) {
+        return false;
+    }
+    if b.clashes(c) {
+        return false;
+    }
+    if a.clashes(d) {
+        return false;
+    }
+    if b.clashes(d) {
+        return false;
+    }
+    !c.clashes(d)
+}
+
+// The open place of that message number; PLACES where there is none.
+pub fn open_at(a: Place, b: Place, c: Place, d: Place, number: u8) -> usize
+    ensures { λ r. ⌜ r ≡ openAt (a ∷ b ∷ c ∷ d ∷ []) number ⌝ }
+{
+    if a.serves(number) {
+        return 0;
+    }
+    if b.serves(number) {
+        return 1;
+    }
+    if c.serves(number) {
+        return 2;
+    }
+    if d.serves(number) {
+        return 3;
+    }
+    PLACES
+}
+
+// The lowest free place; PLACES where there is none.
+pub fn free_at(a: Place, b: Place, c: Place, d: Place) -> usize
+    ensures { λ r. ⌜ r ≡ freeAt (a ∷ b ∷ c ∷ d ∷ []) ⌝ }
+{
+    if !a.open {
+        return 0;
+    }
+    if !b.open {
+        return 1;
+    }
+    if !c.open {
+        return 2;
+    }
+    if !d.open {
+        return 3;
+    }
+    PLACES
+}
+
+// Place number `i`; the last one for a greater number.
+pub fn pick(a: Place, b: Place, c: Place, d: Place, i: usize) -> Place
+    ensures { λ r. ⌜ r ≡ placeAt (a ∷ b ∷ c ∷ d ∷ []) (cond (ltb i 3) i 3) ⌝ }
+{
+    if i == 0 {
+        return a;
+    }
+    if i == 1 {
+        return b;
+    }
+    if i == 2 {
+        return c;
+    }
+    d
+}
+
+// ---- what the calls share
+
+// Puts the bytes `part` into `s` from byte `at` on.
+pub fn lay(s: &mut [u8], at: usize, part: &[u8])
+    requires { ⌜ at + length (now part) ≤ length (now s) ⌝ }
+    ensures { λ _. ⌜ now (s .exit) ≡ laid (now (s .entry)) at (now (part .entry)) ⌝ }
+{
+    bytes::copy(part, &mut s[at..]);
 }

@@ -11,7 +11,7 @@ use Rattle.format.specs.Fmt.{Out, accepted, refused}
 use Rattle.format.specs.Promises.{answered, readRecord}
 use Rattle.packet_reading.specs.Packet.{packets, recordOf}
 use Rattle.packet_reading.specs.declared.Packet.{Packet}
-use Rattle.places.specs.Places.{everyBelow, fourPlaces, blank, front, goodPlaces}
+use Rattle.places.specs.Places.{everyBelow, allApart, fourPlaces, blank, front, goodPlaces}
 use Rattle.places.specs.Desk.{Change, stays, turns, applied, turnOf, storeBytes, firstTests, turnedAway, accepting, asking, dropping}
 use Rattle.places.specs.Promises.{Accepts, Asks, Drops, AcceptTurn, AskTurn, DropTurn}
 use Rattle.places.specs.declared.Place.{Place}
@@ -22,7 +22,7 @@ use Rattle.places.specs.declared.Turn.{Turn}
 -- ---- four places or more
 
 front-tests : (ps : List Place) (s : List ℕ) → fourPlaces ≤ length ps → firstTests (front ps) s ≡ firstTests ps s
-unfolding firstTests goodPlaces everyBelow
+unfolding firstTests goodPlaces allApart everyBelow
 front-tests ps s h = ap (λ (z : Bool). cond (z && leb storeBytes (length s)) (cond (goodPlaces ps) 0 4) 6) (sym (le-leb fourPlaces (length ps) h))
 
 -- storing a turn's place is what its change does

@@ -1,0 +1,2 @@
+-- What the proofs of `ask` and `drop` cite.
+mod Found

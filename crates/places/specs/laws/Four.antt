@@ -1,0 +1,38 @@
+-- The four places, one by one: what is asked of all of them is asked of each in turn, lowest first. Assumes nothing.
+use mathlib.Core.Path.{_≡_, refl}
+use mathlib.Core.Bool.{Bool, true, false, not, cond, _&&_}
+use mathlib.Core.List.{List, [], _∷_}
+use Prim.Native.Nat.{ℕ, _<_}
+use native.Mathlib.Omega.{arith}
+use lib.Dec.{ltb}
+use borrow.Author.Tests.{ltb-false}
+use Rattle.places.specs.Places.{everyBelow, firstFrom, passes, serves, clash, fourPlaces, allApart, goodPlaces, openAt, freeAt}
+use Rattle.places.specs.declared.Place.{Place}
+
+module _ (a b c d : Place) where
+  abbrev four : List Place
+  four = a ∷ b ∷ c ∷ d ∷ []
+
+  pub good-four : goodPlaces four ≡ (allApart four && (((passes a && passes b) && passes c) && passes d))
+  unfolding goodPlaces everyBelow
+  good-four = refl
+
+  pub apart-four : allApart four ≡ ((not (clash a b) && (not (clash a c) && not (clash b c))) && ((not (clash a d) && not (clash b d)) && not (clash c d)))
+  unfolding allApart everyBelow
+  apart-four = refl
+
+  pub open-four : (n : ℕ) → openAt four n ≡ cond (serves a n) 0 (cond (serves b n) 1 (cond (serves c n) 2 (cond (serves d n) 3 4)))
+  unfolding openAt firstFrom
+  open-four n = refl
+
+  pub free-four : freeAt four ≡ cond (not (a .«open»)) 0 (cond (not (b .«open»)) 1 (cond (not (c .«open»)) 2 (cond (not (d .«open»)) 3 4)))
+  unfolding freeAt firstFrom
+  free-four = refl
+
+-- the last one stands for every greater number
+pub last-of-four : (i : ℕ) → i < fourPlaces → cond (ltb i 3) i 3 ≡ i
+last-of-four i h = go (ltb i 3) refl
+  where
+    go : (b : Bool) → ltb i 3 ≡ b → cond b i 3 ≡ i
+    go true _ = refl
+    go false e = let l = ltb-false i 3 e in omega (arith, l)
