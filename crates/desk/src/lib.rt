@@ -3,7 +3,7 @@ ghost use mathlib.Core.Path.{_≡_};
 ghost use mathlib.Core.List.{[], _∷_};
 ghost use Rattle.format.specs.Promises.{answered, readRecord};
 ghost use Rattle.packet_reading.specs.Packet.{packets, recordOf};
-ghost use Rattle.places.specs.Promises.{AcceptTurn, AskTurn, DropTurn, Accepts, Asks, Drops};
+ghost use Rattle.places.specs.Promises.{AcceptTurn, Accepts, Asks, Drops};
 ghost use Rattle.places.specs.declared.Reply.the-variants.{Refused};
 use places::PLACES;
 use places::Place;
@@ -24,35 +24,6 @@ pub fn stub_unplaced(packet: &[u8]) -> Reply
     ensures { λ r. ⌜ r ≡ answered (λ x. Refused 6) Refused (readRecord packets recordOf (now (packet .entry))) ⌝ }
 {
     Reply::Again
-}
-
-pub fn stub_ask(
-    a: Place,
-    b: Place,
-    c: Place,
-    d: Place,
-    store: &[u8],
-    number: u8,
-    notice: &mut [u8],
-    missing: &mut [u16],
-) -> Turn
-    ensures { λ r. ⌜ AskTurn (a ∷ b ∷ c ∷ d ∷ []) (now (store .entry)) number (now (notice .entry)) (now (missing .entry)) r (now (notice .exit)) (now (missing .exit)) ⌝ }
-{
-    Turn {
-        at: 0,
-        place: a,
-        reply: Reply::Again,
-    }
-}
-
-pub fn stub_drop(a: Place, b: Place, c: Place, d: Place, store: &[u8], number: u8) -> Turn
-    ensures { λ r. ⌜ DropTurn (a ∷ b ∷ c ∷ d ∷ []) (now (store .entry)) number r ⌝ }
-{
-    Turn {
-        at: 0,
-        place: a,
-        reply: Reply::Again,
-    }
 }
 
 // A packet comes in.
@@ -81,7 +52,7 @@ pub fn ask(
     if places.len() < PLACES {
         return Reply::Refused(format::ROOM);
     }
-    let turn = stub_ask(
+    let turn = desk_asking::ask(
         places[0],
         places[1],
         places[2],
@@ -103,7 +74,7 @@ pub fn drop(places: &mut [Place], store: &[u8], number: u8) -> Reply
     if places.len() < PLACES {
         return Reply::Refused(format::ROOM);
     }
-    let turn = stub_drop(places[0], places[1], places[2], places[3], store, number);
+    let turn = desk_asking::drop(places[0], places[1], places[2], places[3], store, number);
     let at = turn.at;
     places[at] = turn.place;
     turn.reply
