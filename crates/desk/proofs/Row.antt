@@ -23,6 +23,7 @@ use denote.Laws.{Is, shows, Makes, Tells}
 use denote.Ref.{RefT}
 use denote.Slice.{heres, codedHoleys}
 use denote.Lend.{Held}
+use denote.Memory.{mem}
 use denote.Index.{place as place-at, place-is, row, elem-out, elem-back, elem-put, opens-slice, closes-slice}
 use denote.Steps.{owned}
 use denote.Struct.Laws as LL
@@ -53,8 +54,12 @@ place-told = T′.lowers .val-is
 pub spelled : (p : Place) (vs : List Val) → Is R p vs → IsPlace p
 spelled p vs g = subst (Is R p) (place-told p vs g) g
 
--- where an element of a slice starts fits
-pub byte-fits : {i l : ℕ} → l * 67 < 2 ^ 63 → i < l → i * 67 < 2 ^ 64
+-- how many bytes a place has
+abbrev size : ℕ
+size = mem R .size
+
+-- where a place of a row starts fits
+pub byte-fits : {i l : ℕ} → l * size < 2 ^ 63 → i < l → i * size < 2 ^ 64
 byte-fits room within = omega arith
 
 -- one of the first four is in a row that is not shorter
@@ -80,7 +85,7 @@ module _ {M : Type 1} (𝓤 : URA M) (H : Heap 𝓤) (A : Atoms 𝓤) (W : Given
 
 -- a pointer to place k
 abbrev pub pointer : RefT (List Place) → ℕ → Val
-pointer x k = vptr (x .ptr .0) (place-at 67 (x .ptr .1) k)
+pointer x k = vptr (x .ptr .0) (place-at size (x .ptr .1) k)
 
 -- the row, while its borrow is open
 abbrev pub rowOf : RefT (List Place) → Fml
@@ -95,12 +100,12 @@ lent κ x ps = fbor κ (Held R (length ps) (x .ptr .0) (x .ptr .1) (x .name))
 
 module _ {M : Type 1} {𝓤 : URA M} {H : Heap 𝓤} {A : Atoms 𝓤} {K : Type 0} {W : Given 𝓤 H A} {Γ : List (Item 𝓤)} {E : Env 𝓤 H} where
   -- the pointer, as the code makes it of the row's start and a number of bytes
-  pub points-to : K → (x : RefT (List Place)) (k : ℕ) {c : ℕ} {y z : Operand} → Opd K W Γ E y (vptr (x .ptr .0) (x .ptr .1)) → Opd K W Γ E z (vint w64 c) → c ≡ k * 67 → Rv K W Γ E (op2 offset y z) (pointer x k)
-  points-to t x k {y = y} {z = z} p q is = subst (λ (m : ℕ). Rv K W Γ E (op2 offset y z) (vptr (x .ptr .0) m)) (ap (λ (m : ℕ). m + x .ptr .1) is ∙ sym (place-is 67 (x .ptr .1) k)) (bin t p q tt)
+  pub points-to : K → (x : RefT (List Place)) (k : ℕ) {c : ℕ} {y z : Operand} → Opd K W Γ E y (vptr (x .ptr .0) (x .ptr .1)) → Opd K W Γ E z (vint w64 c) → c ≡ k * size → Rv K W Γ E (op2 offset y z) (pointer x k)
+  points-to t x k {y = y} {z = z} p q is = subst (λ (m : ℕ). Rv K W Γ E (op2 offset y z) (vptr (x .ptr .0) m)) (ap (λ (m : ℕ). m + x .ptr .1) is ∙ sym (place-is size (x .ptr .1) k)) (bin t p q tt)
 
 module _ {M : Type 1} {𝓤 : URA M} {H : Heap 𝓤} {A : Atoms 𝓤} {K : Type 0} {W : Given 𝓤 H A} {Γ : List (Item 𝓤)} {E : Env 𝓤 H} {C : Calls 𝓤 H} {Λ : Loops 𝓤 H} {P : Post 𝓤 H} where
   -- place k of the open row is read into local j through a pointer in local i: the rooms of i and j are entries n and m
-  pub reads-place : K → (x : RefT (List Place)) (k n m : ℕ) {i j c l l′ : ℕ} {y : Operand} {rest : Body} → k < length (x .now) → Opd K W (‵ (rowOf x) ∷ Γ) E y (vptr (x .ptr .0) (x .ptr .1)) → Holds (ltb c (2 ^ 64)) → c ≡ k * 67
+  pub reads-place : K → (x : RefT (List Place)) (k n m : ℕ) {i j c l l′ : ℕ} {y : Operand} {rest : Body} → k < length (x .now) → Opd K W (‵ (rowOf x) ∷ Γ) E y (vptr (x .ptr .0) (x .ptr .1)) → Holds (ltb c (2 ^ 64)) → c ≡ k * size
       → spotOf 𝓤 H E i ≡ (tyPtr, l, 0) → nth 𝓤 H A n Γ ≡ ‵ (froom tyPtr l 0) → let Γ₁ : List (Item 𝓤) = put 𝓤 H A n (‵ (fat fullShare tyPtr l 0 (pointer x k))) Γ in nth 𝓤 H A n Γ₁ ≡ ‵ (fat fullShare tyPtr l 0 (pointer x k))
       → spotOf 𝓤 H E j ≡ (T′.mir, l′, 0) → nth 𝓤 H A m Γ₁ ≡ ‵ (froom T′.mir l′ 0)
       → (IsPlace (placeAt (x .now) k) → Seq K W (‵ (rowOf x) ∷ put 𝓤 H A m (‵ (fat fullShare T′.mir l′ 0 (mach (placeAt (x .now) k)))) Γ₁) (runs C Λ E rest P))
