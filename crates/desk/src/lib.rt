@@ -1,39 +1,17 @@
-// The desk (paper 01, "The desk"): a packet comes in, a notice is asked for, a notice is dropped, over a lent row of places.
-ghost use mathlib.Core.Path.{_≡_};
-ghost use mathlib.Core.List.{[], _∷_};
-ghost use Rattle.format.specs.Promises.{answered, readRecord};
-ghost use Rattle.packet_reading.specs.Packet.{packets, recordOf};
-ghost use Rattle.places.specs.Promises.{AcceptTurn, Accepts, Asks, Drops};
-ghost use Rattle.places.specs.declared.Reply.the-variants.{Refused};
+// The desk (paper 01, "The desk") over a lent row of places: a packet comes in, a notice is asked for, a notice is dropped. Each call takes the first four places, and one of them may become another.
+ghost use Rattle.places.specs.Promises.{Accepts, Asks, Drops};
 use places::PLACES;
 use places::Place;
 use places::Reply;
-use places::Turn;
 
-pub fn stub_accept(a: Place, b: Place, c: Place, d: Place, store: &mut [u8], packet: &[u8]) -> Turn
-    ensures { λ r. ⌜ AcceptTurn (a ∷ b ∷ c ∷ d ∷ []) (now (store .entry)) (now (packet .entry)) r (now (store .exit)) ⌝ }
-{
-    Turn {
-        at: 0,
-        place: a,
-        reply: Reply::Again,
-    }
-}
-
-pub fn stub_unplaced(packet: &[u8]) -> Reply
-    ensures { λ r. ⌜ r ≡ answered (λ x. Refused 6) Refused (readRecord packets recordOf (now (packet .entry))) ⌝ }
-{
-    Reply::Again
-}
-
-// A packet comes in.
+// A packet comes in. Its own refusal comes before that of a row too short.
 pub fn accept(places: &mut [Place], store: &mut [u8], packet: &[u8]) -> Reply
     ensures { λ r. ⌜ Accepts (now (places .entry)) (now (store .entry)) (now (packet .entry)) r (now (places .exit)) (now (store .exit)) ⌝ }
 {
     if places.len() < PLACES {
-        return stub_unplaced(packet);
+        return desk_accepting::unplaced(packet);
     }
-    let turn = stub_accept(places[0], places[1], places[2], places[3], store, packet);
+    let turn = desk_accepting::accept(places[0], places[1], places[2], places[3], store, packet);
     let at = turn.at;
     places[at] = turn.place;
     turn.reply

@@ -1,1 +1,0 @@
--- The desk's three calls say what they do by the definitions of `places`.
