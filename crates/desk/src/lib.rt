@@ -11,10 +11,17 @@ pub fn accept(places: &mut [Place], store: &mut [u8], packet: &[u8]) -> Reply
     if places.len() < PLACES {
         return desk_accepting::unplaced(packet);
     }
-    let turn = desk_accepting::accept(places[0], places[1], places[2], places[3], store, packet);
-    let at = turn.at;
-    places[at] = turn.place;
-    turn.reply
+    let accepted = desk_accepting::accept(
+        places[0],
+        places[1],
+        places[2],
+        places[3],
+        store,
+        packet,
+    );
+    let at = accepted.at;
+    places[at] = accepted.place;
+    accepted.reply
 }
 
 // A notice is asked for: its bytes go into `notice`, or the numbers that are missing into `missing`.
@@ -30,7 +37,7 @@ pub fn ask(
     if places.len() < PLACES {
         return Reply::Refused(format::ROOM);
     }
-    let turn = desk_asking::ask(
+    let asked = desk_asking::ask(
         places[0],
         places[1],
         places[2],
@@ -40,9 +47,9 @@ pub fn ask(
         notice,
         missing,
     );
-    let at = turn.at;
-    places[at] = turn.place;
-    turn.reply
+    let at = asked.at;
+    places[at] = asked.place;
+    asked.reply
 }
 
 // A notice is dropped.
@@ -52,8 +59,8 @@ pub fn drop(places: &mut [Place], store: &[u8], number: u8) -> Reply
     if places.len() < PLACES {
         return Reply::Refused(format::ROOM);
     }
-    let turn = desk_asking::drop(places[0], places[1], places[2], places[3], store, number);
-    let at = turn.at;
-    places[at] = turn.place;
-    turn.reply
+    let dropped = desk_asking::drop(places[0], places[1], places[2], places[3], store, number);
+    let at = dropped.at;
+    places[at] = dropped.place;
+    dropped.reply
 }
