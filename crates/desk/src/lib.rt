@@ -1,5 +1,6 @@
 // The desk (paper 01, "The desk") over a lent row of places: a packet comes in, a notice is asked for, a notice is dropped. Each call takes the first four places, and one of them may become another.
 ghost use Rattle.places.specs.Promises.{Accepts, Asks, Drops};
+use format::ROOM;
 use places::PLACES;
 use places::Place;
 use places::Reply;
@@ -35,7 +36,7 @@ pub fn ask(
     ensures { λ r. ⌜ Asks (now (places .entry)) (now (store .entry)) number (now (notice .entry)) (now (missing .entry)) r (now (places .exit)) (now (notice .exit)) (now (missing .exit)) ⌝ }
 {
     if places.len() < PLACES {
-        return Reply::Refused(format::ROOM);
+        return Reply::Refused(ROOM);
     }
     let asked = desk_asking::ask(
         places[0],
@@ -57,7 +58,7 @@ pub fn drop(places: &mut [Place], store: &[u8], number: u8) -> Reply
     ensures { λ r. ⌜ Drops (now (places .entry)) (now (store .entry)) number r (now (places .exit)) ⌝ }
 {
     if places.len() < PLACES {
-        return Reply::Refused(format::ROOM);
+        return Reply::Refused(ROOM);
     }
     let dropped = desk_asking::drop(places[0], places[1], places[2], places[3], store, number);
     let at = dropped.at;
