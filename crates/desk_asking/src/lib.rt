@@ -69,10 +69,10 @@ pub fn drop(a: Place, b: Place, c: Place, d: Place, store: &[u8], number: u8) ->
     if at >= PLACES {
         return Turn::staying(a, Reply::Refused(format::UNKNOWN));
     }
-    let p = places::pick(a, b, c, d, at);
+    let place = places::pick(a, b, c, d, at).freed();
     Turn {
         at,
-        place: p.freed(),
+        place,
         reply: Reply::Done,
     }
 }
@@ -100,12 +100,12 @@ fn list_missing(p: Place, row: &mut [u16])
     ensures { λ _. ⌜ now (row .exit) ≡ missingBelow (p .total) p ++ drop (length (missingBelow (p .total) p)) (now (row .entry)) ⌝ }
 {
     let sizes = p.sizes;
-    let mut n: usize = 0;
+    let mut at: usize = 0;
     let mut k: usize = 0;
     while k < p.total as usize {
         if sizes[k] == 0 {
-            row[n] = k as u16;
-            n += 1;
+            row[at] = k as u16;
+            at += 1;
         }
         k += 1;
     }

@@ -4,7 +4,8 @@ use mathlib.Core.List.{[], _∷_}
 use mathlib.Core.Path.{_≡_, refl, sym, ap, _∙_}
 use native.Mathlib.Omega.{arith}
 use borrow.Author.Needs.{needs}
-use Rattle.places.specs.Desk.{turnOf, stays}
+use lib.ListN.{length}
+use Rattle.places.specs.Desk.{missingBelow, turnOf, stays}
 use Rattle.places.specs.Places.{fourPlaces, freed, openAt}
 use Rattle.places.specs.declared.Reply.the-variants.{Refused, Joined}
 use Rattle.places.specs.declared.Turn.{Turn}
@@ -81,7 +82,7 @@ returns-3 c =
     let s = a .store .now in
     let b = a .notice .now in
     let w = a .missing .now in
-    let e = row-short (a .a) (a .b) (a .c) (a .d) s (a .number) (here k) b w (m .count-missing .result) (m .count-missing .ensures) (c .before .before .if3 .taken) (omega (arith, c .before .if4 .taken)) in
+    let e = row-short (a .a) (a .b) (a .c) (a .d) s (a .number) (here k) b w (m .count-missing .result) (m .count-missing .ensures) (λ z. omega (arith, z, c .before .before .if3 .taken)) (omega (arith, c .before .if4 .taken)) in
     asked ps s (a .number) (c .staying3 .result) b w b w _ e (c .staying3 .ensures) (first-again (c .staying3 .result) (a .a) _ (c .staying3 .ensures)) refl refl
 
 list-missing-requires : tie.Need-list-missing-requires
@@ -106,7 +107,7 @@ returns-4 c =
     let s = a .store .now in
     let b = a .notice .now in
     let w = a .missing .now in
-    let e = listed (a .a) (a .b) (a .c) (a .d) s (a .number) (here k) b w (m .count-missing .result) (m .count-missing .ensures) (l .before .before .before .if3 .taken) (omega (arith, l .before .before .if4 .left)) in
+    let e = listed (a .a) (a .b) (a .c) (a .d) s (a .number) (here k) b w (m .count-missing .result) (m .count-missing .ensures) (λ z. omega (arith, z, l .before .before .before .if3 .taken)) (omega (arith, l .before .before .if4 .left)) in
     asked ps s (a .number) (c .staying4 .result) b w b _ _ e (c .staying4 .ensures) (first-again (c .staying4 .result) (a .a) _ (c .staying4 .ensures)) refl (l .list-missing .ensures)
 
 count-bytes-requires : tie.Need-count-bytes-requires
@@ -126,7 +127,7 @@ returns-5 c =
     let s = a .store .now in
     let b = a .notice .now in
     let w = a .missing .now in
-    let none = sym (m .count-missing .ensures) ∙ n .before .if3 .left in
+    let none : length (missingBelow (k .pick .result .total) (k .pick .result)) ≡ 0 = omega (arith, m .count-missing .ensures, n .before .if3 .left) in
     let e = buffer-short (a .a) (a .b) (a .c) (a .d) s (a .number) (here k) b w none (n .count-bytes .result) (n .count-bytes .ensures) (omega (arith, c .before .if5 .taken)) in
     asked ps s (a .number) (c .staying5 .result) b w b w _ e (c .staying5 .ensures) (first-again (c .staying5 .result) (a .a) _ (c .staying5 .ensures)) refl refl
 
@@ -157,7 +158,7 @@ returns-6 c =
     let i = k .before .before .open-at .result in
     let p = k .pick .result in
     let x = Joined (n .count-bytes .result) (p .language) in
-    let none = sym (m .count-missing .ensures) ∙ n .before .if3 .left in
+    let none : length (missingBelow (k .pick .result .total) (k .pick .result)) ≡ 0 = omega (arith, m .count-missing .ensures, n .before .if3 .left) in
     let e = handed (a .a) (a .b) (a .c) (a .d) s (a .number) (here k) b w none (n .count-bytes .result) (n .count-bytes .ensures) (omega (arith, j .before .before .if5 .left)) in
     let turn : _≡_ {A = Turn} (record { at = i; place = c .freed .result; reply = x }) (record { at = i; place = freed p; reply = x }) =
     λ y. record { at = i; place = c .freed .ensures y; reply = x } in
