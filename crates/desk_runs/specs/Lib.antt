@@ -1,2 +1,4 @@
 -- Runs of calls at the desk: their definitions, and in `laws` demand 2 of them.
 pub mod Runs
+mod Examples
+pub mod laws

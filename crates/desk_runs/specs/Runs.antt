@@ -9,7 +9,7 @@ use Rattle.format.specs.Promises.{answered, readRecord}
 use Rattle.packet_reading.specs.Packet.{packets, recordOf}
 use Rattle.packet_reading.specs.declared.Packet.{Packet}
 use Rattle.places.specs.Places.{fourPlaces, placeAt}
-use Rattle.places.specs.Desk.{storeBytes, numberOf, applied, accepting, asking, dropping}
+use Rattle.places.specs.Desk.{storeBytes, numberOf, applied, accepting, Asking, asking, dropping}
 use Rattle.places.specs.declared.Place.{Place}
 use Rattle.places.specs.declared.Reply.{Reply}
 use Rattle.places.specs.declared.Reply.the-variants.{Joined, Missing, Refused}
@@ -104,16 +104,29 @@ unfoldable pub inOrder : ℕ → List Part → List ℕ
 inOrder zero xs = []
 inOrder (suc t) xs = inOrder t xs ++ contentOf xs t
 
--- what asking gives: the reply, the buffer b and the row w afterwards
+-- all packets of their notice have come: each number below the total
+abbrev pub Complete : List Part → Type 0
+Complete [] = ⊥
+Complete (x ∷ xs) = (k : ℕ) → k < x .0 .total → came (x ∷ xs) k ≡ true
+
+-- ---- asking
+
+-- what asking gives: the reply, and what is left of the buffer and the row
 pub record Given : Type 0 where
   pub reply : Reply
   pub notice : List ℕ
   pub missing : List ℕ
 
+abbrev pub given : Asking → Given
+given o = record { reply = o .reply; notice = o .notice; missing = o .missing }
+
+abbrev pub asked : ℕ → List ℕ → List ℕ → Desk → Given
+asked n b w d = given (asking (d .places) (d .store) n b w)
+
 abbrev pub refusal : List ℕ → List ℕ → ℕ → Given
 refusal b w code = record { reply = Refused code; notice = b; missing = w }
 
--- Demand 2, of the packets that have come: 11 where there is none; the missing numbers where one has not come; else their contents in number order, with the language; 6 where there is no room.
+-- Demand 2: what is due for the packets xs that have come. 11 where there is none; the missing numbers where one has not come; else their contents in number order, with their language; 6 where there is no room.
 abbrev pub due : List Part → List ℕ → List ℕ → Given
 due [] b w = refusal b w 11
 due (x ∷ xs) b w =

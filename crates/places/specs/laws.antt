@@ -6,4 +6,5 @@ pub mod Laid
 pub mod Good
 pub mod Listed
 pub mod Joined
+pub mod Front
 pub mod Outcomes

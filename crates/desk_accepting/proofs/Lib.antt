@@ -1,0 +1,2 @@
+-- What the proofs of a packet's ways cite.
+mod Ways

@@ -1,0 +1,51 @@
+-- Case J of paper 01, "Numbers to stand by", computed from the definitions on an empty desk, and what comes after it.
+use mathlib.Core.Path.{_≡_, refl, sym, ap}
+use mathlib.Core.List.{List, [], _∷_}
+use Prim.Native.Nat.{ℕ}
+use native.Mathlib.Nat.{le-refl, le-of-eq}
+use lib.ListN.{replicate, length-replicate, getD-replicate}
+use Rattle.bits.specs.Bits.{bit, valueOf, digits, bitsOf, bytesOf, fieldAt}
+use Rattle.format.specs.Fmt.{readField, read}
+use Rattle.format.specs.Message.{readMessage}
+use Rattle.format.specs.Words.{walk}
+use Rattle.packet_reading.specs.Packet.{packet, packets, recordOf}
+use Rattle.places.specs.Places.{blank, fourPlaces, everyBelow, firstFrom, goodPlace, allApart, goodPlaces, openAt, freeAt}
+use Rattle.places.specs.Desk.{storeBytes, alike, firstTests, joins, received, accepting, missingBelow, joinedBelow, answers, asking, dropping}
+use Rattle.places.specs.declared.Reply.the-variants.{Joined, Missing}
+use Rattle.desk_runs.specs.Runs.{Desk, Empty, comes, drops, run, asked}
+
+abbrev empty : Desk
+empty = record { places = replicate fourPlaces blank; store = replicate storeBytes 0 }
+
+-- the theorems speak of it
+is-empty : Empty empty
+is-empty = record {
+  wide = le-refl fourPlaces;
+  deep = le-of-eq (sym (length-replicate {A = ℕ} storeBytes 0));
+  closed = λ i l. ap (λ p. p .«open») (getD-replicate fourPlaces i blank blank l);
+}
+
+-- message number 7, total 3: packets 0, 1 and 2, of one byte each
+abbrev first : List ℕ
+first = 0xE1 ∷ 0x20 ∷ 0x70 ∷ 0xC0 ∷ 0x41 ∷ []
+
+abbrev second : List ℕ
+second = 0xE1 ∷ 0x20 ∷ 0x70 ∷ 0xC1 ∷ 0x42 ∷ []
+
+abbrev third : List ℕ
+third = 0xE1 ∷ 0x20 ∷ 0x70 ∷ 0xC2 ∷ 0x43 ∷ []
+
+-- packets 2 and 0 held: missing 1
+case-J : asked 7 [] (9 ∷ 9 ∷ []) (run empty (comes first ∷ comes third ∷ [])) ≡ record { reply = Missing 1; notice = []; missing = 1 ∷ 9 ∷ [] }
+unfolding run accepting received joins asking answers missingBelow joinedBelow firstTests goodPlaces allApart goodPlace everyBelow firstFrom openAt freeAt alike readMessage packets packet recordOf read readField walk fieldAt valueOf bit digits bitsOf bytesOf
+case-J = refl
+
+-- when packet 1 has come too, the notice is handed out in number order
+then-whole : asked 7 (9 ∷ 9 ∷ 9 ∷ 9 ∷ []) [] (run empty (comes second ∷ comes first ∷ comes third ∷ [])) ≡ record { reply = Joined 3 0; notice = 0x41 ∷ 0x42 ∷ 0x43 ∷ 9 ∷ []; missing = [] }
+unfolding run accepting received joins asking answers missingBelow joinedBelow firstTests goodPlaces allApart goodPlace everyBelow firstFrom openAt freeAt alike readMessage packets packet recordOf read readField walk fieldAt valueOf bit digits bitsOf bytesOf
+then-whole = refl
+
+-- the old box's fault: packets of a notice that was dropped are none of the next one's under the same number
+number-again : asked 7 [] (9 ∷ 9 ∷ []) (run empty (comes second ∷ drops 7 ∷ comes first ∷ comes third ∷ [])) ≡ record { reply = Missing 2; notice = []; missing = 0 ∷ 2 ∷ [] }
+unfolding run accepting received joins asking answers dropping missingBelow joinedBelow firstTests goodPlaces allApart goodPlace everyBelow firstFrom openAt freeAt alike readMessage packets packet recordOf read readField walk fieldAt valueOf bit digits bitsOf bytesOf
+number-again = refl

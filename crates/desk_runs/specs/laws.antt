@@ -1,0 +1,7 @@
+-- What is proved of runs.
+pub mod Parts
+pub mod Stands
+pub mod Told
+pub mod Steps
+pub mod Demand
+pub mod Older
