@@ -9,7 +9,6 @@ use Rattle.packet_reading.specs.Packet.{mostPackets}
 use Rattle.places.specs.Desk.{laid, cell, inCell, joinedBelow}
 use Rattle.places.specs.Places.{held}
 use Rattle.places.specs.laws.Joined.{heldBelow, held-more, held-room, cell-within, joined-more, joined-length, front-laid}
-use borrow.Author.Needs.{needs}
 use Rattle.desk_asking.proofs.join.Statement.{statement}
 use Rattle.desk_asking.proofs.join.Tie as tie
 

@@ -8,7 +8,6 @@ use borrow.Author.Needs.{needs}
 use lib.ListN.{length, drop, set, length-append, length-set}
 use Rattle.places.specs.Desk.{missingBelow}
 use Rattle.places.specs.laws.Listed.{missing-held, missing-lacking, missing-room, missing-few, front-more}
-use borrow.Author.Needs.{needs}
 use Rattle.desk_asking.proofs.list_missing.Statement.{statement}
 use Rattle.desk_asking.proofs.list_missing.Tie as tie
 
