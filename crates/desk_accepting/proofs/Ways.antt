@@ -16,11 +16,11 @@ use Rattle.packet_reading.specs.Promises.{Reads}
 use Rattle.packet_reading.specs.declared.Packet.{Packet}
 use Rattle.packet_reading.specs.declared.Answer.the-variants.{Good, Refused as Refused′}
 use Rattle.places.specs.Places.{held, holding, fourPlaces, placeAt, openAt, freeAt}
-use Rattle.places.specs.Desk.{Accepting, Change, stays, turns, turnOf, turnedAway, taken, inCell, alike, joins, opens, firstTests, received, accepting}
+use Rattle.places.specs.Desk.{Accepting, stays, turnOf, turnedAway, taken, inCell, alike, joins, opens, firstTests, received, accepting}
 use Rattle.places.specs.Promises.{Gives, AcceptTurn}
 use Rattle.places.specs.laws.Alike.{alike-same}
+use Rattle.places.specs.laws.Four.{turn-first}
 use Rattle.places.specs.declared.Place.{Place}
-use Rattle.places.specs.declared.Reply.{Reply}
 use Rattle.places.specs.declared.Reply.the-variants.{Again, Refused}
 use Rattle.places.specs.declared.Turn.{Turn}
 
@@ -80,14 +80,10 @@ alike-none s t i same l e = rw (drop-of-length-le s l, drop-of-length-le t {i = 
 -- a turn of the first place alone is one of the four
 pub of-four : (a b c d : Place) (s m : List ℕ) (o : Accepting) (r : Turn) (t : List ℕ) → accepting (a ∷ b ∷ c ∷ d ∷ []) s m ≡ o → Gives a o r t → AcceptTurn (a ∷ b ∷ c ∷ d ∷ []) s m r t
 of-four a b c d s m o r t e (is, low, same) = (
-  is ∙ alone (o .reply) (o .change) ∙ ap (λ (x : Accepting). turnOf (a ∷ b ∷ c ∷ d ∷ []) (x .reply) (x .change)) (sym e),
+  is ∙ turn-first a b c d (o .reply) (o .change) ∙ ap (λ (x : Accepting). turnOf (a ∷ b ∷ c ∷ d ∷ []) (x .reply) (x .change)) (sym e),
   low,
   same ∙ ap (λ (x : Accepting). x .store) (sym e),
 )
-  where
-    alone : (x : Reply) (y : Change) → turnOf (a ∷ []) x y ≡ turnOf (a ∷ b ∷ c ∷ d ∷ []) x y
-    alone x stays = refl
-    alone x (turns i p) = refl
 
 module _ (a b c d : Place) (s m : List ℕ) where
   abbrev ps : List Place

@@ -4,8 +4,8 @@ ghost use mathlib.Core.List.{[], _∷_, _++_};
 ghost use Prim.Native.Nat.{_≤_, _<_};
 ghost use lib.ListN.{length, drop};
 ghost use Rattle.places.specs.Places.{fourPlaces};
-ghost use Rattle.places.specs.Desk.{storeBytes, missingBelow, joinedBelow};
-ghost use Rattle.places.specs.Promises.{AskTurn, DropTurn};
+ghost use Rattle.places.specs.Desk.{storeBytes, missingBelow, joinedBelow, answers};
+ghost use Rattle.places.specs.Promises.{Hands, AskTurn, DropTurn};
 ghost use Rattle.places.specs.laws.Good.{Sized};
 ghost use Rattle.places.specs.laws.Joined.{heldBelow};
 use packet_reading::JOINED;
@@ -37,24 +37,7 @@ pub fn ask(
         return Turn::staying(a, Reply::Refused(format::UNKNOWN));
     }
     let p = places::pick(a, b, c, d, at);
-    let count = count_missing(p);
-    if count != 0 {
-        if count > missing.len() {
-            return Turn::staying(a, Reply::Refused(format::ROOM));
-        }
-        list_missing(p, missing);
-        return Turn::staying(a, Reply::Missing(count));
-    }
-    let bytes = count_bytes(p);
-    if bytes > notice.len() {
-        return Turn::staying(a, Reply::Refused(format::ROOM));
-    }
-    join(p, at, store, notice);
-    Turn {
-        at,
-        place: p.freed(),
-        reply: Reply::Joined(bytes, p.language),
-    }
+    answer(a, at, p, store, notice, missing)
 }
 
 // The notice of that message number is given up, and its place free.
@@ -69,11 +52,43 @@ pub fn drop(a: Place, b: Place, c: Place, d: Place, store: &[u8], number: u8) ->
     if at >= PLACES {
         return Turn::staying(a, Reply::Refused(format::UNKNOWN));
     }
-    let p = places::pick(a, b, c, d, at);
+    let place = places::pick(a, b, c, d, at).freed();
     Turn {
         at,
-        place: p.freed(),
+        place,
         reply: Reply::Done,
+    }
+}
+
+// Asked of place `i`, which is `p`: the missing numbers, or the joined packets, where there is room for them.
+fn answer(
+    first: Place,
+    i: usize,
+    p: Place,
+    store: &[u8],
+    notice: &mut [u8],
+    missing: &mut [u16],
+) -> Turn
+    requires { ⌜ Sized p × (i < fourPlaces) × (storeBytes ≤ length (now store)) ⌝ }
+    ensures { λ r. ⌜ Hands first (answers (now (store .entry)) i p (now (notice .entry)) (now (missing .entry))) r (now (notice .exit)) (now (missing .exit)) ⌝ }
+{
+    let count = count_missing(p);
+    if count != 0 {
+        if count > missing.len() {
+            return Turn::staying(first, Reply::Refused(format::ROOM));
+        }
+        list_missing(p, missing);
+        return Turn::staying(first, Reply::Missing(count));
+    }
+    let bytes = count_bytes(p);
+    if bytes > notice.len() {
+        return Turn::staying(first, Reply::Refused(format::ROOM));
+    }
+    join(p, i, store, notice);
+    Turn {
+        at: i,
+        place: p.freed(),
+        reply: Reply::Joined(bytes, p.language),
     }
 }
 
@@ -100,12 +115,12 @@ fn list_missing(p: Place, row: &mut [u16])
     ensures { λ _. ⌜ now (row .exit) ≡ missingBelow (p .total) p ++ drop (length (missingBelow (p .total) p)) (now (row .entry)) ⌝ }
 {
     let sizes = p.sizes;
-    let mut n: usize = 0;
+    let mut at: usize = 0;
     let mut k: usize = 0;
     while k < p.total as usize {
         if sizes[k] == 0 {
-            row[n] = k as u16;
-            n += 1;
+            row[at] = k as u16;
+            at += 1;
         }
         k += 1;
     }

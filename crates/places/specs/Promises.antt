@@ -2,7 +2,7 @@
 use mathlib.Core.Path.{_≡_}
 use mathlib.Core.List.{List, [], _∷_}
 use Prim.Native.Nat.{ℕ, _<_}
-use Rattle.places.specs.Desk.{Accepting, applied, turnOf, accepting, asking, dropping}
+use Rattle.places.specs.Desk.{Accepting, Asking, applied, turnOf, accepting, asking, dropping}
 use Rattle.places.specs.Places.{fourPlaces}
 use Rattle.places.specs.declared.Place.{Place}
 use Rattle.places.specs.declared.Reply.{Reply}
@@ -29,6 +29,10 @@ Gives p o r t = (r ≡ turnOf (p ∷ []) (o .reply) (o .change)) × (r .at < fou
 
 abbrev pub AcceptTurn : List Place → List ℕ → List ℕ → Turn → List ℕ → Type 0
 AcceptTurn ps s m r t = let o = accepting ps s m in (r ≡ turnOf ps (o .reply) (o .change)) × (r .at < fourPlaces) × (t ≡ o .store)
+
+-- what asking gives, o, where the first place is p
+abbrev pub Hands : Place → Asking → Turn → List ℕ → List ℕ → Type 0
+Hands p o r c v = (r ≡ turnOf (p ∷ []) (o .reply) (o .change)) × (r .at < fourPlaces) × (c ≡ o .notice) × (v ≡ o .missing)
 
 abbrev pub AskTurn : List Place → List ℕ → ℕ → List ℕ → List ℕ → Turn → List ℕ → List ℕ → Type 0
 AskTurn ps s n b w r c v = let o = asking ps s n b w in (r ≡ turnOf ps (o .reply) (o .change)) × (r .at < fourPlaces) × (c ≡ o .notice) × (v ≡ o .missing)

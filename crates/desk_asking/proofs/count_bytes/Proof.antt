@@ -4,7 +4,6 @@ use mathlib.Core.Path.{_≡_, refl, ap, _∙_}
 use native.Mathlib.Omega.{arith}
 use borrow.Author.Needs.{needs}
 use Rattle.places.specs.laws.Joined.{heldBelow, held-more, held-most}
-use borrow.Author.Needs.{needs}
 use Rattle.desk_asking.proofs.count_bytes.Statement.{statement}
 use Rattle.desk_asking.proofs.count_bytes.Tie as tie
 

@@ -8,7 +8,6 @@ use borrow.Author.Needs.{needs}
 use lib.ListN.{length, length-append}
 use Rattle.places.specs.Desk.{missingBelow}
 use Rattle.places.specs.laws.Listed.{missing-held, missing-lacking, missing-few}
-use borrow.Author.Needs.{needs}
 use Rattle.desk_asking.proofs.count_missing.Statement.{statement}
 use Rattle.desk_asking.proofs.count_missing.Tie as tie
 

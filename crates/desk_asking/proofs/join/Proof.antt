@@ -4,12 +4,11 @@ use mathlib.Core.List.{List, _++_}
 use mathlib.Core.Path.{_≡_, refl, sym, ap, ap₂, _∙_}
 use native.Mathlib.Omega.{arith}
 use borrow.Author.Needs.{needs}
-use lib.ListN.{length, take, drop}
+use lib.ListN.{length, take, drop, length-take}
 use Rattle.packet_reading.specs.Packet.{mostPackets}
 use Rattle.places.specs.Desk.{laid, cell, inCell, joinedBelow}
 use Rattle.places.specs.Places.{held}
-use Rattle.places.specs.laws.Joined.{heldBelow, held-more, held-room, cell-within, in-cell-length, joined-more, joined-length, front-laid}
-use borrow.Author.Needs.{needs}
+use Rattle.places.specs.laws.Joined.{heldBelow, held-more, held-room, cell-within, joined-more, joined-length, front-laid}
 use Rattle.desk_asking.proofs.join.Statement.{statement}
 use Rattle.desk_asking.proofs.join.Tie as tie
 
@@ -62,17 +61,15 @@ part-lay-end c =
     let st = l .before .before .before .before in
     let z = st .pre .0 in
     let few : l .loop .k < mostPackets = omega (arith, z .few) in
-    cell-within (st .args .i) (l .loop .k) (held (st .args .p) (l .loop .k)) (st .args .store .now) (st .pre .1) few (z .small (l .loop .k) few) (st .pre .2)
+    omega (arith, cell-within (st .args .i) (l .loop .k) (held (st .args .p) (l .loop .k)) (st .args .store .now) (st .pre .1) few (z .small (l .loop .k) few) (st .pre .2))
 
 lay-requires : tie.Need-lay-requires Inv-loop μ-loop
 lay-requires c κs =
     let l = c .before .before .before .before in
     let st = l .before .before .before .before in
-    let a = st .args in
-    let k = l .loop .k in
-    let z = st .pre .0 in
-    let long = ap length (part (cell (a .i) k) (held (a .p) k) (a .store .now)) ∙ in-cell-length z (a .i) k (a .store .now) (st .pre .1) (omega (arith, z .few)) (st .pre .2) in
-    omega (arith, long, held-room k (a .p .total) (a .p) (omega arith), st .pre .3)
+    let p = st .args .p in
+    let room = held-room (l .loop .k) (p .total) p (omega arith) in
+    simp length-take (omega (arith, room, st .pre .3))
 
 add-at : tie.Need-add-at Inv-loop μ-loop
 add-at c =

@@ -8,15 +8,14 @@ use borrow.Author.Needs.{needs}
 use lib.ListN.{length, drop, set, length-append, length-set}
 use Rattle.places.specs.Desk.{missingBelow}
 use Rattle.places.specs.laws.Listed.{missing-held, missing-lacking, missing-room, missing-few, front-more}
-use borrow.Author.Needs.{needs}
 use Rattle.desk_asking.proofs.list_missing.Statement.{statement}
 use Rattle.desk_asking.proofs.list_missing.Tie as tie
 
 abbrev Inv-loop : tie.InvT-loop
-Inv-loop p row₀ sizes n₀ k₀ row n k = (k ≤ p .total) × (n ≡ length (missingBelow k p)) × (length row ≡ length row₀) × (row ≡ missingBelow k p ++ drop (length (missingBelow k p)) row₀)
+Inv-loop p row₀ sizes at₀ k₀ row at k = (k ≤ p .total) × (at ≡ length (missingBelow k p)) × (length row ≡ length row₀) × (row ≡ missingBelow k p ++ drop (length (missingBelow k p)) row₀)
 
 abbrev μ-loop : tie.MeasureT-loop
-μ-loop p row₀ sizes n₀ k₀ row n k = p .total - k
+μ-loop p row₀ sizes at₀ k₀ row at k = p .total - k
 
 loop-holds : tie.Need-loop-holds Inv-loop μ-loop
 unfolding missingBelow
@@ -37,8 +36,8 @@ mul-row c = let l = c .before .before .before in let st = l .before .before in o
 slice-write-row : tie.Need-slice-write-row Inv-loop μ-loop
 slice-write-row c = let l = c .before .before .before in let p = l .before .before .args .p in omega (arith, missing-room (l .loop .k) (p .total) p (omega arith) (c .if2 .taken))
 
-add-n : tie.Need-add-n Inv-loop μ-loop
-add-n c = let l = c .before .before .before in let st = l .before .before in omega (arith, st .pre .0 .few, missing-few (l .loop .k) (st .args .p))
+add-at : tie.Need-add-at Inv-loop μ-loop
+add-at c = let l = c .before .before .before in let st = l .before .before in omega (arith, st .pre .0 .few, missing-few (l .loop .k) (st .args .p))
 
 add-k : tie.Need-add-k Inv-loop μ-loop
 add-k c = omega arith
@@ -61,7 +60,7 @@ loop-again c =
     let room = missing-room k (p .total) p (omega arith) (x .0 .taken) in (
       omega arith,
       omega (arith, x .2, v .1, ap length e, length-append ns (k ∷ [])),
-      ap length (x .1) ∙ length-set (l .loop .row) (l .loop .n) k ∙ v .2,
+      ap length (x .1) ∙ length-set (l .loop .row) (l .loop .at) k ∙ v .2,
       x .1 ∙ ap₂ (λ (r : List ℕ) (n : ℕ). set r n k) (v .3) (v .1) ∙ front-more ns w k (omega (arith, room, st .pre .1)) ∙ ap listed (sym e),
     ))
     (λ x.
@@ -91,7 +90,7 @@ list-missing-spec =
     cast-row
     mul-row
     slice-write-row
-    add-n
+    add-at
     add-k
     loop-less
     loop-again

@@ -6,8 +6,10 @@ use Prim.Native.Nat.{ℕ, _<_}
 use native.Mathlib.Omega.{arith}
 use lib.Dec.{ltb}
 use borrow.Author.Tests.{ltb-false}
+use Rattle.places.specs.Desk.{Change, stays, turns, turnOf}
 use Rattle.places.specs.Places.{everyBelow, firstFrom, passes, serves, clash, fourPlaces, allApart, goodPlaces, openAt, freeAt}
 use Rattle.places.specs.declared.Place.{Place}
+use Rattle.places.specs.declared.Reply.{Reply}
 
 module _ (a b c d : Place) where
   abbrev four : List Place
@@ -28,6 +30,11 @@ module _ (a b c d : Place) where
   pub free-four : freeAt four ≡ cond (not (a .«open»)) 0 (cond (not (b .«open»)) 1 (cond (not (c .«open»)) 2 (cond (not (d .«open»)) 3 4)))
   unfolding freeAt firstFrom
   free-four = refl
+
+  -- of a row that stays the turn has the first place, whatever follows
+  pub turn-first : (x : Reply) (y : Change) → turnOf (a ∷ []) x y ≡ turnOf four x y
+  turn-first x stays = refl
+  turn-first x (turns i p) = refl
 
 -- the last one stands for every greater number
 pub last-of-four : (i : ℕ) → i < fourPlaces → cond (ltb i 3) i 3 ≡ i
