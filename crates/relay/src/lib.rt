@@ -1,4 +1,5 @@
 // What C and Rust link: the calls over numbers and lent slices. Each one hands on what the family's own call promises.
+pub mod desks;
 pub mod frames;
 pub mod messages;
 pub mod notices;

@@ -1,0 +1,2 @@
+-- What the proofs of places from bytes, and back, cite.
+mod Stored

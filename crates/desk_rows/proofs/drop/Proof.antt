@@ -1,0 +1,64 @@
+-- `drop` meets its contract: by value, and the place that changed put back.
+use mathlib.Core.Path.{_≡_, _∙_, subst}
+use mathlib.Core.List.{[], _∷_}
+use Prim.Native.Nat.{_-_}
+use lib.ListN.{drop}
+use borrow.Author.Needs.{needs}
+use Rattle.places.specs.Promises.{DropTurn}
+use Rattle.desk_rows.specs.laws.Changes.{fourIn, drops-in, drops-few}
+use Rattle.desk_rows.proofs.drop.Statement.{statement}
+use Rattle.desk_rows.proofs.drop.Tie as tie
+
+mul-if1 : tie.Need-mul-if1
+mul-if1 c = search needs
+
+returns : tie.Need-returns
+returns c = let a = c .before .before .before .args in drops-few (a .places .now) (c .if1 .taken) (a .store .now) (a .number)
+
+place-requires : tie.Need-place-requires
+place-requires c κs = search needs
+
+place-requires-2 : tie.Need-place-requires-2
+place-requires-2 c κs = search needs
+
+place-requires-3 : tie.Need-place-requires-3
+place-requires-3 c κs = search needs
+
+place-requires-4 : tie.Need-place-requires-4
+place-requires-4 c κs = search needs
+
+drop-requires : tie.Need-drop-requires
+drop-requires c κs = search needs
+
+settle-requires : tie.Need-settle-requires
+settle-requires c κs = search needs
+
+refusal-requires : tie.Need-refusal-requires
+refusal-requires c κs = search needs
+
+same-length : tie.Need-same-length
+same-length c = search needs
+
+returns-2 : tie.Need-returns-2
+returns-2 c =
+    let a = c .before .before .before .before .before .before .before .before .before .before .before .before .before .before .before .before .before .args in
+    let k = c .before .before .before .before .before in
+    let four : _ ≡ fourIn (a .places .now) = λ i. (c .before .before .before .before .before .before .before .before .before .before .before .before .place .ensures) i ∷ (c .before .before .before .before .before .before .before .before .before .before .place2 .ensures) i ∷ (c .before .before .before .before .before .before .before .before .place3 .ensures) i ∷ (c .before .before .before .before .before .before .place4 .ensures) i ∷ [] in
+    let (x, y) = drops-in (a .places .now) (c .before .before .before .before .before .before .before .before .before .before .before .before .before .before .if1 .left) (a .store .now) (a .number) (k .drop .result) (subst (λ ps. DropTurn ps (a .store .now) (a .number) (k .drop .result)) four (k .drop .ensures)) in
+    (c .refusal .ensures ∙ x, c .before .before .before .settle .ensures ∙ y)
+
+pub drop-spec : {M : Type 1} → statement M
+drop-spec =
+    tie.close
+    (tie.spec
+    mul-if1
+    returns
+    place-requires
+    place-requires-2
+    place-requires-3
+    place-requires-4
+    drop-requires
+    settle-requires
+    refusal-requires
+    same-length
+    returns-2)

@@ -1,0 +1,89 @@
+-- `put` meets its contract: four bytes are stored, and the sizes laid behind them.
+use mathlib.Core.Path.{_≡_, ap, _∙_}
+use mathlib.Core.List.{[], _∷_}
+use Prim.Native.Nat.{_+_, _-_}
+use native.Mathlib.Omega.{arith}
+use lib.ListN.{length, set, length-set}
+use borrow.Author.Needs.{needs}
+use Rattle.packet_reading.specs.Packet.{mostPackets}
+use Rattle.places.specs.Desk.{laid}
+use Rattle.desk_rows.specs.Bytes.{begins}
+use Rattle.places.specs.laws.Laid.{length-laid}
+use Rattle.desk_rows.proofs.Stored.{laid-more, four-stored}
+use Rattle.desk_rows.proofs.put.Statement.{statement}
+use Rattle.desk_rows.proofs.put.Tie as tie
+
+mul-at : tie.Need-mul-at
+mul-at c = search needs
+
+mark-requires : tie.Need-mark-requires
+mark-requires c κs = search needs
+
+slice-write-s : tie.Need-slice-write-s
+slice-write-s c = search needs
+
+add-s : tie.Need-add-s
+add-s c = search needs
+
+slice-write-s-2 : tie.Need-slice-write-s-2
+slice-write-s-2 c = let a = c .before .before .before .args in omega (arith, length-set (a .s .now) (begins (a .i)) (c .mark .result))
+
+add-s-2 : tie.Need-add-s-2
+add-s-2 c = search needs
+
+slice-write-s-3 : tie.Need-slice-write-s-3
+slice-write-s-3 c = let a = c .before .before .before .args in omega (arith, length-set (a .s .now) (begins (a .i)) (c .mark .result), length-set (set (a .s .now) (begins (a .i)) (c .mark .result)) (begins (a .i) + 1) (a .p .number))
+
+add-s-3 : tie.Need-add-s-3
+add-s-3 c = search needs
+
+slice-write-s-4 : tie.Need-slice-write-s-4
+slice-write-s-4 c = let a = c .before .before .before .args in omega (arith, length-set (a .s .now) (begins (a .i)) (c .mark .result), length-set (set (a .s .now) (begins (a .i)) (c .mark .result)) (begins (a .i) + 1) (a .p .number), length-set (set (set (a .s .now) (begins (a .i)) (c .mark .result)) (begins (a .i) + 1) (a .p .number)) (begins (a .i) + 2) (a .p .language))
+
+add-lay : tie.Need-add-lay
+add-lay c = search needs
+
+slice-aggregate-lay : tie.Need-slice-aggregate-lay
+slice-aggregate-lay c = search needs
+
+lay-requires : tie.Need-lay-requires
+lay-requires c κs =
+    let m = c .before .before in
+    let a = m .before .before .before .args in
+    let sizes : length (a .p .sizes) ≡ mostPackets = search needs in
+    omega (arith, length-set (a .s .now) (begins (a .i)) (m .mark .result), length-set (set (a .s .now) (begins (a .i)) (m .mark .result)) (begins (a .i) + 1) (a .p .number), length-set (set (set (a .s .now) (begins (a .i)) (m .mark .result)) (begins (a .i) + 1) (a .p .number)) (begins (a .i) + 2) (a .p .language), length-set (set (set (set (a .s .now) (begins (a .i)) (m .mark .result)) (begins (a .i) + 1) (a .p .number)) (begins (a .i) + 2) (a .p .language)) (begins (a .i) + 3) (a .p .total))
+
+same-length : tie.Need-same-length
+same-length c =
+    let m = c .before .before .before .before .before in
+    let a = m .before .before .before .args in
+    c .before .before .lay .kept .0 ∙ ap length (four-stored (a .s .now) (begins (a .i)) (m .mark .result) (a .p .number) (a .p .language) (a .p .total) (omega arith)) ∙ length-laid (a .s .now) (begins (a .i)) (m .mark .result ∷ a .p .number ∷ a .p .language ∷ a .p .total ∷ []) (omega arith)
+
+returns : tie.Need-returns
+returns c =
+    let m = c .before .before .before .before .before in
+    let a = m .before .before .before .args in
+    let head = m .mark .result ∷ a .p .number ∷ a .p .language ∷ a .p .total ∷ [] in
+    c .before .before .lay .ensures
+    ∙ ap (λ s. laid s (begins (a .i) + 4) (a .p .sizes)) (four-stored (a .s .now) (begins (a .i)) (m .mark .result) (a .p .number) (a .p .language) (a .p .total) (omega arith))
+    ∙ laid-more (a .s .now) (begins (a .i)) head (a .p .sizes) (omega arith)
+    ∙ ap (λ n. laid (a .s .now) (begins (a .i)) (n ∷ a .p .number ∷ a .p .language ∷ a .p .total ∷ a .p .sizes)) (m .mark .ensures)
+
+pub put-spec : {M : Type 1} → statement M
+put-spec =
+    tie.close
+    (tie.spec
+    mul-at
+    mark-requires
+    slice-write-s
+    add-s
+    slice-write-s-2
+    add-s-2
+    slice-write-s-3
+    add-s-3
+    slice-write-s-4
+    add-lay
+    slice-aggregate-lay
+    lay-requires
+    same-length
+    returns)

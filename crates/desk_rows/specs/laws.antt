@@ -1,0 +1,2 @@
+-- What is proved of the desk over lent bytes.
+pub mod Changes

@@ -1,0 +1,40 @@
+// The desk's calls. Places are lent bytes, 67 for each of four: the open mark (0 closed, 1 open), message number, language, total, and a size for each of 63 packets, 0 where it is not held.
+ghost use Rattle.desk_rows.specs.Promises.{AcceptsIn, AsksIn, DropsIn};
+
+// A packet comes in; `again` becomes 1 where it came before, 0 where it is new.
+#[no_mangle]
+pub extern "C" fn bellnewt_desk_accept(
+    places: &mut [u8],
+    store: &mut [u8],
+    packet: &[u8],
+    again: &mut u8,
+) -> u8
+    ensures { λ code. ⌜ AcceptsIn (now (places .entry)) (now (store .entry)) (now (packet .entry)) (now (again .entry)) code (now (places .exit)) (now (store .exit)) (now (again .exit)) ⌝ }
+{
+    desk_rows::accept(places, store, packet, again)
+}
+
+// Asks for the notice of that message number: its bytes into the front of `notice`, how many they are into `count`, and its
+// language; or, with 9, the missing numbers into the front of `missing`, and how many they are into `count`.
+#[no_mangle]
+pub extern "C" fn bellnewt_desk_ask(
+    places: &mut [u8],
+    store: &[u8],
+    number: u8,
+    notice: &mut [u8],
+    missing: &mut [u16],
+    count: &mut usize,
+    language: &mut u8,
+) -> u8
+    ensures { λ code. ⌜ AsksIn (now (places .entry)) (now (store .entry)) number (now (notice .entry)) (now (missing .entry)) (now (count .entry)) (now (language .entry)) code (now (places .exit)) (now (notice .exit)) (now (missing .exit)) (now (count .exit)) (now (language .exit)) ⌝ }
+{
+    desk_rows::ask(places, store, number, notice, missing, count, language)
+}
+
+// Drops the notice of that message number.
+#[no_mangle]
+pub extern "C" fn bellnewt_desk_drop(places: &mut [u8], store: &[u8], number: u8) -> u8
+    ensures { λ code. ⌜ DropsIn (now (places .entry)) (now (store .entry)) number code (now (places .exit)) ⌝ }
+{
+    desk_rows::drop(places, store, number)
+}
