@@ -1,2 +1,2 @@
--- What the proofs of `ask`, `answer` and `drop` cite.
+-- What the proofs of `ask` and `drop` cite.
 mod Ways

@@ -8,7 +8,8 @@ use Rattle.places.specs.Desk.{turnOf, stays}
 use Rattle.places.specs.Places.{fourPlaces, openAt}
 use Rattle.places.specs.declared.Reply.the-variants.{Refused}
 use Rattle.places.specs.laws.Outcomes.{asking-refused, asking-unknown}
-use Rattle.desk_asking.proofs.Ways.{Found, found, asks, asked, first-again}
+use Rattle.places.specs.laws.Four.{first-again}
+use Rattle.desk_asking.proofs.Ways.{Found, found, asks, asked}
 use Rattle.desk_asking.proofs.ask.Statement.{statement}
 use Rattle.desk_asking.proofs.ask.Tie as tie
 

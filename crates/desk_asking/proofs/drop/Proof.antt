@@ -9,7 +9,8 @@ use Rattle.places.specs.Places.{fourPlaces, freed, openAt}
 use Rattle.places.specs.declared.Reply.the-variants.{Done, Refused}
 use Rattle.places.specs.declared.Turn.{Turn}
 use Rattle.places.specs.laws.Outcomes.{dropping-refused, dropping-unknown}
-use Rattle.desk_asking.proofs.Ways.{found, drops, dropped, first-again}
+use Rattle.places.specs.laws.Four.{first-again}
+use Rattle.desk_asking.proofs.Ways.{found, drops, dropped}
 use Rattle.desk_asking.proofs.drop.Statement.{statement}
 use Rattle.desk_asking.proofs.drop.Tie as tie
 

@@ -1,5 +1,5 @@
 -- The four places, one by one: what is asked of all of them is asked of each in turn, lowest first. Assumes nothing.
-use mathlib.Core.Path.{_≡_, refl}
+use mathlib.Core.Path.{_≡_, refl, ap}
 use mathlib.Core.Bool.{Bool, true, false, not, cond, _&&_}
 use mathlib.Core.List.{List, [], _∷_}
 use Prim.Native.Nat.{ℕ, _<_}
@@ -10,6 +10,7 @@ use Rattle.places.specs.Desk.{Change, stays, turns, turnOf}
 use Rattle.places.specs.Places.{everyBelow, firstFrom, passes, serves, clash, fourPlaces, allApart, goodPlaces, openAt, freeAt}
 use Rattle.places.specs.declared.Place.{Place}
 use Rattle.places.specs.declared.Reply.{Reply}
+use Rattle.places.specs.declared.Turn.{Turn}
 
 module _ (a b c d : Place) where
   abbrev four : List Place
@@ -35,6 +36,10 @@ module _ (a b c d : Place) where
   pub turn-first : (x : Reply) (y : Change) → turnOf (a ∷ []) x y ≡ turnOf four x y
   turn-first x stays = refl
   turn-first x (turns i p) = refl
+
+-- where no place changes, the turn has the first one
+pub first-again : (r : Turn) (p : Place) (x : Reply) → r ≡ turnOf (p ∷ []) x stays → r .at < fourPlaces
+first-again r p x e = omega (arith, ap (λ (r : Turn). r .at) e)
 
 -- the last one stands for every greater number
 pub last-of-four : (i : ℕ) → i < fourPlaces → cond (ltb i 3) i 3 ≡ i

@@ -8,8 +8,8 @@ use borrow.Author.Needs.{needs}
 use lib.ListN.{length, drop, set, length-append, length-set}
 use Rattle.places.specs.Desk.{missingBelow}
 use Rattle.places.specs.laws.Listed.{missing-held, missing-lacking, missing-room, missing-few, front-more}
-use Rattle.desk_asking.proofs.list_missing.Statement.{statement}
-use Rattle.desk_asking.proofs.list_missing.Tie as tie
+use Rattle.desk_joining.proofs.list_missing.Statement.{statement}
+use Rattle.desk_joining.proofs.list_missing.Tie as tie
 
 abbrev Inv-loop : tie.InvT-loop
 Inv-loop p row₀ sizes at₀ k₀ row at k = (k ≤ p .total) × (at ≡ length (missingBelow k p)) × (length row ≡ length row₀) × (row ≡ missingBelow k p ++ drop (length (missingBelow k p)) row₀)

@@ -4,8 +4,8 @@ use mathlib.Core.Path.{_≡_, refl, ap, _∙_}
 use native.Mathlib.Omega.{arith}
 use borrow.Author.Needs.{needs}
 use Rattle.places.specs.laws.Joined.{heldBelow, held-more, held-most}
-use Rattle.desk_asking.proofs.count_bytes.Statement.{statement}
-use Rattle.desk_asking.proofs.count_bytes.Tie as tie
+use Rattle.desk_joining.proofs.count_bytes.Statement.{statement}
+use Rattle.desk_joining.proofs.count_bytes.Tie as tie
 
 abbrev Inv-loop : tie.InvT-loop
 Inv-loop p sizes n₀ k₀ n k = (k ≤ p .total) × (n ≡ heldBelow k p)

@@ -8,8 +8,8 @@ use borrow.Author.Needs.{needs}
 use lib.ListN.{length, length-append}
 use Rattle.places.specs.Desk.{missingBelow}
 use Rattle.places.specs.laws.Listed.{missing-held, missing-lacking, missing-few}
-use Rattle.desk_asking.proofs.count_missing.Statement.{statement}
-use Rattle.desk_asking.proofs.count_missing.Tie as tie
+use Rattle.desk_joining.proofs.count_missing.Statement.{statement}
+use Rattle.desk_joining.proofs.count_missing.Tie as tie
 
 abbrev Inv-loop : tie.InvT-loop
 Inv-loop p sizes n₀ k₀ n k = (k ≤ p .total) × (n ≡ length (missingBelow k p))

@@ -7,9 +7,10 @@ use Rattle.places.specs.Desk.{missingBelow}
 use Rattle.places.specs.Places.{freed}
 use Rattle.places.specs.declared.Reply.the-variants.{Joined}
 use Rattle.places.specs.declared.Turn.{Turn}
-use Rattle.desk_asking.proofs.Ways.{answered, row-short, listed, buffer-short, handed, first-again}
-use Rattle.desk_asking.proofs.answer.Statement.{statement}
-use Rattle.desk_asking.proofs.answer.Tie as tie
+use Rattle.places.specs.laws.Four.{first-again}
+use Rattle.desk_answering.proofs.Ways.{answered, row-short, listed, buffer-short, handed}
+use Rattle.desk_answering.proofs.answer.Statement.{statement}
+use Rattle.desk_answering.proofs.answer.Tie as tie
 
 count-missing-requires : tie.Need-count-missing-requires
 count-missing-requires c κs = search needs

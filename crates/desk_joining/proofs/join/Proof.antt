@@ -9,8 +9,8 @@ use Rattle.packet_reading.specs.Packet.{mostPackets}
 use Rattle.places.specs.Desk.{laid, cell, inCell, joinedBelow}
 use Rattle.places.specs.Places.{held}
 use Rattle.places.specs.laws.Joined.{heldBelow, held-more, held-room, cell-within, joined-more, joined-length, front-laid}
-use Rattle.desk_asking.proofs.join.Statement.{statement}
-use Rattle.desk_asking.proofs.join.Tie as tie
+use Rattle.desk_joining.proofs.join.Statement.{statement}
+use Rattle.desk_joining.proofs.join.Tie as tie
 
 abbrev Inv-loop : tie.InvT-loop
 Inv-loop p i store notice₀ sizes at₀ k₀ notice at k =

@@ -1,0 +1,2 @@
+-- What the proof of `answer` cites.
+mod Ways
