@@ -16,8 +16,8 @@ use Rattle.packet_reading.specs.declared.Packet.{Packet}
 use Rattle.packet_reading.specs.declared.Answer.{Answer}
 use Rattle.packet_reading.specs.declared.Answer.the-variants.{Good, Refused}
 use borrow.Author.Needs.{needs}
-use Rattle.packet.proofs.correct.Statement.{statement}
-use Rattle.packet.proofs.correct.Tie as tie
+use Rattle.packet_correcting.proofs.correct.Statement.{statement}
+use Rattle.packet_correcting.proofs.correct.Tie as tie
 
 -- the answer of an accepted record, whose content is shown beside it
 abbrev Shown : Packet × List ℕ → Answer
