@@ -4,7 +4,8 @@
  * What holds for every call:
  * - The answer is 0 or a refusal's number. The numbers that a call can give stand above it, in the order of the tests:
  *   the first test that fails gives the number.
- * - A refusal leaves all lent memory as it was. Bytes and row entries past an answer stay as they were too.
+ * - A refusal leaves all lent memory as it was; only 9 also lists the missing packets. Bytes and row entries past an
+ *   answer stay as they were too.
  * - A pointer is followed by how many bytes or entries it lends. The pointer is not null, even where that is 0, and
  *   no two pointers of one call lend the same memory.
  * - A call keeps nothing between calls and allocates nothing, so that threads may call at the same time.
@@ -19,7 +20,7 @@
 extern "C" {
 #endif
 
-/* The numbers that a call answers. Later families give those that no call below gives. */
+/* The numbers that a call answers. */
 enum bellnewt_refusal {
     BELLNEWT_GOOD = 0,
     BELLNEWT_SIZE = 1,        /* the input's size doesn't fit its layout or limits */
@@ -812,6 +813,84 @@ uint8_t bellnewt_notice_correct(uint8_t *s, size_t len, uint8_t language, size_t
  * A refusal leaves the row and *points as they were.
  */
 uint8_t bellnewt_outline(const uint8_t *s, size_t len, uint8_t language, int32_t *row, size_t row_len, size_t *points);
+
+/*
+ * The desk joins the packets of up to four notices, in whatever order they come. A notice is known by its message
+ * number. All that the desk knows is in its places and its store, which every call is lent as the one before left them;
+ * an empty desk is places whose marks are 0, and any store.
+ *
+ * A place is BELLNEWT_PLACE_BYTES bytes, a byte each entry, and the four stand one behind another. Held packets stand
+ * in the store: packet k of place p from byte p * BELLNEWT_PLACE_PART + k * BELLNEWT_PACKET_CONTENT on.
+ */
+enum bellnewt_desk_size {
+    BELLNEWT_PLACE_BYTES = 67,
+    BELLNEWT_PLACE_PACKETS = 63, /* the most packets of a notice */
+    BELLNEWT_PLACE_PART = 12978, /* a place's part of the store */
+    BELLNEWT_DESK_PLACES = 4,
+    BELLNEWT_DESK_ROW = 268, /* the bytes of four places */
+    BELLNEWT_DESK_STORE = 51912,
+    BELLNEWT_DESK_MISSING = 62 /* the most packets that are missing: a notice is opened by one */
+};
+
+/* What stands in a place. A closed place's other entries mean nothing. */
+enum bellnewt_place_entry {
+    BELLNEWT_PLACE_MARK = 0,     /* 0 closed, 1 open */
+    BELLNEWT_PLACE_NUMBER = 1,   /* the message number */
+    BELLNEWT_PLACE_LANGUAGE = 2, /* one of bellnewt_language, as its packets say */
+    BELLNEWT_PLACE_TOTAL = 3,    /* how many packets the notice has, 1 to 63 */
+    BELLNEWT_PLACE_HELD = 4      /* and 62 more: how many bytes of packet 0, 1, .. are held; 0 for none of it */
+};
+
+/*
+ * The tests of places and store, which every call of the desk makes. More bytes of either are good, and stay as they
+ * are:
+ *
+ * 6  fewer than 268 bytes of places, or fewer than 51,912 bytes of store
+ * 4  a mark above 1; two open places of one number; an open place that holds no packet, whose total is not 1 to 63, or
+ *    which holds a packet not below its total or more than 206 bytes of one
+ */
+
+/*
+ * Takes a packet in. *again is 1 if the desk held the same packet before, else 0. An accepted packet changes its own
+ * bytes of the store and its own entry of its place; the first of a notice opens the lowest closed place.
+ *
+ * 1, 2, 4  the packet itself is refused, in the order of bellnewt_packet_read
+ * 6, 4  the tests of places and store
+ * 7  its notice is open with another language or total, or this packet is held with other content
+ * 8  its notice is not open, and all four places are
+ *
+ * A refusal leaves places, store and *again as they were.
+ */
+uint8_t bellnewt_desk_accept(uint8_t *places, size_t places_len, uint8_t *store, size_t store_len,
+                             const uint8_t *packet, size_t packet_len, uint8_t *again);
+
+/*
+ * Joins a notice: puts its bytes into the front of `notice`, how many they are into *count and its language into
+ * *language, and closes its place. If packets are missing, it puts their numbers, rising, into the front of `missing`
+ * and how many they are into *count, and answers 9; all else stays. BELLNEWT_NOTICE_GREATEST bytes and
+ * BELLNEWT_DESK_MISSING entries are always enough.
+ *
+ * 6, 4  the tests of places and store
+ * 11  no open notice of that number
+ * 6   packets are missing, and `missing` has fewer entries
+ * 9   packets are missing
+ * 6   `notice` is shorter than the notice
+ *
+ * A refusal but 9 leaves all lent memory as it was, and the place open.
+ */
+uint8_t bellnewt_desk_ask(uint8_t *places, size_t places_len, const uint8_t *store, size_t store_len, uint8_t number,
+                          uint8_t *notice, size_t notice_len, uint16_t *missing, size_t missing_len, size_t *count,
+                          uint8_t *language);
+
+/*
+ * Gives up a notice: closes its place.
+ *
+ * 6, 4  the tests of places and store
+ * 11  no open notice of that number
+ *
+ * A refusal leaves the places as they were.
+ */
+uint8_t bellnewt_desk_drop(uint8_t *places, size_t places_len, const uint8_t *store, size_t store_len, uint8_t number);
 
 #ifdef __cplusplus
 }

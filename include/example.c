@@ -1,9 +1,11 @@
 /*
- * Reads, writes and corrects a message of each kind, counts slots, draws an outline and splits a notice. Build:
+ * Reads, writes and corrects a message of each kind, counts slots, draws an outline, splits a notice and joins one.
+ * Build:
  *   cc -Wall -Wextra -Werror -I include include/example.c target/staticlib/librelay.a -o example
  */
 #include <inttypes.h>
 #include <stdio.h>
+#include <string.h>
 
 #include "bellnewt.h"
 
@@ -297,6 +299,60 @@ static void packet(const uint8_t *content, size_t size)
         show_bytes("content", buf + row[BELLNEWT_PACKET_ENTRY_START], (size_t)row[BELLNEWT_PACKET_ENTRY_BYTES]);
 }
 
+/* The packets of a content of three, of number 255. */
+enum { DESK_CONTENT = 2 * BELLNEWT_PACKET_CONTENT + 10 };
+
+static uint8_t places[BELLNEWT_DESK_ROW]; /* all closed */
+static uint8_t store[BELLNEWT_DESK_STORE];
+
+static void bring(const uint8_t *content, size_t own)
+{
+    uint8_t packet[BELLNEWT_PACKET_GREATEST], again = 0;
+    const size_t rest = DESK_CONTENT - own * BELLNEWT_PACKET_CONTENT;
+    const size_t bytes = rest < BELLNEWT_PACKET_CONTENT ? rest : BELLNEWT_PACKET_CONTENT;
+
+    bellnewt_split(packet, sizeof packet, content, DESK_CONTENT, BELLNEWT_CHINESE, 255, own);
+    uint8_t code = bellnewt_desk_accept(places, sizeof places, store, sizeof store, packet,
+                                        BELLNEWT_PACKET_HEAD + bytes, &again);
+    printf("packet %zu: %d, again %d\n", own, code, again);
+}
+
+static void ask(const uint8_t *content)
+{
+    uint8_t notice[BELLNEWT_NOTICE_GREATEST], language = BELLNEWT_ENGLISH;
+    uint16_t missing[BELLNEWT_DESK_MISSING];
+    size_t count = 0;
+    uint8_t code = bellnewt_desk_ask(places, sizeof places, store, sizeof store, 255, notice, sizeof notice, missing,
+                                     BELLNEWT_DESK_MISSING, &count, &language);
+
+    printf("ask: %d\n", code);
+    for (size_t i = 0; code == BELLNEWT_INCOMPLETE && i < count; i++)
+        printf("  missing   %d\n", missing[i]);
+    if (code == BELLNEWT_GOOD)
+        printf("  %zu bytes in language %d, %s\n", count, language,
+               count == DESK_CONTENT && memcmp(notice, content, count) == 0 ? "those that were split" : "others");
+}
+
+/* The last packet first, one of them twice; a notice that is given up. */
+static void desk(void)
+{
+    uint8_t content[DESK_CONTENT];
+
+    for (size_t i = 0; i < sizeof content; i++)
+        content[i] = (uint8_t)i;
+    printf("desk\n");
+    ask(content);
+    bring(content, 2);
+    bring(content, 0);
+    bring(content, 0);
+    ask(content);
+    bring(content, 1);
+    ask(content);
+    bring(content, 1);
+    printf("drop: %d\n", bellnewt_desk_drop(places, sizeof places, store, sizeof store, 255));
+    printf("drop once more: %d\n", bellnewt_desk_drop(places, sizeof places, store, sizeof store, 255));
+}
+
 int main(void)
 {
     distress();
@@ -310,5 +366,6 @@ int main(void)
     uint8_t message[27]; /* as many as the notice takes */
     notice(message, sizeof message);
     packet(message, sizeof message);
+    desk();
     return 0;
 }

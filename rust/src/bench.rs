@@ -1,6 +1,7 @@
 //! What the benchmark measures: for each call one row, which both programs work through on the same messages.
 
 pub mod ais;
+pub mod desk;
 pub mod distress;
 pub mod notice;
 pub mod packet;
@@ -112,5 +113,8 @@ fn round<T: 'static>(mut messages: Vec<T>, call: impl Fn(&mut T, &mut Scratch) -
 
 /// The rows of every family.
 pub fn rows() -> Vec<Row> {
-    [distress::rows(), serial::rows(), ais::rows(), packet::rows(), notice::rows()].into_iter().flatten().collect()
+    [distress::rows(), serial::rows(), ais::rows(), packet::rows(), notice::rows(), desk::rows()]
+        .into_iter()
+        .flatten()
+        .collect()
 }

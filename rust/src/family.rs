@@ -2,6 +2,7 @@
 //! `numbers` and `bench`.
 
 pub mod ais;
+pub mod desk;
 pub mod distress;
 pub mod notice;
 pub mod packet;
@@ -23,4 +24,5 @@ pub fn run(options: &Options, tally: &mut Tally) {
     ais::run(options, tally);
     harness::run::<packet::Packets>(options, tally);
     harness::run::<notice::Notices>(options, tally);
+    desk::run(options, tally);
 }

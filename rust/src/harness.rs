@@ -27,7 +27,7 @@ macro_rules! cells {
     };
 }
 
-cells!(u8 u32 i32 i64 usize);
+cells!(u8 u16 u32 i32 i64 usize);
 
 impl<T: Cell> Guarded<T> {
     /// Guards a part. The front guard's length varies, so that the part starts at every alignment.
@@ -48,6 +48,14 @@ impl<T: Cell> Guarded<T> {
 
     pub fn part(&mut self) -> &mut [T] {
         &mut self.cells[self.start..self.end]
+    }
+}
+
+impl<T: PartialEq> Guarded<T> {
+    /// Where the cells of two of them differ first, counted from the part's start.
+    pub fn differs(&self, other: &Guarded<T>) -> Option<isize> {
+        let at = self.cells.iter().zip(&other.cells).position(|(ours, theirs)| ours != theirs)?;
+        Some(at as isize - self.start as isize)
     }
 }
 
@@ -109,14 +117,14 @@ struct Met {
 }
 
 /// What a run met, by call, and the first inputs that differ.
-struct Counts {
+pub struct Counts {
     met: Vec<Met>,
     shown: Vec<String>,
 }
 
 impl Counts {
-    fn new<F: Family>() -> Counts {
-        Counts { met: vec![Met::default(); F::CALLS.len()], shown: Vec::new() }
+    fn new(calls: &[Call]) -> Counts {
+        Counts { met: vec![Met::default(); calls.len()], shown: Vec::new() }
     }
 
     fn add(&mut self, other: Counts) {
@@ -129,6 +137,19 @@ impl Counts {
         self.shown.extend(other.shown);
     }
 
+    /// Counts a call by the number that it is due to answer.
+    pub fn meet(&mut self, call: usize, due: u8) {
+        self.met[call].numbers[usize::from(due)] += 1;
+    }
+
+    /// Counts a call on which the programs differ.
+    pub fn differ(&mut self, call: usize, shown: impl FnOnce() -> String) {
+        self.met[call].differing += 1;
+        if self.shown.len() < SHOWN {
+            self.shown.push(shown());
+        }
+    }
+
     /// Gives both programs one input and compares the number, and every lent cell with its guards.
     fn compare<F: Family>(&mut self, seed: u64, index: u64) {
         let call = index as usize % F::CALLS.len();
@@ -136,45 +157,54 @@ impl Counts {
         let (mut proved, mut paper) = (before.clone(), before.clone());
         let code = F::proved(&input, &mut proved);
         let due = F::paper(&input, &mut paper);
-        self.met[call].numbers[usize::from(due)] += 1;
-
-        // Only 9 gives something beside its number.
-        let kept = code == 0 || code == 9 || proved == before;
+        self.meet(call, due);
+        let kept = code == 0 || proved == before;
         if code == due && proved == paper && kept {
             return;
         }
-        self.met[call].differing += 1;
-        if self.shown.len() < SHOWN {
+        self.differ(call, || {
             let name = F::CALLS[call].name;
-            self.shown.push(format!(
+            format!(
                 "{} {name}, seed {seed}, input {index}: {input:?}\n  lent   {before:?}\n  \
                  proved {code} {proved:?}\n  due    {due} {paper:?}",
                 F::NAME,
-            ));
-        }
+            )
+        });
     }
 }
 
 /// Runs a family's inputs, prints what was met, and counts its checks.
 pub fn run<F: Family>(options: &Options, tally: &mut Tally) {
+    let compare = |index: u64, counts: &mut Counts| counts.compare::<F>(options.seed, index);
+    run_pieces(F::NAME, F::CALLS, options.inputs, compare, options, tally);
+}
+
+/// Runs so many pieces of a family's work, prints what was met, and counts its checks.
+pub fn run_pieces(
+    name: &str,
+    calls: &[Call],
+    pieces: u64,
+    compare: impl Fn(u64, &mut Counts) + Sync,
+    options: &Options,
+    tally: &mut Tally,
+) {
     let work = |first: u64| {
-        let mut counts = Counts::new::<F>();
-        for index in (first..options.inputs).step_by(WORKERS as usize) {
-            counts.compare::<F>(options.seed, index);
-        }
+        let mut counts = Counts::new(calls);
+        (first..pieces).step_by(WORKERS as usize).for_each(|index| compare(index, &mut counts));
         counts
     };
-    let mut counts = Counts::new::<F>();
+    let mut counts = Counts::new(calls);
     thread::scope(|scope| {
+        let work = &work;
         let workers: Vec<_> = (0..WORKERS).map(|first| scope.spawn(move || work(first))).collect();
         for worker in workers {
             counts.add(worker.join().expect("a worker ends"));
         }
     });
     counts.shown.iter().take(SHOWN).for_each(|shown| println!("{shown}"));
-    for (call, met) in F::CALLS.iter().zip(&counts.met) {
-        print_met(F::NAME, call, met);
-        judge(&format!("{} {}", F::NAME, call.name), call, met, options.floor(), tally);
+    for (call, met) in calls.iter().zip(&counts.met) {
+        print_met(name, call, met);
+        judge(&format!("{name} {}", call.name), call, met, options.floor(), tally);
     }
 }
 

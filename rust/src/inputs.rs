@@ -2,6 +2,7 @@
 
 pub mod ais;
 pub mod daylog;
+pub mod desk;
 pub mod distress;
 mod field;
 pub mod notice;

@@ -1,6 +1,7 @@
 //! The numbers of 01, "Numbers to stand by", asked of both programs and of the wrapper.
 
 pub mod ais;
+pub mod desk;
 pub mod distress;
 pub mod notice;
 pub mod packet;
@@ -14,4 +15,5 @@ pub fn run(tally: &mut Tally) {
     ais::run(tally);
     packet::run(tally);
     notice::run(tally);
+    desk::run(tally);
 }

@@ -3,6 +3,7 @@
 
 pub mod ais;
 pub mod daylog;
+pub mod desk;
 pub mod distress;
 pub mod notice;
 pub mod packet;

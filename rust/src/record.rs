@@ -1,6 +1,7 @@
 //! What every call speaks of: refusal numbers and records.
 
 mod ais;
+mod desk;
 mod distress;
 /// By its own name, since its areas are others than those of AIS.
 pub mod notice;
@@ -8,6 +9,7 @@ mod packet;
 mod serial;
 
 pub use ais::{Ais, Area, Body, Shape, ShortTime, Time, Warning};
+pub use desk::{Accepted, Asked, Place};
 pub use distress::Report;
 pub use packet::{Packet, CHINESE, ENGLISH};
 pub use serial::{Frame, Gljc, Txhz, Txsq, Txxx};

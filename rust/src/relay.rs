@@ -4,6 +4,7 @@
 //! and a `&mut` overlaps no other; the library keeps nothing that it was lent.
 
 pub mod ais;
+pub mod desk;
 pub mod distress;
 pub mod notice;
 pub mod packet;

@@ -33,10 +33,11 @@ pub fn accept(a: Place, b: Place, c: Place, d: Place, store: &mut [u8], packet: 
             }
             let content = &packet[Packet::CONTENT..];
             let i = places::open_at(a, b, c, d, r.number);
+            let free = places::free_at(a, b, c, d);
             if i < PLACES {
                 return join(a, i, places::pick(a, b, c, d, i), store, r, content);
             }
-            begin(a, places::free_at(a, b, c, d), store, r, content)
+            begin(a, free, store, r, content)
         },
         Answer::Refused(code) => Turn::staying(a, Reply::Refused(code)),
     }

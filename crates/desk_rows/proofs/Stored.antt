@@ -1,11 +1,13 @@
--- Bytes stored one behind another are bytes laid. Assumes nothing.
-use mathlib.Core.Path.{_≡_, sym, ap, _∙_}
+-- Bytes stored one behind another are bytes laid, and a place's are read where they stand. Assumes nothing.
+use mathlib.Core.Path.{_≡_, refl, sym, ap, _∙_}
 use mathlib.Core.List.{List, [], _∷_, _++_, append-assoc, append-nil}
-use Prim.Native.Nat.{ℕ, suc, _+_, _≤_}
+use Prim.Native.Nat.{ℕ, suc, _+_, _≤_, _<_}
 use native.Mathlib.Omega.{arith}
-use lib.ListN.{length, take, drop, set, length-append, drop-of-length-le}
-use lib.Seq.{length-take-le, take-length, take-at, drop-at, drop-drop, sets-eq}
+use lib.ListN.{getD, length, take, drop, set, length-append, drop-of-length-le}
+use lib.Seq.{getD-take, getD-drop, length-take-le, take-length, take-at, drop-at, drop-drop, sets-eq}
+use Rattle.packet_reading.specs.Packet.{mostPackets}
 use Rattle.places.specs.Desk.{laid}
+use Rattle.desk_rows.specs.Bytes.{placeBytes}
 
 -- a copy that covers what was there
 pub copied-whole : (s d : List ℕ) → length d ≤ length s → take (length s) s ++ drop (length s) d ≡ s
@@ -31,3 +33,20 @@ four-stored s at a b c d fits =
     let two : at + 2 ≡ suc (suc at) = omega arith in
     let three : at + 3 ≡ suc (suc (suc at)) = omega arith in
     rw (one, two, three) (sets-eq (a ∷ b ∷ c ∷ d ∷ []) s at fits ∙ append-assoc (take at s) (a ∷ b ∷ c ∷ d ∷ []) (drop (at + 4) s))
+
+-- ---- read back
+
+-- byte k of 67 from byte at on
+pub byte-there : (s : List ℕ) (at k : ℕ) → k < placeBytes → getD s (at + k) 0 ≡ getD (take placeBytes (drop at s)) k 0
+byte-there s at k l = sym (getD-take placeBytes (drop at s) k 0 l ∙ getD-drop at s k 0)
+
+past-four : (l : List ℕ) → take mostPackets (drop 4 l) ≡ drop 4 (take placeBytes l)
+past-four [] = refl
+past-four (a ∷ []) = refl
+past-four (a ∷ b ∷ []) = refl
+past-four (a ∷ b ∷ c ∷ []) = refl
+past-four (a ∷ b ∷ c ∷ d ∷ l) = refl
+
+-- and those behind the first four
+pub sizes-there : (s : List ℕ) (at : ℕ) → take mostPackets (drop (at + 4) s) ≡ drop 4 (take placeBytes (drop at s))
+sizes-there s at = ap (take mostPackets) (sym (drop-drop 4 at s)) ∙ past-four (drop at s)

@@ -20,15 +20,19 @@ begins i = i * placeBytes
 abbrev pub totalBehind : ℕ → ℕ → ℕ
 totalBehind mark total = cond (leb mark 1) total 0
 
--- place i, as the bytes bs say
-abbrev pub placeIn : List ℕ → ℕ → Place
-placeIn bs i = record {
-  «open» = not (eqb (getD bs (begins i) 0) 0);
-  number = getD bs (begins i + 1) 0;
-  language = getD bs (begins i + 2) 0;
-  total = totalBehind (getD bs (begins i) 0) (getD bs (begins i + 3) 0);
-  sizes = take mostPackets (drop (begins i + 4) bs);
+-- the place that 67 bytes say
+abbrev pub placeOf : List ℕ → Place
+placeOf xs = record {
+  «open» = not (eqb (getD xs 0 0) 0);
+  number = getD xs 1 0;
+  language = getD xs 2 0;
+  total = totalBehind (getD xs 0 0) (getD xs 3 0);
+  sizes = drop 4 xs;
 }
+
+-- place i of the bytes bs
+abbrev pub placeIn : List ℕ → ℕ → Place
+placeIn bs i = placeOf (take placeBytes (drop (begins i) bs))
 
 -- the row of places; bytes too few for four are a row too short
 abbrev pub rowIn : List ℕ → List Place

@@ -1,2 +1,4 @@
 -- What is proved of the desk over lent bytes.
+pub mod Fits
 pub mod Changes
+pub mod Rows

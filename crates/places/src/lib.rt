@@ -1,8 +1,8 @@
 // A place of the desk (paper 01, "The desk"), and what is asked of the four places, by value.
 ghost use mathlib.Core.Path.{_≡_};
-ghost use mathlib.Core.Bool.{cond, _&&_, _||_};
+ghost use mathlib.Core.Bool.{not, cond, _&&_};
 ghost use mathlib.Core.List.{[], _∷_};
-ghost use lib.Dec.{leb, ltb, eqb};
+ghost use lib.Dec.{leb, ltb};
 ghost use lib.ListN.{length};
 ghost use Prim.Native.Nat.{_+_, _≤_, _<_};
 ghost use Rattle.packet_reading.specs.Packet.{mostPackets, partBytes};
@@ -87,36 +87,26 @@ impl Place {
         if self.total as usize > MOST {
             return false;
         }
-        if self.empty() {
-            return false;
-        }
         self.entries_good()
     }
 
-    fn empty(self) -> bool
-        ensures { λ r. ⌜ r ≡ everyBelow mostPackets (lacks self) ⌝ }
-    {
-        let sizes = self.sizes;
-        let mut k: usize = 0;
-        while k < MOST {
-            if sizes[k] != 0 {
-                return false;
-            }
-            k += 1;
-        }
-        true
-    }
-
-    // Whether every held number is below the total, and every held size at most a packet's.
+    // Whether a packet is held, every held number is below the total and every held size at most a packet's. Nothing leaves the
+    // loop early, so that the compiler takes many entries at once.
     fn entries_good(self) -> bool
-        ensures { λ r. ⌜ r ≡ everyBelow mostPackets (entryGood self) ⌝ }
+        ensures { λ r. ⌜ r ≡ (not (everyBelow mostPackets (lacks self)) && everyBelow mostPackets (entryGood self)) ⌝ }
     {
         let sizes = self.sizes;
         let mut good = true;
+        let mut most: u8 = 0;
         let mut k: usize = 0;
         while k < MOST {
-            good = still_good(good, sizes[k], k, self.total);
+            let n = sizes[k];
+            good = still_within(good, n, size_limit(k as u8, self.total));
+            most = greater(most, n);
             k += 1;
+        }
+        if most == 0 {
+            return false;
         }
         good
     }
@@ -184,20 +174,27 @@ impl Place {
     }
 }
 
-// Whether all entries so far were good and so is a size `n` at number `k`.
-fn still_good(good: bool, n: u8, k: usize, total: u8) -> bool
-    ensures { λ r. ⌜ r ≡ (good && (eqb n 0 || (ltb k total && leb n partBytes))) ⌝ }
+// The greatest size of packet number `k` that may be held.
+fn size_limit(k: u8, total: u8) -> u8
+    ensures { λ r. ⌜ r ≡ cond (ltb k total) partBytes 0 ⌝ }
 {
-    if n == 0 {
-        return good;
-    }
-    if k >= total as usize {
-        return false;
-    }
-    if n as usize > PART {
+    if k < total { PART as u8 } else { 0 }
+}
+
+// Whether all sizes so far were within their limits and so is one more.
+fn still_within(good: bool, n: u8, limit: u8) -> bool
+    ensures { λ r. ⌜ r ≡ (good && leb n limit) ⌝ }
+{
+    if n > limit {
         return false;
     }
     good
+}
+
+fn greater(x: u8, y: u8) -> u8
+    ensures { λ r. ⌜ r ≡ cond (ltb x y) y x ⌝ }
+{
+    if x < y { y } else { x }
 }
 
 // ---- the four places

@@ -3,8 +3,9 @@
 //! `bench count ROW proved|paper ROUNDS` works through one row and prints nothing: the benchmark runs itself so, under
 //! valgrind, once for some rounds and once for more. The difference is what the rounds cost, whatever came before.
 
-use bellnewt::bench::{ais, rows, Rounds, MESSAGES};
+use bellnewt::bench::{ais, desk, rows, Rounds, MESSAGES};
 use bellnewt::gpsd;
+use bellnewt::record::Place;
 use std::collections::HashMap;
 use std::io;
 use std::process::Command;
@@ -37,14 +38,14 @@ fn table() {
     print!("{:<20}", "call");
     heads.iter().chain(&heads).for_each(|head| print!("{head:>10}"));
     println!();
-    let mut proved = HashMap::new();
+    let mut pairs = HashMap::new();
     for row in rows() {
         let pair = times((row.rounds)(), row.messages);
         print!("{:<20}", row.name);
         print_pair(Some(pair));
         print_pair(instructions(row.name, row.messages));
         println!();
-        proved.insert(row.name, pair[0]);
+        pairs.insert(row.name, pair);
     }
     println!(
         "{MESSAGES} good messages a row, fewer long ones; ns: best of {TIMED_ROUNDS} rounds, the two programs in turn."
@@ -54,18 +55,27 @@ fn table() {
     if cfg!(not(target_arch = "x86_64")) {
         println!("This machine is no x86-64: both were compiled for it, the library as rust/native says.");
     }
-    decoder_rows(&proved);
+    println!("desk: a notice of {} packets of 206 bytes; an asking joins all of it.", Place::PACKETS);
+    let [proved, paper] = [0, 1].map(|side| packets_a_second(pairs[desk::ACCEPT][side], pairs[desk::ASK][side]));
+    println!("desk, packets a second through accept and ask: proved {proved:.0}, paper {paper:.0}");
+    decoder_rows(&pairs);
+}
+
+/// From the nanoseconds of accepting a packet and of asking for the notice when all have come.
+fn packets_a_second(accept: f64, ask: f64) -> f64 {
+    let packets = Place::PACKETS as f64;
+    1e9 * packets / (packets * accept + ask)
 }
 
 /// The rows that read AIS messages, beside gpsd's decoder where it is installed.
-fn decoder_rows(proved: &HashMap<&str, f64>) {
+fn decoder_rows(pairs: &HashMap<&str, [f64; 2]>) {
     let rows = [(ais::WARNING_READ, ais::warnings()), (ais::AREA_READ, ais::areas())];
     let times: io::Result<Vec<f64>> = rows.iter().map(|(_, messages)| decoder_time(messages)).collect();
     match times {
         Ok(times) => {
             println!("{:<20}{:>10}{:>10}{:>10}", "ns a message", "proved", "gpsd", "ratio");
             for ((name, _), gpsd) in rows.iter().zip(times) {
-                let proved = proved[name];
+                let [proved, _] = pairs[name];
                 println!("{name:<20}{proved:>10.1}{gpsd:>10.1}{:>10.4}", proved / gpsd);
             }
             println!("gpsd: gpsdecode -j on the same messages, best of {DECODER_RUNS} runs without its start; it also");

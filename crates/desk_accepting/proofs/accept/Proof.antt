@@ -69,22 +69,25 @@ part-content-end c = search needs
 open-at-requires : tie.Need-open-at-requires
 open-at-requires c κs = search needs
 
+free-at-requires : tie.Need-free-at-requires
+free-at-requires c κs = search needs
+
 pick-requires : tie.Need-pick-requires
 pick-requires c κs = search needs
 
 join-requires : tie.Need-join-requires
 join-requires c κs =
-    let m = c .before .before .before .before .before .before .before .before .before in
+    let m = c .before .before .before .before .before .before .before .before .before .before in
     let read = m .before .before in
     let known = read .before in
     let a = known .before .before .args in
     let r = m .answer .given .0 .0 in
     let (long, is, fit) = read-good (a .packet .now) r (λ i. known .shared-slice-known .given i .fits) (sym (m .answer .given .1) ∙ read .read .ensures) in
-    let zero : firstTests (a .a ∷ a .b ∷ a .c ∷ a .d ∷ []) (a .store .now) ≡ 0 = sym (c .before .before .before .before .before .before .first-tests .ensures) ∙ c .before .before .before .before .before .if1 .left in
-    let number = c .before .before .before .open-at .ensures in
+    let zero : firstTests (a .a ∷ a .b ∷ a .c ∷ a .d ∷ []) (a .store .now) ≡ 0 = sym (c .before .before .before .before .before .before .before .first-tests .ensures) ∙ c .before .before .before .before .before .before .if1 .left in
+    let number = c .before .before .before .before .open-at .ensures in
     let (deep, good) = tests-passed (a .a ∷ a .b ∷ a .c ∷ a .d ∷ []) (a .store .now) zero in
-    let low : c .before .before .before .open-at .result < fourPlaces = c .before .before .if2 .taken in
-    let there = c .before .pick .ensures ∙ ap (placeAt (a .a ∷ a .b ∷ a .c ∷ a .d ∷ [])) (last-of-four (c .before .before .before .open-at .result) low ∙ number) in
+    let low : c .before .before .before .before .open-at .result < fourPlaces = c .before .before .if2 .taken in
+    let there = c .before .pick .ensures ∙ ap (placeAt (a .a ∷ a .b ∷ a .c ∷ a .d ∷ [])) (last-of-four (c .before .before .before .before .open-at .result) low ∙ number) in
     let sized = open-sized (a .a ∷ a .b ∷ a .c ∷ a .d ∷ []) (r .number) good (subst (_< fourPlaces) number low) in
     let own = fit .own in
     let total = fit .total in
@@ -95,22 +98,19 @@ same-length-2 c = search needs
 
 returns-2 : tie.Need-returns-2
 returns-2 c =
-    let m = c .before .before .before .before .before .before .before .before .before .before .before .before in
+    let m = c .before .before .before .before .before .before .before .before .before .before .before .before .before in
     let read = m .before .before in
     let known = read .before in
     let a = known .before .before .args in
     let r = m .answer .given .0 .0 in
     let (long, is, fit) = read-good (a .packet .now) r (λ i. known .shared-slice-known .given i .fits) (sym (m .answer .given .1) ∙ read .read .ensures) in
-    let zero : firstTests (a .a ∷ a .b ∷ a .c ∷ a .d ∷ []) (a .store .now) ≡ 0 = sym (c .before .before .before .before .before .before .before .before .before .first-tests .ensures) ∙ c .before .before .before .before .before .before .before .before .if1 .left in
-    let number = c .before .before .before .before .before .before .open-at .ensures in
-    let low : c .before .before .before .before .before .before .open-at .result < fourPlaces = c .before .before .before .before .before .if2 .taken in
-    let there = c .before .before .before .before .pick .ensures ∙ ap (placeAt (a .a ∷ a .b ∷ a .c ∷ a .d ∷ [])) (last-of-four (c .before .before .before .before .before .before .open-at .result) low ∙ number) in
+    let zero : firstTests (a .a ∷ a .b ∷ a .c ∷ a .d ∷ []) (a .store .now) ≡ 0 = sym (c .before .before .before .before .before .before .before .before .before .before .first-tests .ensures) ∙ c .before .before .before .before .before .before .before .before .before .if1 .left in
+    let number = c .before .before .before .before .before .before .before .open-at .ensures in
+    let low : c .before .before .before .before .before .before .before .open-at .result < fourPlaces = c .before .before .before .before .before .if2 .taken in
+    let there = c .before .before .before .before .pick .ensures ∙ ap (placeAt (a .a ∷ a .b ∷ a .c ∷ a .d ∷ [])) (last-of-four (c .before .before .before .before .before .before .before .open-at .result) low ∙ number) in
     let j = c .before .before in
     let gives = subst₂ (λ i p. Gives (a .a) (joins (a .store .now) i p r (take (length (a .packet .now) - 4) (drop 4 (a .packet .now)))) (j .join .result) (j .join .last .1 .1 .1 .0)) number there (j .join .ensures) in
     of-four (a .a) (a .b) (a .c) (a .d) (a .store .now) (a .packet .now) _ _ _ (joins-open (a .a) (a .b) (a .c) (a .d) (a .store .now) (a .packet .now) r (take (length (a .packet .now) - 4) (drop 4 (a .packet .now))) is zero (subst (_< fourPlaces) number low)) gives
-
-free-at-requires : tie.Need-free-at-requires
-free-at-requires c κs = search needs
 
 begin-requires : tie.Need-begin-requires
 begin-requires c κs =
@@ -147,8 +147,8 @@ returns-3 c =
     let zero : firstTests (a .a ∷ a .b ∷ a .c ∷ a .d ∷ []) (a .store .now) ≡ 0 = sym (c .before .before .before .before .before .before .before .before .before .first-tests .ensures) ∙ c .before .before .before .before .before .before .before .before .if1 .left in
     let number = c .before .before .before .before .before .before .open-at .ensures in
     let j = c .before .before in
-    let gives = subst (λ i. Gives (a .a) (opens (a .store .now) i r (take (length (a .packet .now) - 4) (drop 4 (a .packet .now)))) (j .begin .result) (j .begin .last .1 .1 .0)) (c .before .before .before .before .free-at .ensures) (j .begin .ensures) in
-    of-four (a .a) (a .b) (a .c) (a .d) (a .store .now) (a .packet .now) _ _ _ (opens-free (a .a) (a .b) (a .c) (a .d) (a .store .now) (a .packet .now) r (take (length (a .packet .now) - 4) (drop 4 (a .packet .now))) is zero (subst (fourPlaces ≤_) number (c .before .before .before .before .before .if2 .left))) gives
+    let gives = subst (λ i. Gives (a .a) (opens (a .store .now) i r (take (length (a .packet .now) - 4) (drop 4 (a .packet .now)))) (j .begin .result) (j .begin .last .1 .1 .0)) (c .before .before .before .before .before .free-at .ensures) (j .begin .ensures) in
+    of-four (a .a) (a .b) (a .c) (a .d) (a .store .now) (a .packet .now) _ _ _ (opens-free (a .a) (a .b) (a .c) (a .d) (a .store .now) (a .packet .now) r (take (length (a .packet .now) - 4) (drop 4 (a .packet .now))) is zero (subst (fourPlaces ≤_) number (c .before .before .before .before .if2 .left))) gives
 
 returns-4 : tie.Need-returns-4
 returns-4 c =
@@ -171,11 +171,11 @@ accept-spec =
     part-content-start
     part-content-end
     open-at-requires
+    free-at-requires
     pick-requires
     join-requires
     same-length-2
     returns-2
-    free-at-requires
     begin-requires
     enum-known-answer-2
     staying-requires-2

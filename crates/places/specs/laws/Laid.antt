@@ -41,9 +41,9 @@ module _ (s : List ℕ) (at : ℕ) (c : List ℕ) (fits : at + length c ≤ leng
       let far : b ≡ e + (b - e) = omega arith in
       rw far (sym (drop-drop (b - e) e (laid s at c)) ∙ ap (drop (b - e)) again ∙ drop-drop (b - e) e s)
 
-  elsewhere : (b n : ℕ) → (b + n ≤ at) ⊎ (at + length c ≤ b) → take n (drop b (laid s at c)) ≡ take n (drop b s)
-  elsewhere b n (inl l) = before b n l
-  elsewhere b n (inr l) = ap (take n) (behind b l)
+  pub laid-elsewhere : (b n : ℕ) → (b + n ≤ at) ⊎ (at + length c ≤ b) → take n (drop b (laid s at c)) ≡ take n (drop b s)
+  laid-elsewhere b n (inl l) = before b n l
+  laid-elsewhere b n (inr l) = ap (take n) (behind b l)
 
 -- two cells, of other places or other numbers
 cells-apart : (i j k l : ℕ) → k < mostPackets → l < mostPackets → (i ≡ j → k ≡ l → ⊥) → (cell j l + partBytes ≤ cell i k) ⊎ (cell i k + partBytes ≤ cell j l)
@@ -64,7 +64,7 @@ cells-apart i j k l a b d = go (ltb i j) (ltb j i) (ltb k l) refl refl refl
 -- A packet that is laid into its cell leaves what stands in any other.
 pub other-cell : (s : List ℕ) (i k : ℕ) (c : List ℕ) → cell i k + length c ≤ length s → k < mostPackets → length c ≤ partBytes → (j l n : ℕ) → l < mostPackets → n ≤ partBytes → (i ≡ j → k ≡ l → ⊥)
     → take n (drop (cell j l) (laid s (cell i k) c)) ≡ take n (drop (cell j l) s)
-other-cell s i k c fits a few j l n b m d = elsewhere s (cell i k) c fits (cell j l) n (go (cells-apart i j k l a b d))
+other-cell s i k c fits a few j l n b m d = laid-elsewhere s (cell i k) c fits (cell j l) n (go (cells-apart i j k l a b d))
   where
     go : (cell j l + partBytes ≤ cell i k) ⊎ (cell i k + partBytes ≤ cell j l) → (cell j l + n ≤ cell i k) ⊎ (cell i k + length c ≤ cell j l)
     go (inl h) = inl (omega arith)

@@ -1,4 +1,4 @@
--- `Place::good` meets its contract: the total, a packet held, every entry.
+-- `Place::good` meets its contract: the total, then the entries.
 use mathlib.Core.Path.{refl, sym, _∙_}
 use Prim.Native.Nat.{_-_}
 use native.Mathlib.Omega.{arith}
@@ -20,21 +20,12 @@ returns-2 : tie.Need-returns-2
 unfolding goodPlace
 returns-2 c = let p = c .before .before .before .before .args .self in sym (rw (le-leb 1 (p .total) (omega arith), lt-leb (p .total) mostPackets (c .if2 .taken)) refl)
 
-empty-requires : tie.Need-empty-requires
-empty-requires c κs = search needs
-
-returns-3 : tie.Need-returns-3
-unfolding goodPlace
-returns-3 c = let t = c .before .before in let p = t .before .before .before .before .args .self in sym (rw (le-leb 1 (p .total) (omega arith), le-leb (p .total) mostPackets (omega arith), sym (c .before .empty .ensures) ∙ c .if3 .taken) refl)
-
 entries-good-requires : tie.Need-entries-good-requires
 entries-good-requires c κs = search needs
 
-returns-4 : tie.Need-returns-4
+returns-3 : tie.Need-returns-3
 unfolding goodPlace
-returns-4 c = let t = c .before .before .before in let p = t .before .before .before .before .args .self in c .entries-good .ensures ∙ sym (rw (le-leb 1 (p .total) (omega arith), le-leb (p .total) mostPackets (omega arith), sym (c .before .before .empty .ensures) ∙ c .before .if3 .left) refl)
+returns-3 c = let t = c .before in let p = t .before .before .before .before .args .self in c .entries-good .ensures ∙ sym (rw (le-leb 1 (p .total) (omega arith), le-leb (p .total) mostPackets (omega arith)) refl)
 
 pub good-spec : {M : Type 1} → statement M
-good-spec =
-    tie.close
-    (tie.spec returns cast-if2 returns-2 empty-requires returns-3 entries-good-requires returns-4)
+good-spec = tie.close (tie.spec returns cast-if2 returns-2 entries-good-requires returns-3)

@@ -1,0 +1,2 @@
+-- What the proofs of a place's entries cite.
+mod Entries
