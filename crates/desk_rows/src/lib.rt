@@ -99,7 +99,7 @@ fn place(s: &[u8], i: usize) -> Place
 {
     let at = i * PLACE;
     let mark = s[at];
-    let mut sizes: [u8; 63] = [0; 63];
+    let mut sizes: [u8; MOST] = [0; MOST];
     bytes::copy(&s[at + SIZES..at + PLACE], &mut sizes);
     Place {
         open: mark != 0,

@@ -22,7 +22,7 @@ pub struct Place {
     // How many packets the notice has.
     pub total: u8,
     // How many bytes of each packet are held; 0 where it is not held.
-    pub sizes: [u8; 63],
+    pub sizes: [u8; MOST],
 }
 
 pub enum Reply {
@@ -78,7 +78,7 @@ impl Turn {
 
 impl Place {
     // What an open place must show: its total within its range, a packet held, every entry good.
-    pub fn good(self) -> bool
+    fn good(self) -> bool
         ensures { λ r. ⌜ r ≡ goodPlace self ⌝ }
     {
         if self.total < 1 {
@@ -145,7 +145,7 @@ impl Place {
         requires { ⌜ r .own < mostPackets ⌝ }
         ensures { λ p. ⌜ p ≡ opened r n ⌝ }
     {
-        let mut sizes: [u8; 63] = [0; 63];
+        let mut sizes: [u8; MOST] = [0; MOST];
         sizes[r.own as usize] = n;
         Place {
             open: true,
