@@ -1,2 +1,2 @@
--- What the proofs of a packet's ways cite.
+-- What the proofs of `accept` and `unplaced` cite.
 mod Ways

@@ -9,9 +9,8 @@ use borrow.Author.Needs.{needs}
 use Rattle.packet_reading.specs.Packet.{partBytes}
 use Rattle.places.specs.Places.{placeAt, held, fourPlaces}
 use Rattle.places.specs.Desk.{firstTests, joins, opens, turnedAway, taken}
-use Rattle.desk_accepting.proofs.Ways.{settled}
 use Rattle.places.specs.Promises.{Gives}
-use Rattle.places.specs.laws.Four.{last-of-four}
+use Rattle.places.specs.laws.Four.{last-of-four, settled}
 use Rattle.packet_reading.specs.laws.Accepted.{read-good}
 use Rattle.places.specs.laws.Good.{open-sized, tests-passed}
 use Rattle.desk_accepting.proofs.Ways.{of-four, refused-packet, refused-tests, joins-open, opens-free}

@@ -1,13 +1,14 @@
 -- The four places, one by one: what is asked of all of them is asked of each in turn, lowest first. Assumes nothing.
-use mathlib.Core.Path.{_≡_, refl, ap}
+use mathlib.Core.Path.{_≡_, refl, sym, ap, _∙_, subst}
 use mathlib.Core.Bool.{Bool, true, false, not, cond, _&&_}
 use mathlib.Core.List.{List, [], _∷_}
 use Prim.Native.Nat.{ℕ, _<_}
 use native.Mathlib.Omega.{arith}
 use lib.Dec.{ltb}
 use borrow.Author.Tests.{ltb-false}
-use Rattle.places.specs.Desk.{Change, stays, turns, turnOf}
+use Rattle.places.specs.Desk.{Accepting, Change, stays, turns, turnOf}
 use Rattle.places.specs.Places.{everyBelow, firstFrom, passes, serves, clash, fourPlaces, allApart, goodPlaces, openAt, freeAt}
+use Rattle.places.specs.Promises.{Gives}
 use Rattle.places.specs.declared.Place.{Place}
 use Rattle.places.specs.declared.Reply.{Reply}
 use Rattle.places.specs.declared.Turn.{Turn}
@@ -40,6 +41,14 @@ module _ (a b c d : Place) where
 -- where no place changes, the turn has the first one
 pub first-again : (r : Turn) (p : Place) (x : Reply) → r ≡ turnOf (p ∷ []) x stays → r .at < fourPlaces
 first-again r p x e = omega (arith, ap (λ (r : Turn). r .at) e)
+
+-- a turn that gives what o₀ is, where o is o₀
+pub settled : (p : Place) (o o₀ : Accepting) (r : Turn) (t : List ℕ) → o ≡ o₀ → r ≡ turnOf (p ∷ []) (o₀ .reply) (o₀ .change) → turnOf (p ∷ []) (o₀ .reply) (o₀ .change) .at < fourPlaces → t ≡ o₀ .store → Gives p o r t
+settled p o o₀ r t e is low same = (
+  is ∙ ap (λ (x : Accepting). turnOf (p ∷ []) (x .reply) (x .change)) (sym e),
+  subst (λ (x : Turn). x .at < fourPlaces) (sym is) low,
+  same ∙ ap (λ (x : Accepting). x .store) (sym e),
+)
 
 -- the last one stands for every greater number
 pub last-of-four : (i : ℕ) → i < fourPlaces → cond (ltb i 3) i 3 ≡ i

@@ -8,9 +8,10 @@ use borrow.Author.Needs.{needs}
 use Rattle.places.specs.Places.{held, holding}
 use Rattle.places.specs.Desk.{alike, turnedAway, taken, stays, cell}
 use Rattle.places.specs.declared.Reply.the-variants.{Done, Again}
-use Rattle.desk_accepting.proofs.Ways.{settled, other-language, other-total, not-held, held-again, other-content}
-use Rattle.desk_accepting.proofs.join.Statement.{statement}
-use Rattle.desk_accepting.proofs.join.Tie as tie
+use Rattle.places.specs.laws.Four.{settled}
+use Rattle.desk_placing.proofs.Ways.{other-language, other-total, not-held, held-again, other-content}
+use Rattle.desk_placing.proofs.join.Statement.{statement}
+use Rattle.desk_placing.proofs.join.Tie as tie
 
 staying-requires : tie.Need-staying-requires
 staying-requires c κs = search needs

@@ -4,8 +4,8 @@ use mathlib.Core.Bool.{and-true, and-false}
 use Prim.Native.Nat.{_-_}
 use borrow.Author.Tests.{eq-eqb, ne-eqb}
 use Rattle.places.specs.Desk.{taken}
-use Rattle.desk_accepting.proofs.still_same.Statement.{statement}
-use Rattle.desk_accepting.proofs.still_same.Tie as tie
+use Rattle.desk_placing.proofs.still_same.Statement.{statement}
+use Rattle.desk_placing.proofs.still_same.Tie as tie
 
 returns : tie.Need-returns
 returns c = let a = c .before .args in sym (rw (ne-eqb (a .x) (a .y) (c .if1 .taken)) (and-false (a .same)))

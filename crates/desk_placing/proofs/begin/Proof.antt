@@ -9,9 +9,9 @@ use borrow.Author.Tests.{lt-ltb, le-ltb}
 use Rattle.places.specs.Places.{fourPlaces, opened}
 use Rattle.places.specs.Desk.{opens, turnedAway, taken}
 use Rattle.places.specs.declared.Reply.the-variants.{Done}
-use Rattle.desk_accepting.proofs.Ways.{settled}
-use Rattle.desk_accepting.proofs.begin.Statement.{statement}
-use Rattle.desk_accepting.proofs.begin.Tie as tie
+use Rattle.places.specs.laws.Four.{settled}
+use Rattle.desk_placing.proofs.begin.Statement.{statement}
+use Rattle.desk_placing.proofs.begin.Tie as tie
 
 staying-requires : tie.Need-staying-requires
 staying-requires c κs = search needs

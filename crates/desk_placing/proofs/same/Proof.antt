@@ -6,9 +6,9 @@ use native.Mathlib.Omega.{arith}
 use lib.ListN.{length, drop}
 use borrow.Author.Needs.{needs}
 use Rattle.places.specs.Desk.{alike, taken}
-use Rattle.desk_accepting.proofs.Ways.{other-length, alike-next, alike-none}
-use Rattle.desk_accepting.proofs.same.Statement.{statement}
-use Rattle.desk_accepting.proofs.same.Tie as tie
+use Rattle.desk_placing.proofs.Ways.{other-length, alike-next, alike-none}
+use Rattle.desk_placing.proofs.same.Statement.{statement}
+use Rattle.desk_placing.proofs.same.Tie as tie
 
 abbrev Inv-loop : tie.InvT-loop
 Inv-loop s t same₀ i₀ same i = (i ≤ length s) × (length s ≡ length t) × (alike s t ≡ (same && alike (drop i s) (drop i t)))

@@ -1,0 +1,2 @@
+-- What the proofs of `join` and `same` cite.
+mod Ways
