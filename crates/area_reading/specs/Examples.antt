@@ -5,7 +5,7 @@ use Prim.Native.Nat.{ℕ}
 use lib.IntN.{pos, negsuc}
 use lib.ListN.{take, set}
 use Rattle.bits.specs.Bits.{bit, valueOf, digits, bitsOf, bytesOf, fieldAt}
-use Rattle.field.specs.Sign.{intOf, spellOf}
+use Rattle.number.specs.Sign.{intOf, spellOf}
 use Rattle.format.specs.Fmt.{accepted, refused, readField, read, writeField, write, spot}
 use Rattle.format.specs.Message.{codeOf, readMessage, writeMessage, correctMessage}
 use Rattle.format.specs.Promises.{readRecord}

@@ -73,8 +73,8 @@ fn read_circle(s: &[u8], w: Walk) -> Passed
     let w = centre.walk.num(s, 7, 0, 127);
     let radius = w.v as u8;
     let w = w.blank(s, 48);
-    let longitude = field::sign::int(centre.longitude, EAST);
-    let latitude = field::sign::int(centre.latitude, NORTH);
+    let longitude = number::sign::int(centre.longitude, EAST);
+    let latitude = number::sign::int(centre.latitude, NORTH);
     let circle = Circle {
         longitude,
         latitude,
@@ -92,10 +92,10 @@ fn read_rectangle(s: &[u8], w: Walk) -> Passed
     let first = read_point(s, w);
     let second = read_point(s, first.walk);
     let w = second.walk;
-    let longitude = field::sign::int(first.longitude, EAST);
-    let latitude = field::sign::int(first.latitude, NORTH);
-    let second_longitude = field::sign::int(second.longitude, EAST);
-    let second_latitude = field::sign::int(second.latitude, NORTH);
+    let longitude = number::sign::int(first.longitude, EAST);
+    let latitude = number::sign::int(first.latitude, NORTH);
+    let second_longitude = number::sign::int(second.longitude, EAST);
+    let second_latitude = number::sign::int(second.latitude, NORTH);
     let rectangle = Rectangle {
         longitude,
         latitude,

@@ -6,7 +6,7 @@ use lib.IntN.{pos}
 use Rattle.bits.specs.Bits.{bit, valueOf, digits, bitsOf, bytesOf, fieldAt}
 use Rattle.format.specs.Fmt.{accepted, refused, readField, read, writeField, write}
 use Rattle.format.specs.Message.{codeOf, readMessage, writeMessage}
-use Rattle.field.specs.Sign.{spellOf}
+use Rattle.number.specs.Sign.{spellOf}
 use Rattle.format.specs.Words.{walk}
 use Rattle.distress_reading.specs.Report.{report, reports, valuesOf}
 use Rattle.distress_reading.specs.declared.report.Report.{Report}

@@ -117,9 +117,9 @@ pub fn fields(s: &[u8], lead: u8) -> Answer
     let w = w.num(s, 32, 0, 999_999_999);
     let mmsi = w.v as u32;
     let w = w.signed(s, 25, 10_800_000, 22_754_432, 10_860_000);
-    let longitude = field::sign::int(w.v, 33_554_432);
+    let longitude = number::sign::int(w.v, 33_554_432);
     let w = w.signed(s, 24, 5_400_000, 11_377_216, 5_460_000);
-    let latitude = field::sign::int(w.v, 16_777_216);
+    let latitude = number::sign::int(w.v, 16_777_216);
     let w = w.num(s, 5, 0, 31);
     let day = w.v as u8;
     let w = w.num(s, 5, 0, 24);

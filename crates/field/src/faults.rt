@@ -1,10 +1,11 @@
 // What is wrong with a field, as a number.
-ghost use mathlib.Core.Bool.{cond, _&&_, _||_};
+ghost use mathlib.Core.Bool.{cond, _||_};
 ghost use mathlib.Core.Path.{_≡_};
 ghost use Prim.Native.Nat.{_+_, _-_, _*_, _/_};
 ghost use lib.Dec.{eqb, leb, ltb};
 ghost use Rattle.format.specs.Fmt.{pad};
 ghost use Rattle.field.specs.Faults.{ranging, signing, blanking, closes};
+use number::choosing::inside;
 
 pub fn range(s: &[u8], at: usize, w: usize, lo: u64, hi: u64, code: u8) -> u8
     ensures { λ r. ⌜ r ≡ ranging (now (s .entry)) at w lo hi code ⌝ }
@@ -88,18 +89,6 @@ pub fn whole_bytes(len: usize, at: usize) -> u64
 {
     let from = at / 8 + (at % 8 + 7) / 8;
     if from < len { (len - from) as u64 } else { 0 }
-}
-
-pub fn inside(v: u64, lo: u64, hi: u64, code: u8) -> u8
-    ensures { λ r. ⌜ r ≡ cond (leb lo v && leb v hi) 0 code ⌝ }
-{
-    if v < lo {
-        return code;
-    }
-    if hi < v {
-        return code;
-    }
-    0
 }
 
 pub fn sign(v: u64, top: u64, bottom: u64, none: u64) -> u8

@@ -7,7 +7,7 @@ use lib.ListN.{length}
 use Rattle.bits.specs.Answers.{within, got}
 use Rattle.format.specs.Fmt.{pad}
 use Rattle.field.specs.Faults.{ranging, signing, blanking, closes}
-use Rattle.field.specs.declared.pieces.Pieces.{Pieces}
+use Rattle.pieces.specs.declared.Pieces.{Pieces}
 use Rattle.layout.specs.Walk.{onward}
 use Rattle.layout.specs.declared.walk.Walk.{Walk}
 

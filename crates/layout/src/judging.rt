@@ -6,9 +6,9 @@ ghost use Rattle.layout.specs.Judging.{valued, filled, signedlyValued, m
 ghost use Rattle.layout.specs.Reading.{judgedAs};
 ghost use Rattle.layout.specs.Walk.{onward};
 use crate::walk::Walk;
-use field::faults::inside;
 use field::faults::spells;
-use field::pieces::Pieces;
+use number::choosing::inside;
+use pieces::Pieces;
 
 impl Walk {
     // A record's value for a field of w bits: from lo to hi, which has at most w bits.

@@ -6,9 +6,6 @@ ghost use Rattle.field.specs.Faults.{wholly};
 ghost use Rattle.layout.specs.Reading.{given, carried, blanked, ranged, signedly, parted, grouped, ended};
 ghost use Rattle.layout.specs.Walk.{onward};
 use crate::walk::Walk;
-use field::choosing::choose;
-use field::choosing::none;
-use field::choosing::pick;
 use field::faults::clear;
 use field::faults::closing;
 use field::faults::lies;
@@ -16,6 +13,9 @@ use field::faults::past;
 use field::faults::range;
 use field::faults::signs;
 use field::faults::whole_bytes;
+use number::choosing::choose;
+use number::choosing::none;
+use number::choosing::pick;
 
 impl Walk {
     // A number from lo to hi, else `code`; `free` where it may be corrected.

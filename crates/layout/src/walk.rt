@@ -2,13 +2,13 @@
 ghost use mathlib.Core.Bool.{false};
 ghost use mathlib.Core.Path.{_≡_};
 ghost use Rattle.layout.specs.Walk.{begun, onward};
-use field::choosing::both;
-use field::choosing::choose;
-use field::choosing::last;
-use field::choosing::less;
-use field::choosing::none;
-use field::choosing::not;
-use field::choosing::pick;
+use number::choosing::both;
+use number::choosing::choose;
+use number::choosing::last;
+use number::choosing::less;
+use number::choosing::none;
+use number::choosing::not;
+use number::choosing::pick;
 
 pub struct Walk {
     // The bit where the next field starts.

@@ -4,9 +4,9 @@ ghost use lib.ListN.{length};
 ghost use Rattle.notice_areas.specs.Row.{Fews};
 ghost use Rattle.notice.specs.Making.{HeadJudged, NoticeJudged, HeadPut, NoticePut};
 use areas_making::Stepped;
-use field::choosing::choose;
 use layout::walk::Walk;
 use notice_reading::Notice;
+use number::choosing::choose;
 
 // The values in bit order, the text by itself, and how many numbers of the row were asked for.
 pub(crate) fn judged(r: Notice, areas: &[u32], text: &[u8], english: bool) -> Stepped

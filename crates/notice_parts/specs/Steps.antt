@@ -4,9 +4,9 @@ use mathlib.Core.Bool.{false, _||_, cond}
 use mathlib.Core.List.{List}
 use lib.Dec.{eqb}
 use Rattle.bits.specs.Answers.{got}
-use Rattle.field.specs.Pieces.{unpieced, pieced, unlessZero}
+use Rattle.pieces.specs.Pieces.{unpieced, pieced, unlessZero}
 use Rattle.layout.specs.Reading.{parted, judgedAs, partwise}
-use Rattle.field.specs.declared.pieces.Pieces.{Pieces}
+use Rattle.pieces.specs.declared.Pieces.{Pieces}
 use Rattle.layout.specs.declared.walk.Walk.{Walk}
 
 -- the subtypes of the type t: from the least to the most

@@ -2,8 +2,8 @@
 ghost use mathlib.Core.Path.{_≡_};
 ghost use Prim.Native.Nat.{_^_, _<_};
 ghost use Rattle.notice_parts.specs.Steps.{leastSubtype, mostSubtype, momentRead, expiryRead, bare, angleParted, latitudeRead, longitudeRead, expiryJudged, angleJudged, latitudeJudged, longitudeJudged};
-use field::pieces::Pieces;
 use layout::walk::Walk;
+use pieces::Pieces;
 
 // The bits of each.
 pub const EXPIRY: usize = 21;

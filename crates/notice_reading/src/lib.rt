@@ -6,8 +6,8 @@ ghost use Rattle.format.specs.Message.{codeOf, readMessage};
 ghost use Rattle.notice_reading.specs.Notice.{notices, sizes};
 ghost use Rattle.notice_reading.specs.Promises.{Reads, numberOf};
 ghost use Rattle.notice_reading.specs.Steps.{Heads, ClosedIs, FieldsAre};
-use field::choosing::choose;
 use layout::walk::Walk;
+use number::choosing::choose;
 
 // The numbers of its areas stand beside the record in a row, one area behind another, and its text in a buffer: both are lent.
 pub struct Notice {

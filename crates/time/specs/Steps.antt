@@ -2,9 +2,9 @@
 use Prim.Native.Nat.{ℕ}
 use mathlib.Core.List.{List}
 use Rattle.bits.specs.Answers.{got}
-use Rattle.field.specs.Pieces.{unpieced, pieced}
+use Rattle.pieces.specs.Pieces.{unpieced, pieced}
 use Rattle.layout.specs.Reading.{parted, judgedAs, partwise}
-use Rattle.field.specs.declared.pieces.Pieces.{Pieces}
+use Rattle.pieces.specs.declared.Pieces.{Pieces}
 use Rattle.layout.specs.declared.walk.Walk.{Walk}
 
 abbrev pub dateRead : List ℕ → Walk → Walk

@@ -3,8 +3,8 @@ ghost use mathlib.Core.Path.{_≡_};
 ghost use Prim.Native.Nat.{_^_, _<_};
 ghost use Rattle.time.specs.Time.{spellTime, timeOf, spellShort, shortOf};
 ghost use Rattle.time.specs.Steps.{dateRead, timeRead, shortRead, datePieced, timeJudged, shortJudged};
-use field::pieces::Pieces;
 use layout::walk::Walk;
+use pieces::Pieces;
 
 // 0 for a month or a day that is not needed.
 pub struct Time {

@@ -7,7 +7,7 @@ use borrow.Author.Tests.{eqb-true}
 use lib.Dec.{eqb, lit≤}
 use lib.IntN.{ℤ}
 use lib.ListN.{length, getD, set}
-use Rattle.field.specs.laws.Sign.{spell-int}
+use Rattle.number.specs.laws.Sign.{spell-int}
 use Rattle.format.specs.Correcting.{standing, ofKind}
 use Rattle.format.specs.Fmt.{none, found, spot}
 use Rattle.format.specs.Words.{wide}

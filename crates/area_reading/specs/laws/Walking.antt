@@ -5,7 +5,7 @@ use mathlib.Core.List.{List, _∷_}
 use Prim.Native.Nat.{ℕ, _+_, _<_, _^_}
 use lib.Dec.{lit<, lit≤}
 use lib.IntN.{ℤ}
-use Rattle.field.specs.laws.Sign.{spell-int}
+use Rattle.number.specs.laws.Sign.{spell-int}
 use Rattle.format.specs.Fmt.{Out, Fmt, choice}
 use Rattle.format.specs.Words.{_‥_, only}
 use Rattle.format.specs.laws.Extent.{opens-field, opens-choice}

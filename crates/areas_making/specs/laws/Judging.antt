@@ -7,7 +7,7 @@ use native.Mathlib.Omega.{arith}
 use native.Mathlib.Numerals.{add-one}
 use lib.Dec.{lit<}
 use lib.ListN.{drop, getD}
-use Rattle.field.specs.Pieces.{pieced}
+use Rattle.pieces.specs.Pieces.{pieced}
 use Rattle.format.specs.Fmt.{Fmt}
 use Rattle.format.specs.Words.{_‥_, _▹_, num, deciding}
 use Rattle.layout.specs.Judging.{valued}

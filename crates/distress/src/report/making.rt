@@ -27,8 +27,8 @@ pub(crate) fn spelled(r: Report) -> Values
 {
     let east = r.longitude;
     let north = r.latitude;
-    let longitude = field::sign::spelled(east, 33_554_432);
-    let latitude = field::sign::spelled(north, 16_777_216);
+    let longitude = number::sign::spelled(east, 33_554_432);
+    let latitude = number::sign::spelled(north, 16_777_216);
     Values {
         mmsi: r.mmsi as u64,
         longitude,

@@ -8,8 +8,8 @@ use lib.Dec.{eqb, lit≤}
 use lib.IntN.{ℤ}
 use lib.ListN.{getD, set}
 use Rattle.format.specs.Fmt.{spot, none, found}
-use Rattle.field.specs.Sign.{intOf, spellOf}
-use Rattle.field.specs.laws.Sign.{spell-int}
+use Rattle.number.specs.Sign.{intOf, spellOf}
+use Rattle.number.specs.laws.Sign.{spell-int}
 use Rattle.format.specs.laws.Spots.{spotsAlong, spot-along, rows, eachAt, set-each, kept-entry}
 use Rattle.distress_reading.specs.Changed.{spotOf, changed}
 use Rattle.distress_reading.specs.Report.{report, reports, valuesOf}

@@ -18,7 +18,7 @@ use Rattle.layout.specs.Walk.{onward}
 use Rattle.layout.specs.laws.Group.{Passes, parts-there, group-step}
 use Rattle.layout.specs.laws.Pieces.{Pieced, step-pieced}
 use Rattle.layout.specs.laws.Step.{Reading}
-use Rattle.field.specs.declared.pieces.Pieces.{Pieces}
+use Rattle.pieces.specs.declared.Pieces.{Pieces}
 use Rattle.layout.specs.declared.walk.Walk.{Walk}
 
 -- too few bits are no zero

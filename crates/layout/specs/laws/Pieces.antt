@@ -16,7 +16,7 @@ use Rattle.bits.specs.laws.Answers.{got-fits}
 use Rattle.bits.specs.laws.Bytes.{length-bits}
 use Rattle.bits.specs.laws.Digits.{length-digits, digits-add, value-digits, value-digits-mod}
 use Rattle.format.specs.Fmt.{Out, Fault, good, bad, orBad, Judge, Fmt, field}
-use Rattle.field.specs.Pieces.{unpieced, pieced, unlessZero}
+use Rattle.pieces.specs.Pieces.{unpieced, pieced, unlessZero}
 use Rattle.layout.specs.Reading.{judgedAs}
 use Rattle.layout.specs.Walk.{onward}
 use Rattle.format.specs.Words.{_‥_, Part, part, walk, wide, orElse, unless, orZero, free}
@@ -24,7 +24,7 @@ use Rattle.format.specs.laws.Extent.{opens-field}
 use Rattle.layout.specs.laws.Judging.{Judging, judge}
 use Rattle.format.specs.laws.Tells.{wrong, wrong-bits, blamed}
 use Rattle.layout.specs.laws.Step.{Reading, step}
-use Rattle.field.specs.declared.pieces.Pieces.{Pieces}
+use Rattle.pieces.specs.declared.Pieces.{Pieces}
 use Rattle.layout.specs.declared.walk.Walk.{Walk}
 
 -- The fault of v, of w bits: what g found, or what the parts ps say of the low bits, the first of them i bits in.

@@ -11,7 +11,7 @@ use Rattle.bits.specs.Bits.{bitsOf}
 use Rattle.format.specs.Fmt.{Out, Fmt, field}
 use Rattle.format.specs.Words.{walk, wide, orZero, free}
 use Rattle.format.specs.laws.Zero.{Numbered, walk-numbered, zero-numbered}
-use Rattle.field.specs.Pieces.{pieced}
+use Rattle.pieces.specs.Pieces.{pieced}
 use Rattle.layout.specs.laws.Group.{Passes, part-start, part-step, part-end}
 use Rattle.layout.specs.laws.Judging.{Judging}
 use Rattle.layout.specs.laws.Parts.{zero-cut, step-parts, parts-v, parts-at}

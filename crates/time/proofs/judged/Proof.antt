@@ -1,6 +1,6 @@
 -- `judged` is the step over the number whose parts are judged.
 use mathlib.Core.Path.{ap, _∙_}
-use Rattle.field.specs.Pieces.{pieced}
+use Rattle.pieces.specs.Pieces.{pieced}
 use Rattle.layout.specs.Reading.{judgedAs}
 use Rattle.time.specs.Steps.{datePieced}
 use borrow.Author.Needs.{needs}

@@ -1,6 +1,6 @@
 -- `read_short` judges the number where it is there, else the parts and the whole past them.
 use mathlib.Core.Path.{sym, ap, _∙_}
-use Rattle.field.specs.Pieces.{pieced}
+use Rattle.pieces.specs.Pieces.{pieced}
 use Rattle.layout.specs.Reading.{grouped}
 use Rattle.layout.specs.Walk.{onward}
 use Rattle.layout.specs.laws.Parts.{by-number, by-parts}

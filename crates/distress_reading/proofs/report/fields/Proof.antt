@@ -3,14 +3,14 @@ use mathlib.Core.Path.{_≡_, refl, sym, ap, _∙_}
 use Prim.Native.Nat.{_≤_, _<_, _^_}
 use mathlib.Core.List.{[], _∷_}
 use lib.Dec.{eqb, lit<, lit≤}
-use Rattle.field.specs.Sign.{spellOf}
+use Rattle.number.specs.Sign.{spellOf}
 use Rattle.layout.specs.laws.Reading.{start, step-code, step-num, step-signed, step-fill}
 use Rattle.bits.specs.Bits.{bitsOf}
 use Rattle.format.specs.Fmt.{also, read}
 use mathlib.Core.Bool.{cond}
 use Rattle.layout.specs.laws.Walked.{finish, same-values}
 use Rattle.format.specs.laws.Lead.{held-back}
-use Rattle.field.specs.laws.Sign.{spell-int}
+use Rattle.number.specs.laws.Sign.{spell-int}
 use mir.Syntax.{w32}
 use mir.ValLaws.{toZ-ofZ}
 use Rattle.distress_reading.specs.Report.{report, valuesOf, reportOf, answerOf, again}

@@ -5,7 +5,7 @@ use mathlib.Core.Bool.{true}
 use native.Mathlib.Omega.{arith}
 use lib.Dec.{lit<}
 use borrow.Author.Needs.{needs}
-use Rattle.field.specs.Pieces.{pieced}
+use Rattle.pieces.specs.Pieces.{pieced}
 use Rattle.layout.specs.Judging.{valued}
 use Rattle.layout.specs.declared.walk.Walk.{Walk}
 use Rattle.areas_making.specs.laws.Judging.{valued-near}

@@ -1,0 +1,3 @@
+-- Two's complement.
+pub mod Sign
+pub mod laws

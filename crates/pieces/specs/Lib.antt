@@ -1,0 +1,2 @@
+-- A number made of parts.
+pub mod Pieces
