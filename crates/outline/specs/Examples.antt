@@ -13,7 +13,8 @@ use Rattle.notice_parts.specs.Parts.{subtypes, subtype}
 use Rattle.notice_areas.specs.Areas.{points, areas}
 use Rattle.notice_reading.specs.Notice.{notice, notices}
 use Rattle.notice_reading.specs.Record.{headOf, textOf, recordOf}
-use Rattle.outline.specs.Outline.{northing, easting, pointsOf, outlineOf, pointCount}
+use Rattle.angles.specs.Angles.{northing, easting}
+use Rattle.outline.specs.Outline.{pointsOf, outlineOf, pointCount}
 use Rattle.outline.specs.Promises.{drawn, counted}
 
 -- S 0°00.01'

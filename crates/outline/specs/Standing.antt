@@ -4,7 +4,7 @@ use mathlib.Core.List.{List, [], _∷_, _++_}
 use lib.IntN.{ℤ}
 use Rattle.bits.specs.Answers.{got}
 use Rattle.notice_numbers.specs.Shapes.{shapeAt}
-use Rattle.outline.specs.Outline.{northing, easting}
+use Rattle.angles.specs.Angles.{northing, easting}
 
 -- n points
 unfoldable pub pointsDrawn : List ℕ → ℕ → ℕ → List ℤ

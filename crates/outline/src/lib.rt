@@ -3,9 +3,10 @@ ghost use mathlib.Core.Path.{_≡_};
 ghost use Prim.Native.Nat.{_+_, _*_, _≤_, _<_};
 ghost use lib.ListN.{length};
 ghost use lib.Seq.{sets};
-ghost use Rattle.outline.specs.Outline.{hundredths, turned, northing, easting};
 ghost use Rattle.outline.specs.Promises.{Outlines};
 ghost use Rattle.outline.specs.Standing.{pointsDrawn, outlineAt};
+pub use angles::latitude_of;
+pub use angles::longitude_of;
 use notice_parts::LATITUDE;
 use notice_parts::LONGITUDE;
 use notice_reading::Notice;
@@ -38,32 +39,6 @@ pub fn outline(s: &[u8], english: bool, row: &mut [i32]) -> Answer
     }
     draw(s, Notice::BITS, notice.count, row);
     Answer::Good(points)
-}
-
-// A latitude in hundredths of a minute, by the number that its bits spell: negative in the south.
-pub fn latitude_of(v: u64) -> i32
-    ensures { λ r. ⌜ r ≡ northing v ⌝ }
-{
-    angle(v / 0x10_0000 % 2, v / 8_192 % 128, v)
-}
-
-// A longitude: negative in the west.
-pub fn longitude_of(v: u64) -> i32
-    ensures { λ r. ⌜ r ≡ easting v ⌝ }
-{
-    angle(v / 0x20_0000 % 2, v / 8_192 % 256, v)
-}
-
-// Degrees, and the minutes and hundredths that v ends in; negative where the sign is 1.
-fn angle(sign: u64, degrees: u64, v: u64) -> i32
-    requires { ⌜ degrees < 256 ⌝ }
-    ensures { λ r. ⌜ r ≡ turned sign (hundredths degrees v) ⌝ }
-{
-    let size = ((degrees * 60 + v / 128 % 64) * 100 + v % 128) as i32;
-    if sign == 0 {
-        return size;
-    }
-    -size
 }
 
 // The points of `count` areas from bit `from` on, into the front of the row.

@@ -6,9 +6,9 @@ use borrow.Author.Needs.{needs}
 use lib.ListN.{length, length-set}
 use lib.Seq.{sets}
 use Rattle.bits.specs.Answers.{got}
-use Rattle.outline.specs.Outline.{northing, easting}
+use Rattle.angles.specs.Angles.{northing, easting}
 use Rattle.outline.specs.Standing.{pointsDrawn}
-use Rattle.outline.specs.laws.Angles.{latitude-stored, longitude-stored}
+use Rattle.angles.specs.laws.Angles.{latitude-stored, longitude-stored}
 use Rattle.outline.specs.laws.Drawing.{point-turn}
 use Rattle.outline.proofs.draw_points.Statement.{statement}
 use Rattle.outline.proofs.draw_points.Tie as tie

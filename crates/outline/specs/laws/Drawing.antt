@@ -14,7 +14,8 @@ use Rattle.notice_areas.specs.Standing.{pointsAt, insideAt, areaWide, areasAt, 
 use Rattle.notice_numbers.specs.Shapes.{shapeAs, shapeAt, pointsIn}
 use Rattle.notice_numbers.specs.laws.Shapes.{points-long, area-next, area-small}
 use Rattle.notice_numbers.specs.laws.Rows.{sets-on}
-use Rattle.outline.specs.Outline.{northing, easting, pointsOf, insideCount, insideOf, outlineOf, pointCount}
+use Rattle.angles.specs.Angles.{northing, easting}
+use Rattle.outline.specs.Outline.{pointsOf, insideCount, insideOf, outlineOf, pointCount}
 use Rattle.outline.specs.Standing.{pointsDrawn, areaDrawn, outlineAt}
 
 -- ---- two numbers for each point

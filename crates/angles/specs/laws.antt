@@ -1,0 +1,2 @@
+-- What is proved of them.
+pub mod Angles
