@@ -1,4 +1,4 @@
-// The desk's calls. Places are lent bytes, 67 for each of four: the open mark (0 closed, 1 open), message number, language, total, and a size for each of 63 packets, 0 where it is not held.
+// What C and Rust link of the desk: calls over lent bytes, each handed on to its own. Places are 67 bytes for each of four: the open mark (0 closed, 1 open), message number, language, total, and a size for each of 63 packets, 0 where it is not held.
 ghost use Rattle.desk_rows.specs.Promises.{AcceptsIn, AsksIn, DropsIn};
 
 // A packet comes in; `again` becomes 1 where it came before, 0 where it is new.

@@ -7,8 +7,8 @@ use Rattle.area_reading.specs.Area.{areas, valuesOf}
 use Rattle.area_reading.specs.declared.Area.{Area}
 use Rattle.format.specs.Promises.{Writes}
 use borrow.Author.Needs.{needs}
-use Rattle.relay.proofs.messages.area_calls.bellnewt_circle_write.Statement.{statement}
-use Rattle.relay.proofs.messages.area_calls.bellnewt_circle_write.Tie as tie
+use Rattle.relay_messages.proofs.area_calls.bellnewt_circle_write.Statement.{statement}
+use Rattle.relay_messages.proofs.area_calls.bellnewt_circle_write.Tie as tie
 
 written-requires : tie.Need-written-requires
 written-requires c κs = search needs

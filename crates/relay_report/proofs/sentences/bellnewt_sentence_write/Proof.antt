@@ -1,13 +1,12 @@
--- `bellnewt_distress_write` is the report's `write` of the record of its numbers.
+-- `bellnewt_sentence_write` writes the sentence of the record of its numbers.
 use mathlib.Core.Path.{subst}
-use Rattle.distress_reading.specs.Report.{reports, valuesOf}
-use Rattle.format.specs.Promises.{Writes}
 use Rattle.distress_reading.specs.declared.report.Report.{Report}
 use Rattle.report_rows.specs.Report.{recordOf}
+use Rattle.report_rows.specs.Sentence.{SentenceWrites}
 use Rattle.report_rows.specs.laws.Report.{kept}
 use borrow.Author.Needs.{needs}
-use Rattle.relay.proofs.report.bellnewt_distress_write.Statement.{statement}
-use Rattle.relay.proofs.report.bellnewt_distress_write.Tie as tie
+use Rattle.relay_report.proofs.sentences.bellnewt_sentence_write.Statement.{statement}
+use Rattle.relay_report.proofs.sentences.bellnewt_sentence_write.Tie as tie
 
 write-requires : tie.Need-write-requires
 write-requires c κs = search needs
@@ -18,13 +17,12 @@ same-length c = search needs
 returns : tie.Need-returns
 returns c =
     let call = c .before .before in
-    let start = call .before .before .before in
+    let start = call .before .before .before .before in
     let a = start .args in
     let r = recordOf (a .mmsi) (a .longitude) (a .latitude) (a .day) (a .hour) (a .minute) (a .speed) (a .course) (a .kind) in
-    subst (λ (r : Report). Writes reports (a .buf .now) (call .write .result) (call .write .last .0) (valuesOf r))
+    subst (λ (r : Report). SentenceWrites (a .buf .now) (a .size .now) (a .address) r (call .write .result) (call .write .last .0) (call .write .last .1 .0))
     (kept r (start .fits .longitude) (start .fits .latitude))
     (call .write .ensures)
 
-pub bellnewt-distress-write-spec : {M : Type 1} → statement M
-bellnewt-distress-write-spec =
-    tie.close (tie.spec write-requires same-length returns)
+pub bellnewt-sentence-write-spec : {M : Type 1} → statement M
+bellnewt-sentence-write-spec = tie.close (tie.spec write-requires same-length returns)

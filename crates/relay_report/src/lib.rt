@@ -1,0 +1,3 @@
+// What C and Rust link of the distress report and its sentence: calls over numbers and lent slices. Each one hands on what the family's own call promises.
+pub mod report;
+pub mod sentences;
