@@ -84,9 +84,16 @@ fn difference(found: &[u8], due: &str) -> String {
     format!("line {}: {}, due {}", at + 1, line(&found), line(due))
 }
 
+/// The program as `./listing` runs it.
+pub fn program() -> Command {
+    let mut program = Command::new(EMULATE);
+    program.arg(PROGRAM);
+    program
+}
+
 /// What the program writes.
 fn proved_listing(log: &[u8]) -> io::Result<Vec<u8>> {
-    let mut program = Command::new(EMULATE).arg(PROGRAM).stdin(Stdio::piped()).stdout(Stdio::piped()).spawn()?;
+    let mut program = program().stdin(Stdio::piped()).stdout(Stdio::piped()).spawn()?;
     let stdin = program.stdin.take().expect("its input is a pipe");
     let output = thread::scope(|scope| {
         scope.spawn(move || feed(stdin, log));
