@@ -13,7 +13,7 @@ use std::{env, thread};
 /// How many records the logs have.
 const RECORDS: [usize; 3] = [1_000, 100_000, 1_000_000];
 /// How often each program lists a log.
-const RUNS: usize = 5;
+const RUNS: usize = 20;
 /// The word by which the benchmark runs itself as the independent program.
 pub const PAPER: &str = "list";
 /// What `rust/native listing` makes.
@@ -40,7 +40,7 @@ pub fn table() {
     fs::remove_dir_all(&room).expect("the logs are ours");
     printed.expect("logs that are listed");
     println!(
-        "Records of every kind and of none, good and damaged; both listings are the same. Best of {RUNS} runs from a"
+        "Records of every kind and of none, good and damaged; all listings are the same. Best of {RUNS} runs from a"
     );
     println!("file to a file. wc -c gets the log by a pipe, since it reads no file that it is given. Resident: the greatest.");
     if EMULATED {
@@ -55,15 +55,17 @@ fn print_line(room: &Path, records: usize) -> io::Result<()> {
     paper.arg(PAPER);
     let mut count = Command::new("sh");
     count.args(["-c", "cat | wc -c"]);
-    let [proved_text, paper_text, other] = ["proved", "paper", "other"].map(|name| room.join(name));
+    let [proved_text, emulated_text, paper_text, size] =
+        ["proved", "emulated", "paper", "size"].map(|name| room.join(name));
 
     let times = [
         Some(time(&mut proved(), &log, &proved_text)?),
-        emulated().map(|mut program| time(&mut program, &log, &other)).transpose()?,
+        emulated().map(|mut program| time(&mut program, &log, &emulated_text)).transpose()?,
         Some(time(&mut paper, &log, &paper_text)?),
-        Some(time(&mut count, &log, &other)?),
+        Some(time(&mut count, &log, &size)?),
     ];
-    if fs::read(proved_text)? != fs::read(paper_text)? {
+    let due = fs::read(paper_text)?;
+    if fs::read(proved_text)? != due || EMULATED && fs::read(emulated_text)? != due {
         return Err(io::Error::other(format!("the listings of {records} records differ")));
     }
     let resident = [
