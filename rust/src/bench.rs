@@ -3,6 +3,7 @@
 pub mod ais;
 pub mod desk;
 pub mod distress;
+pub mod listing;
 pub mod notice;
 pub mod packet;
 pub mod serial;

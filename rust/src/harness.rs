@@ -71,20 +71,20 @@ impl Options {
     pub const DEFAULT: Options = Options { seed: 1, inputs: 2_000_000 };
 
     /// How often each number that a call can give must be met: a thousand times, or in proportion in a shorter run.
-    fn floor(&self) -> u64 {
+    pub fn floor(&self) -> u64 {
         (self.inputs / 1_000).min(1_000)
     }
 }
 
-/// A call's name, and the numbers that it can give besides 0.
+/// A call's name, and the numbers that it can give.
 pub struct Call {
     pub name: &'static str,
-    pub refusals: &'static [u8],
+    pub numbers: &'static [u8],
 }
 
 impl Call {
     fn gives(&self, number: usize) -> bool {
-        number == 0 || self.refusals.iter().any(|refusal| usize::from(*refusal) == number)
+        self.numbers.iter().any(|given| usize::from(*given) == number)
     }
 }
 
@@ -114,6 +114,37 @@ const SHOWN: usize = 3;
 struct Met {
     numbers: [u64; NUMBERS],
     differing: u64,
+}
+
+impl Met {
+    /// How often a call answered each number; none where it can't and did not.
+    fn row(&self, call: &Call) -> Row {
+        std::array::from_fn(|number| {
+            let count = self.numbers[number];
+            (count > 0 || call.gives(number)).then_some(count)
+        })
+    }
+}
+
+/// A line of a table: how often each number was answered, none where it can't be.
+type Row = [Option<u64>; NUMBERS];
+
+/// How many inputs a line is of.
+fn inputs(row: &Row) -> u64 {
+    row.iter().flatten().sum()
+}
+
+/// The line of all that two lines are of.
+fn sum(row: &Row, other: &Row) -> Row {
+    std::array::from_fn(|number| match (row[number], other[number]) {
+        (Some(count), Some(more)) => Some(count + more),
+        (count, more) => count.or(more),
+    })
+}
+
+/// What stands in a line for a number.
+fn cell(count: &Option<u64>) -> String {
+    count.map_or("-".to_string(), |count| count.to_string())
 }
 
 /// What a run met, by call, and the first inputs that differ.
@@ -176,16 +207,17 @@ impl Counts {
 /// Runs a family's inputs, prints what was met, and counts its checks.
 pub fn run<F: Family>(options: &Options, tally: &mut Tally) {
     let compare = |index: u64, counts: &mut Counts| counts.compare::<F>(options.seed, index);
-    run_pieces(F::NAME, F::CALLS, options.inputs, compare, options, tally);
+    run_pieces(F::NAME, F::CALLS, options.inputs, compare, options.floor(), tally);
 }
 
-/// Runs so many pieces of a family's work, prints what was met, and counts its checks.
+/// Runs so many pieces of a family's work, prints what was met, and counts its checks: among them that each number that
+/// a call can give was met `floor` times.
 pub fn run_pieces(
-    name: &str,
+    name: &'static str,
     calls: &[Call],
     pieces: u64,
     compare: impl Fn(u64, &mut Counts) + Sync,
-    options: &Options,
+    floor: u64,
     tally: &mut Tally,
 ) {
     let work = |first: u64| {
@@ -202,28 +234,26 @@ pub fn run_pieces(
         }
     });
     counts.shown.iter().take(SHOWN).for_each(|shown| println!("{shown}"));
+    let mut all = Row::default();
     for (call, met) in calls.iter().zip(&counts.met) {
-        print_met(name, call, met);
-        judge(&format!("{name} {}", call.name), call, met, options.floor(), tally);
+        let row = met.row(call);
+        print_row(name, call.name, &row);
+        judge(&format!("{name} {}", call.name), call, met, floor, tally);
+        all = sum(&all, &row);
     }
+    tally.families.push((name, all));
 }
 
 /// The head of the lines that `run` prints.
 pub fn print_head() {
-    print!("{:<10}{:<16}", "family", "call");
+    print!("{:<10}{:<16}{:>9}", "family", "call", "inputs");
     (0..NUMBERS).for_each(|number| print!("{number:>9}"));
     println!();
 }
 
-fn print_met(family: &str, call: &Call, met: &Met) {
-    print!("{family:<10}{:<16}", call.name);
-    for (number, count) in met.numbers.iter().enumerate() {
-        if call.gives(number) || *count > 0 {
-            print!("{count:>9}");
-        } else {
-            print!("{:>9}", "-");
-        }
-    }
+fn print_row(family: &str, call: &str, row: &Row) {
+    print!("{family:<10}{call:<16}{:>9}", inputs(row));
+    row.iter().for_each(|count| print!("{:>9}", cell(count)));
     println!();
 }
 
@@ -243,6 +273,8 @@ fn judge(name: &str, call: &Call, met: &Met, floor: u64, tally: &mut Tally) {
 pub struct Tally {
     pub passed: u32,
     pub failed: u32,
+    /// What each family met over all of its calls.
+    families: Vec<(&'static str, Row)>,
 }
 
 impl Tally {
@@ -252,6 +284,19 @@ impl Tally {
         } else {
             self.failed += 1;
             println!("FAILED: {failure}");
+        }
+    }
+
+    /// Prints what each family met, and all of them together, as a table for docs/.
+    pub fn print_families(&self) {
+        let line = |cells: Vec<String>| println!("| {} |", cells.join(" | "));
+        let counts = |row: &Row| [inputs(row).to_string()].into_iter().chain(row.iter().map(cell)).collect::<Vec<_>>();
+        let names = ["family", "inputs"].map(str::to_string).into_iter();
+        line(names.chain((0..NUMBERS).map(|number| number.to_string())).collect());
+        line(vec!["---".to_string(); 2 + NUMBERS]);
+        let all = self.families.iter().fold(Row::default(), |all, (_, row)| sum(&all, row));
+        for (name, row) in self.families.iter().chain([&("all", all)]) {
+            line([vec![name.to_string()], counts(row)].concat());
         }
     }
 

@@ -1,9 +1,10 @@
-//! Prints what a message costs by the proved code and by the independent program.
+//! Prints what a message costs by the proved code and by the independent program, and what listing a long log does;
+//! `bench listing` prints the latter alone.
 //!
 //! `bench count ROW proved|paper ROUNDS` works through one row and prints nothing: the benchmark runs itself so, under
 //! valgrind, once for some rounds and once for more. The difference is what the rounds cost, whatever came before.
 
-use bellnewt::bench::{ais, desk, rows, Rounds, MESSAGES};
+use bellnewt::bench::{ais, desk, listing, rows, Rounds, MESSAGES};
 use bellnewt::gpsd;
 use bellnewt::record::Place;
 use std::collections::HashMap;
@@ -19,9 +20,14 @@ const COUNTED_ROUNDS: [usize; 2] = [1, 3];
 fn main() {
     let words: Vec<String> = std::env::args().skip(1).collect();
     match words.iter().map(String::as_str).collect::<Vec<_>>()[..] {
-        [] => table(),
+        [] => {
+            table();
+            listing::table();
+        }
+        ["listing"] => listing::table(),
+        [listing::PAPER] => listing::list_by_paper(),
         ["count", row, side, rounds] => count(row, side, rounds.parse().expect("rounds")),
-        _ => panic!("bench, or bench count ROW proved|paper ROUNDS"),
+        _ => panic!("bench, bench listing, or bench count ROW proved|paper ROUNDS"),
     }
 }
 

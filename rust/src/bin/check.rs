@@ -33,6 +33,7 @@ fn main() -> ExitCode {
     gpsd::run(&mut tally);
     family::run(&options, &mut tally);
     listing::run(&options, &mut tally);
+    tally.print_families();
     println!("rust: {} passed, {} failed", tally.passed, tally.failed);
     ExitCode::from(u8::from(tally.failed > 0))
 }

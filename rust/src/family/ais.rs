@@ -71,11 +71,11 @@ pub trait Kind: inputs::Kind + relay::ais::Kind + paper::ais::Kind {
     const CALLS: &'static [Call];
 }
 
-const READ: Call = Call { name: "read", refusals: &[1, 2, 4, 5, 6] };
-const CORRECT: Call = Call { name: "correct", refusals: &[1, 2, 4, 5, 10] };
+const READ: Call = Call { name: "read", numbers: &[0, 1, 2, 4, 5, 6] };
+const CORRECT: Call = Call { name: "correct", numbers: &[0, 1, 2, 4, 5, 10] };
 
 const fn write(name: &'static str) -> Call {
-    Call { name, refusals: &[4, 6] }
+    Call { name, numbers: &[0, 4, 6] }
 }
 
 impl Kind for Warning {
@@ -156,7 +156,7 @@ pub struct Slots;
 
 impl Family for Slots {
     const NAME: &'static str = "slots";
-    const CALLS: &'static [Call] = &[Call { name: "slots", refusals: &[1, 2] }];
+    const CALLS: &'static [Call] = &[Call { name: "slots", numbers: &[0, 1, 2] }];
     /// A message number, and how many data bytes.
     type Input = (u8, usize);
     type Lent = Guarded<u8>;

@@ -111,10 +111,10 @@ impl Calls for Paper {
 
 const NAME: &str = "desk";
 const CALLS: [Call; 4] = [
-    Call { name: "accept", refusals: &[1, 2, 4, 6, 7, 8] },
-    Call { name: "accept again", refusals: &[] },
-    Call { name: "ask", refusals: &[4, 6, 9, 11] },
-    Call { name: "drop", refusals: &[4, 6, 11] },
+    Call { name: "accept", numbers: &[0, 1, 2, 4, 6, 7, 8] },
+    Call { name: "accept again", numbers: &[0] },
+    Call { name: "ask", numbers: &[0, 4, 6, 9, 11] },
+    Call { name: "drop", numbers: &[0, 4, 6, 11] },
 ];
 
 /// The most calls of a sequence; the least are a tenth of them.
@@ -131,7 +131,7 @@ pub fn run(options: &Options, tally: &mut Tally) {
         let calls = random.between(shortest as i64, longest as i64);
         sequence(random, calls, &format!("{NAME}, seed {}, sequence {index}", options.seed), counts);
     };
-    harness::run_pieces(NAME, &CALLS, sequences, compare, options, tally);
+    harness::run_pieces(NAME, &CALLS, sequences, compare, options.floor(), tally);
 }
 
 /// What a call is lent besides the places.

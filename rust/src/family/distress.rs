@@ -107,11 +107,11 @@ pub struct Distress;
 impl Family for Distress {
     const NAME: &'static str = "distress";
     const CALLS: &'static [Call] = &[
-        Call { name: "read", refusals: &[1, 2, 4, 5, 6] },
-        Call { name: "write", refusals: &[4, 6] },
-        Call { name: "correct", refusals: &[1, 2, 4, 5, 10] },
-        Call { name: "sentence read", refusals: &[1, 2, 3, 4, 5, 6] },
-        Call { name: "sentence write", refusals: &[4, 6] },
+        Call { name: "read", numbers: &[0, 1, 2, 4, 5, 6] },
+        Call { name: "write", numbers: &[0, 4, 6] },
+        Call { name: "correct", numbers: &[0, 1, 2, 4, 5, 10] },
+        Call { name: "sentence read", numbers: &[0, 1, 2, 3, 4, 5, 6] },
+        Call { name: "sentence write", numbers: &[0, 4, 6] },
     ];
     type Input = Input;
     type Lent = Lent;

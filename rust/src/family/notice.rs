@@ -146,10 +146,10 @@ pub struct Notices;
 impl Family for Notices {
     const NAME: &'static str = "notice";
     const CALLS: &'static [Call] = &[
-        Call { name: "read", refusals: &[1, 4, 5, 6] },
-        Call { name: "write", refusals: &[1, 4, 6] },
-        Call { name: "correct", refusals: &[1, 4, 5, 10] },
-        Call { name: "outline", refusals: &[1, 4, 5, 6] },
+        Call { name: "read", numbers: &[0, 1, 4, 5, 6] },
+        Call { name: "write", numbers: &[0, 1, 4, 6] },
+        Call { name: "correct", numbers: &[0, 1, 4, 5, 10] },
+        Call { name: "outline", numbers: &[0, 1, 4, 5, 6] },
     ];
     type Input = Input;
     type Lent = Lent;

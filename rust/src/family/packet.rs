@@ -98,10 +98,10 @@ pub struct Packets;
 impl Family for Packets {
     const NAME: &'static str = "packet";
     const CALLS: &'static [Call] = &[
-        Call { name: "read", refusals: &[1, 2, 4, 6] },
-        Call { name: "write", refusals: &[1, 4, 6] },
-        Call { name: "correct", refusals: &[1, 2, 4, 10] },
-        Call { name: "split", refusals: &[1, 4, 6] },
+        Call { name: "read", numbers: &[0, 1, 2, 4, 6] },
+        Call { name: "write", numbers: &[0, 1, 4, 6] },
+        Call { name: "correct", numbers: &[0, 1, 2, 4, 10] },
+        Call { name: "split", numbers: &[0, 1, 4, 6] },
     ];
     type Input = Input;
     type Lent = Lent;

@@ -49,18 +49,18 @@ impl<F: paper::serial::Kind> Calls<F> for Paper {
 pub trait Kind: inputs::Kind + relay::serial::Kind + paper::serial::Kind {
     /// Of reading, writing and correcting.
     const CALLS: &'static [Call] = &[
-        Call { name: "read", refusals: &[1, 2, 3, 4, 5, 6] },
-        Call { name: "write", refusals: &[1, 4, 5, 6] },
-        Call { name: "correct", refusals: &[1, 2, 3, 4, 5, 10] },
+        Call { name: "read", numbers: &[0, 1, 2, 3, 4, 5, 6] },
+        Call { name: "write", numbers: &[0, 1, 4, 5, 6] },
+        Call { name: "correct", numbers: &[0, 1, 2, 3, 4, 5, 10] },
     ];
 }
 
 /// GLJC has neither a run nor a fill.
 impl Kind for Gljc {
     const CALLS: &'static [Call] = &[
-        Call { name: "read", refusals: &[1, 2, 3, 4, 6] },
-        Call { name: "write", refusals: &[4, 6] },
-        Call { name: "correct", refusals: &[1, 2, 3, 4, 10] },
+        Call { name: "read", numbers: &[0, 1, 2, 3, 4, 6] },
+        Call { name: "write", numbers: &[0, 4, 6] },
+        Call { name: "correct", numbers: &[0, 1, 2, 3, 4, 10] },
     ];
 }
 

@@ -15,11 +15,11 @@ fn head(own: u8) -> [u8; Packet::HEAD] {
 }
 
 /// The packets of a notice, its bytes and its message number.
-fn packets() -> [Vec<u8>; 3] {
+pub fn packets() -> [Vec<u8>; 3] {
     [packet(head(0), b"KEEP"), packet(head(1), b" "), packet(head(2), b"CLEAR")]
 }
 const NOTICE: &[u8] = b"KEEP CLEAR";
-const NUMBER: u8 = 7;
+pub const NUMBER: u8 = 7;
 
 /// The one packet of a notice of another number.
 fn single(number: u8) -> Vec<u8> {

@@ -11,7 +11,7 @@ use crate::relay;
 
 /// Case G.
 pub const BARE: [u8; 8] = [0x20, 0x80, 0x02, 0x61, 0x18, 0x00, 0x00, 0x00];
-const BARE_HEAD: Head = Head { source: 4, station: 1, serial: 1, year: 24, kind: 4, subtype: 6, expiry: 0 };
+pub const BARE_HEAD: Head = Head { source: 4, station: 1, serial: 1, year: 24, kind: 4, subtype: 6, expiry: 0 };
 
 /// A notice of each kind of area, in English.
 pub const WARNING: [u8; 62] = [
@@ -31,15 +31,20 @@ fn north_east(latitude: [u8; 3], longitude: [u8; 3]) -> Point {
     Point::new(angle(latitude), angle(longitude))
 }
 
-/// The areas of that notice. The circle's centre is case L.
-fn warning_areas() -> Vec<Area> {
+/// Case L: S 0°00.01', W 180°60.99'.
+pub fn outermost() -> Point {
     let south = Angle { negative: true, degrees: 0, minutes: 0, hundredths: 1 };
     let west = Angle { negative: true, degrees: 180, minutes: 60, hundredths: 99 };
+    Point::new(south, west)
+}
+
+/// The areas of that notice. The circle's centre is case L.
+fn warning_areas() -> Vec<Area> {
     vec![
         Area::Sea { code: 17 },
         Area::Points(vec![north_east([30, 15, 50], [122, 30, 0])]),
         Area::Line(vec![north_east([30, 0, 0], [122, 0, 0]), north_east([31, 0, 0], [123, 0, 0])]),
-        Area::Circle { centre: Point::new(south, west), radius: 25, unit: 2 },
+        Area::Circle { centre: outermost(), radius: 25, unit: 2 },
         Area::Polygon(vec![
             north_east([38, 45, 25], [118, 30, 75]),
             north_east([38, 50, 0], [118, 59, 99]),

@@ -11,7 +11,7 @@ use crate::relay;
 
 /// Case I.
 pub const HEAD: [u8; Packet::HEAD] = [0xE1, 0x20, 0x70, 0x40];
-const HEAD_RECORD: Packet = Packet { language: CHINESE, number: 7, total: 1, own: 0 };
+pub const HEAD_RECORD: Packet = Packet { language: CHINESE, number: 7, total: 1, own: 0 };
 
 /// English, number 255, the last of 63.
 pub const LAST_HEAD: [u8; Packet::HEAD] = [0xE1, 0x3F, 0xFF, 0xFE];
