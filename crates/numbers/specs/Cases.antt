@@ -1,4 +1,4 @@
--- What each line of paper 01's "Numbers to stand by" is asked of: its bytes and records, and the definitions' answers as numbers. Assumes nothing.
+-- The bytes and records of paper 01's "Numbers to stand by", and what the definitions answer of them, as numbers. Assumes nothing.
 use Prim.Native.Nat.{ℕ, suc, _+_, _*_, _^_}
 use mathlib.Core.Bool.{Bool, true}
 use mathlib.Core.List.{List, [], _∷_, _++_}
@@ -94,7 +94,7 @@ noticeWith year count row = (record { source = 4; station = 1; serial = 1; year 
 abbrev pub noticeBytes : ℕ → List ℕ
 noticeBytes fourth = 0x20 ∷ 0x80 ∷ 0x02 ∷ fourth ∷ 0x18 ∷ 0x00 ∷ 0x00 ∷ 0x00 ∷ []
 
--- no area and no text, so that either language will do
+-- G has no text: it is the same in either language
 abbrev pub noticeWritten : Bool → ℕ → List ℕ
 noticeWritten english year = bytes (writeMessage (notices english) (noticeValues (noticeWith year 0 [])))
 

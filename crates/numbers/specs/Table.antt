@@ -53,9 +53,12 @@ table =
     ∷ says G (noticeWritten true 24) (0 ∷ noticeBytes 0x61)
     ∷ says G (noticeWritten false 24) (0 ∷ noticeBytes 0x61)
     ∷ says G (noticeRead true 0x61) (0 ∷ 4 ∷ 1 ∷ 1 ∷ 24 ∷ 4 ∷ 6 ∷ 0 ∷ 0 ∷ [])
+    ∷ says G (noticeRead false 0x61) (0 ∷ 4 ∷ 1 ∷ 1 ∷ 24 ∷ 4 ∷ 6 ∷ 0 ∷ 0 ∷ [])
     -- G with year 25: fourth byte 65
     ∷ says H (yearCorrected true 0x61 25) (0 ∷ noticeBytes 0x65)
+    ∷ says H (yearCorrected false 0x61 25) (0 ∷ noticeBytes 0x65)
     ∷ says H (noticeWritten true 25) (0 ∷ noticeBytes 0x65)
+    ∷ says H (noticeWritten false 25) (0 ∷ noticeBytes 0x65)
     -- packet head, Chinese, number 7, 1 of 1: `E1 20 70 40`
     ∷ says I packetHead (0 ∷ 0xE1 ∷ 0x20 ∷ 0x70 ∷ 0x40 ∷ [])
     -- total 3, packets 2 and 0 held: missing 1

@@ -24,7 +24,7 @@ use Rattle.notice_reading.specs.Notice.{notice, notices}
 use Rattle.notice_reading.specs.Record.{headOf, textOf, recordOf as noticeOf, valuesOf as noticeValues}
 use Rattle.packet_reading.specs.Packet.{packet, packets, recordOf as packetOf, valuesOf as packetValues}
 use Rattle.places.specs.Places.{everyBelow, firstFrom, goodPlace, allApart, goodPlaces, openAt, freeAt}
-use Rattle.places.specs.Desk.{alike, firstTests, joins, received, accepting, missingBelow, joinedBelow, answers, asking}
+use Rattle.places.specs.Desk.{alike, firstTests, joins, received, accepting, missingBelow, answers, asking}
 use Rattle.places.specs.laws.Alike.{alike-same}
 use Rattle.desk_runs.specs.Runs.{run, log}
 use Rattle.slots.specs.Slots.{firstOf, slotsIn, slotsFor}
@@ -33,7 +33,7 @@ use Rattle.numbers.specs.Cases.{signs, replies}
 use Rattle.numbers.specs.Table.{A, Row, says, table, standing}
 
 pub all-stand : standing table ≡ true
-unfolding standing signs replies alike readMessage writeMessage correctMessage read readField write writeField sized spot walk wide orZero valueOf bit digits bitsOf bytesOf fieldAt putAt xorOf intOf spellOf inLanguage english chinese leads txsq txsqs txsqOf gljc gljcs report reports reportOf reportValues changed subtypes subtype points areas first areasLong notice notices headOf textOf noticeOf noticeValues packet packets packetOf packetValues everyBelow firstFrom goodPlace allApart goodPlaces openAt freeAt firstTests joins received accepting missingBelow joinedBelow answers asking run log firstOf slotsIn slotsFor pointsOf outlineOf
+unfolding standing signs replies alike readMessage writeMessage correctMessage read readField write writeField sized spot walk wide orZero valueOf bit digits bitsOf bytesOf fieldAt putAt xorOf intOf spellOf inLanguage english chinese leads txsq txsqs txsqOf gljc gljcs report reports reportOf reportValues changed subtypes subtype points areas first areasLong notice notices headOf textOf noticeOf noticeValues packet packets packetOf packetValues everyBelow firstFrom goodPlace allApart goodPlaces openAt freeAt firstTests joins received accepting missingBelow answers asking run log firstOf slotsIn slotsFor pointsOf outlineOf
 all-stand = refl
 
 -- row i of a table
