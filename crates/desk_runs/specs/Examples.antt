@@ -1,9 +1,9 @@
--- Case J of paper 01, "Numbers to stand by", computed from the definitions on an empty desk, and what comes after it.
+-- What comes after case J of paper 01, "Numbers to stand by" (crate numbers): runs computed from the definitions on an empty desk.
 use mathlib.Core.Path.{_≡_, refl, sym, ap}
 use mathlib.Core.List.{List, [], _∷_}
 use Prim.Native.Nat.{ℕ}
 use native.Mathlib.Nat.{le-refl, le-of-eq}
-use lib.ListN.{replicate, length-replicate, getD-replicate}
+use lib.ListN.{length-replicate, getD-replicate}
 use Rattle.bits.specs.Bits.{bit, valueOf, digits, bitsOf, bytesOf, fieldAt}
 use Rattle.format.specs.Fmt.{readField, read}
 use Rattle.format.specs.Message.{readMessage}
@@ -12,12 +12,9 @@ use Rattle.packet_reading.specs.Packet.{packet, packets, recordOf}
 use Rattle.places.specs.Places.{blank, fourPlaces, everyBelow, firstFrom, goodPlace, allApart, goodPlaces, openAt, freeAt}
 use Rattle.places.specs.Desk.{storeBytes, alike, firstTests, joins, received, accepting, missingBelow, joinedBelow, answers, asking, dropping}
 use Rattle.places.specs.declared.Reply.the-variants.{Joined, Missing}
-use Rattle.desk_runs.specs.Runs.{Desk, Empty, comes, drops, run, asked}
+use Rattle.desk_runs.specs.Runs.{Empty, empty, comes, drops, run, asked}
 
-abbrev empty : Desk
-empty = record { places = replicate fourPlaces blank; store = replicate storeBytes 0 }
-
--- the theorems speak of it
+-- the theorems speak of the desk that the runs begin with
 is-empty : Empty empty
 is-empty = record {
   wide = le-refl fourPlaces;
@@ -35,12 +32,7 @@ second = 0xE1 ∷ 0x20 ∷ 0x70 ∷ 0xC1 ∷ 0x42 ∷ []
 abbrev third : List ℕ
 third = 0xE1 ∷ 0x20 ∷ 0x70 ∷ 0xC2 ∷ 0x43 ∷ []
 
--- packets 2 and 0 held: missing 1
-case-J : asked 7 [] (9 ∷ 9 ∷ []) (run empty (comes first ∷ comes third ∷ [])) ≡ record { reply = Missing 1; notice = []; missing = 1 ∷ 9 ∷ [] }
-unfolding run accepting received joins asking answers missingBelow joinedBelow firstTests goodPlaces allApart goodPlace everyBelow firstFrom openAt freeAt alike readMessage packets packet recordOf read readField walk fieldAt valueOf bit digits bitsOf bytesOf
-case-J = refl
-
--- when packet 1 has come too, the notice is handed out in number order
+-- when packets 0, 1 and 2 have come, the notice is handed out in number order
 then-whole : asked 7 (9 ∷ 9 ∷ 9 ∷ 9 ∷ []) [] (run empty (comes second ∷ comes first ∷ comes third ∷ [])) ≡ record { reply = Joined 3 0; notice = 0x41 ∷ 0x42 ∷ 0x43 ∷ 9 ∷ []; missing = [] }
 unfolding run accepting received joins asking answers missingBelow joinedBelow firstTests goodPlaces allApart goodPlace everyBelow firstFrom openAt freeAt alike readMessage packets packet recordOf read readField walk fieldAt valueOf bit digits bitsOf bytesOf
 then-whole = refl

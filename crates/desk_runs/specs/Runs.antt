@@ -4,11 +4,11 @@ use mathlib.Core.Bool.{Bool, true, false, cond, _||_}
 use mathlib.Core.List.{List, [], _∷_, _++_}
 use Prim.Native.Nat.{ℕ, zero, suc, _≤_, _<_}
 use lib.Dec.{leb, eqb}
-use lib.ListN.{length, drop}
+use lib.ListN.{length, drop, replicate}
 use Rattle.format.specs.Promises.{answered, readRecord}
 use Rattle.packet_reading.specs.Packet.{packets, recordOf}
 use Rattle.packet_reading.specs.declared.Packet.{Packet}
-use Rattle.places.specs.Places.{fourPlaces, placeAt}
+use Rattle.places.specs.Places.{blank, fourPlaces, placeAt}
 use Rattle.places.specs.Desk.{storeBytes, numberOf, applied, accepting, Asking, asking, dropping}
 use Rattle.places.specs.declared.Place.{Place}
 use Rattle.places.specs.declared.Reply.{Reply}
@@ -26,6 +26,10 @@ pub record Empty (d : Desk) : Type 0 where
   pub wide : fourPlaces ≤ length (d .places)
   pub deep : storeBytes ≤ length (d .store)
   pub closed : (i : ℕ) → i < fourPlaces → placeAt (d .places) i .«open» ≡ false
+
+-- one such desk, with nothing but zeros in its store
+abbrev pub empty : Desk
+empty = record { places = replicate fourPlaces blank; store = replicate storeBytes 0 }
 
 pub data Call : Type 0 where
   -- a packet comes in

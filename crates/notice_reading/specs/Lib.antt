@@ -4,5 +4,4 @@ pub mod Record
 pub mod Promises
 pub mod Changed
 pub mod Steps
-mod Examples
 pub mod laws

@@ -1,8 +1,8 @@
--- Case L of paper 01, "Numbers to stand by", and a notice with a line of two points, computed from the definitions.
+-- Angles of zero, and a notice with a line of two points, computed from the definitions.
 use mathlib.Core.Path.{_≡_, refl}
 use mathlib.Core.Bool.{true}
 use mathlib.Core.List.{List, [], _∷_}
-use Prim.Native.Nat.{ℕ, _+_, _*_}
+use Prim.Native.Nat.{ℕ}
 use lib.IntN.{ℤ, pos, negℤ}
 use Rattle.bits.specs.Bits.{bit, valueOf, digits, bitsOf, bytesOf}
 use Rattle.format.specs.Fmt.{accepted, readField, read}
@@ -13,17 +13,9 @@ use Rattle.notice_parts.specs.Parts.{subtypes, subtype}
 use Rattle.notice_areas.specs.Areas.{points, areas}
 use Rattle.notice_reading.specs.Notice.{notice, notices}
 use Rattle.notice_reading.specs.Record.{headOf, textOf, recordOf}
-use Rattle.angles.specs.Angles.{northing, easting}
+use Rattle.angles.specs.Angles.{northing}
 use Rattle.outline.specs.Outline.{pointsOf, outlineOf, pointCount}
 use Rattle.outline.specs.Promises.{drawn, counted}
-
--- S 0°00.01'
-case-L-latitude : northing (0x10_0000 + 1) ≡ negℤ (pos 1)
-case-L-latitude = refl
-
--- W 180°60.99'
-case-L-longitude : easting (0x20_0000 + 180 * 8_192 + 60 * 128 + 99) ≡ negℤ (pos 1_086_099)
-case-L-longitude = refl
 
 -- N 0°00.00' and S 0°00.00'
 zero-north : northing 0 ≡ pos 0
