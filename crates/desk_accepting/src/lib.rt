@@ -5,14 +5,14 @@ ghost use Rattle.format.specs.Promises.{answered, readRecord};
 ghost use Rattle.packet_reading.specs.Packet.{packets, recordOf};
 ghost use Rattle.places.specs.Promises.{AcceptTurn};
 ghost use Rattle.places.specs.declared.Reply.the-variants.{Refused};
-use desk_placing::begin;
-use desk_placing::join;
 use packet_reading::Answer;
 use packet_reading::Packet;
 use places::PLACES;
 use places::Place;
 use places::Reply;
 use places::Turn;
+
+mod placing;
 
 // The packet's own refusals, the first tests, then its notice where it is open, or the lowest free place.
 pub fn accept(a: Place, b: Place, c: Place, d: Place, store: &mut [u8], packet: &[u8]) -> Turn
@@ -29,9 +29,9 @@ pub fn accept(a: Place, b: Place, c: Place, d: Place, store: &mut [u8], packet: 
             let i = places::open_at(a, b, c, d, r.number);
             let free = places::free_at(a, b, c, d);
             if i < PLACES {
-                return join(a, i, places::pick(a, b, c, d, i), store, r, content);
+                return placing::join(a, i, places::pick(a, b, c, d, i), store, r, content);
             }
-            begin(a, free, store, r, content)
+            placing::begin(a, free, store, r, content)
         },
         Answer::Refused(code) => Turn::staying(a, Reply::Refused(code)),
     }

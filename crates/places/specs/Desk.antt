@@ -30,6 +30,10 @@ inCell s i p k = take (held p k) (drop (cell i k) s)
 abbrev pub laid : List ℕ → ℕ → List ℕ → List ℕ
 laid s at c = take at s ++ (c ++ drop (at + length c) s)
 
+-- the same where c fits; else s stays
+abbrev pub laidWithin : List ℕ → ℕ → List ℕ → List ℕ
+laidWithin s at c = cond (leb (at + length c) (length s)) (laid s at c) s
+
 -- whether two runs of bytes are the same
 unfoldable pub alike : List ℕ → List ℕ → Bool
 alike [] [] = true
