@@ -46,7 +46,8 @@ pub fn drop(a: Place, b: Place, c: Place, d: Place, store: &[u8], number: u8) ->
     if at >= PLACES {
         return Turn::staying(a, Reply::Refused(format::UNKNOWN));
     }
-    let place = places::pick(a, b, c, d, at).freed();
+    let dropped = places::pick(a, b, c, d, at);
+    let place = dropped.freed();
     Turn {
         at,
         place,
