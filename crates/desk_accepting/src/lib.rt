@@ -1,8 +1,7 @@
 // A packet comes in at the desk (paper 01, "The desk"): the four places by value, over the lent store.
 ghost use mathlib.Core.Path.{_≡_};
 ghost use mathlib.Core.List.{[], _∷_};
-ghost use Rattle.format.specs.Promises.{answered, readRecord};
-ghost use Rattle.packet_reading.specs.Packet.{packets, recordOf};
+ghost use Rattle.places.specs.Desk.{unplaced};
 ghost use Rattle.places.specs.Promises.{AcceptTurn};
 ghost use Rattle.places.specs.declared.Reply.the-variants.{Refused};
 use packet_reading::Answer;
@@ -39,7 +38,7 @@ pub fn accept(a: Place, b: Place, c: Place, d: Place, store: &mut [u8], packet: 
 
 // What a packet is answered where the row of places is too short: its own refusal comes first.
 pub fn unplaced(packet: &[u8]) -> Reply
-    ensures { λ r. ⌜ r ≡ answered (λ x. Refused 6) Refused (readRecord packets recordOf (now (packet .entry))) ⌝ }
+    ensures { λ r. ⌜ r ≡ Refused (unplaced (now (packet .entry))) ⌝ }
 {
     let answer = packet_reading::read(packet);
     match answer {

@@ -106,6 +106,10 @@ accepting ps s m =
     answered (λ x. let code = firstTests ps s in cond (eqb code 0) (received (front ps) s (x .0) (x .1)) (turnedAway s code)) (turnedAway s)
     (readRecord packets recordOf m)
 
+-- what a packet is refused by where the row of places is too short: its own refusal comes first
+abbrev pub unplaced : List ℕ → ℕ
+unplaced m = answered (λ x. 6) (λ code. code) (readRecord packets recordOf m)
+
 -- ---- a notice is asked for, with a buffer b for its bytes and a row w for missing numbers
 
 -- the numbers below n that are not held, rising
