@@ -52,12 +52,11 @@ pub use denote.Exit.{yes}
 pub use denote.Signature.{plain, shrSliceOf}
 use denote.Struct.Laws as LL
 use denote.Enum.Laws as EL
-pub use Rattle.format.specs.Promises.{answered, readRecord}
-pub use Rattle.packet_reading.specs.Packet.{packets, recordOf}
 pub use Rattle.places.specs.declared.Place.{Place}
 use Rattle.places.specs.declared.Turn.{Turn}
 pub use Rattle.places.specs.declared.Reply.{Reply}
 pub use Rattle.places.specs.declared.Reply.the-variants.{Refused}
+pub use Rattle.places.specs.Desk.{unplaced}
 pub use Rattle.places.specs.Places.{fourPlaces, placeAt, front}
 pub use Rattle.places.specs.Promises.{Accepts, Asks, Drops, AcceptTurn, AskTurn, DropTurn}
 pub use Rattle.places.specs.laws.Row.{accepts-row, asks-row, drops-row, accepts-short, asks-short, drops-short}

@@ -1,2 +1,3 @@
 -- What the proofs of `accept` and `unplaced` cite.
+mod Joins
 mod Ways

@@ -13,7 +13,7 @@ use Rattle.packet_reading.specs.Promises.{Reads}
 use Rattle.packet_reading.specs.declared.Packet.{Packet}
 use Rattle.packet_reading.specs.declared.Answer.the-variants.{Good, Refused as Refused′}
 use Rattle.places.specs.Places.{fourPlaces, placeAt, openAt, freeAt}
-use Rattle.places.specs.Desk.{Accepting, turnOf, turnedAway, joins, opens, firstTests, received, accepting}
+use Rattle.places.specs.Desk.{Accepting, turnOf, turnedAway, joins, opens, firstTests, received, accepting, unplaced}
 use Rattle.places.specs.Promises.{Gives, AcceptTurn}
 use Rattle.places.specs.laws.Four.{turn-first}
 use Rattle.places.specs.declared.Place.{Place}
@@ -55,16 +55,16 @@ module _ (a b c d : Place) (s m : List ℕ) where
 
 -- where the row of places is too short
 
-pub too-few-good : (m : List ℕ) (r : Packet) → Reads m (Good r) → Refused 6 ≡ answered (λ x. Refused 6) Refused (readRecord packets recordOf m)
+pub too-few-good : (m : List ℕ) (r : Packet) → Reads m (Good r) → Refused 6 ≡ Refused (unplaced m)
 too-few-good m r e = go (readRecord packets recordOf m) e
   where
-    go : (o : Out (Packet × List ℕ)) → Good r ≡ answerOf o → Refused 6 ≡ answered (λ x. Refused 6) Refused o
+    go : (o : Out (Packet × List ℕ)) → Good r ≡ answerOf o → Refused 6 ≡ Refused (answered (λ x. 6) (λ code. code) o)
     go (accepted q) e = refl
     go (refused n p) e = let z : _≡_ {A = ℕ} 0 1 = cc in absurd (omega arith)
 
-pub too-few-refused : (m : List ℕ) (code : ℕ) → Reads m (Refused′ code) → Refused code ≡ answered (λ x. Refused 6) Refused (readRecord packets recordOf m)
+pub too-few-refused : (m : List ℕ) (code : ℕ) → Reads m (Refused′ code) → Refused code ≡ Refused (unplaced m)
 too-few-refused m code e = go (readRecord packets recordOf m) e
   where
-    go : (o : Out (Packet × List ℕ)) → Refused′ code ≡ answerOf o → Refused code ≡ answered (λ x. Refused 6) Refused o
+    go : (o : Out (Packet × List ℕ)) → Refused′ code ≡ answerOf o → Refused code ≡ Refused (answered (λ x. 6) (λ code. code) o)
     go (accepted q) e = let z : _≡_ {A = ℕ} 0 1 = cc in absurd (omega arith)
     go (refused n p) e = let k : code ≡ n = cc in ap Refused k

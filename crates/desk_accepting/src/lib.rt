@@ -1,18 +1,17 @@
 // A packet comes in at the desk (paper 01, "The desk"): the four places by value, over the lent store.
 ghost use mathlib.Core.Path.{_≡_};
 ghost use mathlib.Core.List.{[], _∷_};
-ghost use Rattle.format.specs.Promises.{answered, readRecord};
-ghost use Rattle.packet_reading.specs.Packet.{packets, recordOf};
+ghost use Rattle.places.specs.Desk.{unplaced};
 ghost use Rattle.places.specs.Promises.{AcceptTurn};
 ghost use Rattle.places.specs.declared.Reply.the-variants.{Refused};
-use desk_placing::begin;
-use desk_placing::join;
 use packet_reading::Answer;
 use packet_reading::Packet;
 use places::PLACES;
 use places::Place;
 use places::Reply;
 use places::Turn;
+
+mod placing;
 
 // The packet's own refusals, the first tests, then its notice where it is open, or the lowest free place.
 pub fn accept(a: Place, b: Place, c: Place, d: Place, store: &mut [u8], packet: &[u8]) -> Turn
@@ -29,9 +28,9 @@ pub fn accept(a: Place, b: Place, c: Place, d: Place, store: &mut [u8], packet: 
             let i = places::open_at(a, b, c, d, r.number);
             let free = places::free_at(a, b, c, d);
             if i < PLACES {
-                return join(a, i, places::pick(a, b, c, d, i), store, r, content);
+                return placing::join(a, i, places::pick(a, b, c, d, i), store, r, content);
             }
-            begin(a, free, store, r, content)
+            placing::begin(a, free, store, r, content)
         },
         Answer::Refused(code) => Turn::staying(a, Reply::Refused(code)),
     }
@@ -39,7 +38,7 @@ pub fn accept(a: Place, b: Place, c: Place, d: Place, store: &mut [u8], packet: 
 
 // What a packet is answered where the row of places is too short: its own refusal comes first.
 pub fn unplaced(packet: &[u8]) -> Reply
-    ensures { λ r. ⌜ r ≡ answered (λ x. Refused 6) Refused (readRecord packets recordOf (now (packet .entry))) ⌝ }
+    ensures { λ r. ⌜ r ≡ Refused (unplaced (now (packet .entry))) ⌝ }
 {
     let answer = packet_reading::read(packet);
     match answer {

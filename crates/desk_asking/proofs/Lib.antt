@@ -1,2 +1,3 @@
 -- What the proofs of `ask` and `drop` cite.
+mod Answers
 mod Ways

@@ -1,11 +1,13 @@
 // Asking for a notice at the desk, and dropping one (paper 01, "The desk"): the four places by value, over the lent store.
 ghost use mathlib.Core.List.{[], _∷_};
 ghost use Rattle.places.specs.Promises.{AskTurn, DropTurn};
-use desk_answering::answer;
 use places::PLACES;
 use places::Place;
 use places::Reply;
 use places::Turn;
+
+mod answering;
+mod joining;
 
 // The notice of that message number, joined in the buffer, and its place free; or, where packets are missing, their numbers in the row.
 pub fn ask(
@@ -29,7 +31,7 @@ pub fn ask(
         return Turn::staying(a, Reply::Refused(format::UNKNOWN));
     }
     let p = places::pick(a, b, c, d, at);
-    answer(a, at, p, store, notice, missing)
+    answering::answer(a, at, p, store, notice, missing)
 }
 
 // The notice of that message number is given up, and its place free.
@@ -44,7 +46,8 @@ pub fn drop(a: Place, b: Place, c: Place, d: Place, store: &[u8], number: u8) ->
     if at >= PLACES {
         return Turn::staying(a, Reply::Refused(format::UNKNOWN));
     }
-    let place = places::pick(a, b, c, d, at).freed();
+    let dropped = places::pick(a, b, c, d, at);
+    let place = dropped.freed();
     Turn {
         at,
         place,

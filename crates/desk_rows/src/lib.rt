@@ -114,10 +114,10 @@ fn place(s: &[u8], i: usize) -> Place
 fn total_behind(mark: u8, total: u8) -> u8
     ensures { λ r. ⌜ r ≡ totalBehind mark total ⌝ }
 {
-    if mark > 1 {
-        return 0;
+    if mark <= 1 {
+        return total;
     }
-    total
+    0
 }
 
 // Puts the place that changed back into its bytes.

@@ -1,4 +1,4 @@
--- Runs of calls at the desk (paper 01, "The desk", demand 2), and which packets have come, told by the calls and their replies alone. Assumes nothing.
+-- Runs of calls at the desk (paper 01, "The desk", demand 2), and which packets have come, told by the calls and the numbers of their replies alone. Assumes nothing.
 use mathlib.Core.Path.{_≡_}
 use mathlib.Core.Bool.{Bool, true, false, cond, _||_}
 use mathlib.Core.List.{List, [], _∷_, _++_}
@@ -54,10 +54,10 @@ unfoldable pub run : Desk → List Call → Desk
 run d [] = d
 run d (c ∷ cs) = after c (run d cs)
 
--- the same calls, each with its reply
-unfoldable pub log : Desk → List Call → List (Call × Reply)
+-- the same calls, each with the number of its reply
+unfoldable pub log : Desk → List Call → List (Call × ℕ)
 log d [] = []
-log d (c ∷ cs) = (c, replyTo c (run d cs)) ∷ log d cs
+log d (c ∷ cs) = (c, numberOf (replyTo c (run d cs))) ∷ log d cs
 
 -- ---- the packets of a notice that have come
 
@@ -78,11 +78,11 @@ frees n (asks k b w) = eqb k n
 frees n (drops k) = eqb k n
 
 -- an entry of the log, where xs had come before: a call that was refused changes nothing
-abbrev pub grown : ℕ → Call × Reply → List Part → List Part
-grown n e xs = cond (eqb (numberOf (e .1)) 0) (cond (frees n (e .0)) [] (brings n (e .0) ++ xs)) xs
+abbrev pub grown : ℕ → Call × ℕ → List Part → List Part
+grown n e xs = cond (eqb (e .1) 0) (cond (frees n (e .0)) [] (brings n (e .0) ++ xs)) xs
 
 -- the packets of message number n that were accepted since its place was opened, the last of them in front; none where no place is open
-unfoldable pub since : ℕ → List (Call × Reply) → List Part
+unfoldable pub since : ℕ → List (Call × ℕ) → List Part
 since n [] = []
 since n (e ∷ h) = grown n e (since n h)
 

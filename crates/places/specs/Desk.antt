@@ -30,6 +30,10 @@ inCell s i p k = take (held p k) (drop (cell i k) s)
 abbrev pub laid : List ℕ → ℕ → List ℕ → List ℕ
 laid s at c = take at s ++ (c ++ drop (at + length c) s)
 
+-- the same where c fits; else s stays
+abbrev pub laidWithin : List ℕ → ℕ → List ℕ → List ℕ
+laidWithin s at c = cond (leb (at + length c) (length s)) (laid s at c) s
+
 -- whether two runs of bytes are the same
 unfoldable pub alike : List ℕ → List ℕ → Bool
 alike [] [] = true
@@ -101,6 +105,10 @@ unfoldable pub accepting : List Place → List ℕ → List ℕ → Accepting
 accepting ps s m =
     answered (λ x. let code = firstTests ps s in cond (eqb code 0) (received (front ps) s (x .0) (x .1)) (turnedAway s code)) (turnedAway s)
     (readRecord packets recordOf m)
+
+-- what a packet is refused by where the row of places is too short: its own refusal comes first
+abbrev pub unplaced : List ℕ → ℕ
+unplaced m = answered (λ x. 6) (λ code. code) (readRecord packets recordOf m)
 
 -- ---- a notice is asked for, with a buffer b for its bytes and a row w for missing numbers
 

@@ -9,3 +9,4 @@ pub mod Joined
 pub mod Front
 pub mod Outcomes
 pub mod Row
+pub mod One

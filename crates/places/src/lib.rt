@@ -3,15 +3,12 @@ ghost use mathlib.Core.Path.{_≡_};
 ghost use mathlib.Core.Bool.{not, cond, _&&_};
 ghost use mathlib.Core.List.{[], _∷_};
 ghost use lib.Dec.{leb, ltb};
-ghost use lib.ListN.{length};
-ghost use Prim.Native.Nat.{_+_, _≤_, _<_};
 ghost use Rattle.packet_reading.specs.Packet.{mostPackets, partBytes};
-ghost use Rattle.places.specs.Places.{everyBelow, lacks, entryGood, goodPlace, passes, serves, clash, allApart, opened, holding, freed, placeAt, goodPlaces, openAt, freeAt};
-ghost use Rattle.places.specs.Desk.{laid, firstTests, numberOf, stays, turnOf};
+ghost use Rattle.places.specs.Places.{everyBelow, lacks, entryGood, goodPlace, passes, serves, clash, allApart, freed, placeAt, goodPlaces, openAt, freeAt};
+ghost use Rattle.places.specs.Desk.{laidWithin, firstTests, numberOf, stays, turnOf};
 use packet_reading::JOINED;
 use packet_reading::MOST;
 use packet_reading::PART;
-use packet_reading::Packet;
 
 pub struct Place {
     pub open: bool,
@@ -138,31 +135,6 @@ impl Place {
             return self.number == number;
         }
         false
-    }
-
-    // Opened by a packet of `n` bytes: no other number is held.
-    pub fn opened(r: Packet, n: u8) -> Place
-        requires { ⌜ r .own < mostPackets ⌝ }
-        ensures { λ p. ⌜ p ≡ opened r n ⌝ }
-    {
-        let mut sizes: [u8; MOST] = [0; MOST];
-        sizes[r.own as usize] = n;
-        Place {
-            open: true,
-            number: r.number,
-            language: r.language,
-            total: r.total,
-            sizes,
-        }
-    }
-
-    // With `n` bytes of packet number `k`.
-    pub fn holding(mut self, k: usize, n: u8) -> Place
-        requires { ⌜ k < mostPackets ⌝ }
-        ensures { λ p. ⌜ p ≡ holding self k n ⌝ }
-    {
-        self.sizes[k] = n;
-        self
     }
 
     // Freed: only the open mark is cleared.
@@ -309,10 +281,15 @@ pub fn pick(a: Place, b: Place, c: Place, d: Place, i: usize) -> Place
 
 // ---- what the calls share
 
-// Puts the bytes `part` into `s` from byte `at` on.
+// Puts the bytes `part` into `s` from byte `at` on, where they fit; else every byte stays.
 pub fn lay(s: &mut [u8], at: usize, part: &[u8])
-    requires { ⌜ at + length (now part) ≤ length (now s) ⌝ }
-    ensures { λ _. ⌜ now (s .exit) ≡ laid (now (s .entry)) at (now (part .entry)) ⌝ }
+    ensures { λ _. ⌜ now (s .exit) ≡ laidWithin (now (s .entry)) at (now (part .entry)) ⌝ }
 {
+    if at > s.len() {
+        return;
+    }
+    if part.len() > s.len() - at {
+        return;
+    }
     bytes::copy(part, &mut s[at..]);
 }

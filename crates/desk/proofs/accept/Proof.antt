@@ -1,6 +1,6 @@
 -- `desk::accept` meets its contract: a walk of its MIR by hand, printed by tools/walks. Of what it calls it is known only that it meets its contract.
 -- Assumes nothing.
-use Rattle.desk.proofs.Walk.{_≡_, refl, ℕ, _<_, List, [], _∷_, ltb→lt, nltb→le, lit<, length, set, length-set, URA, spell, named, erased, imm, mut, w8, w64, tyInt, tyBool, tyPtr, tyRef, Val, SProp, ent, sep, emp, via, fst∗, id⊢, Fml, flft, Memory, Routine, Heap, Env, Calls, Loops, WpFn, Tables, Atoms, sem, Fun, Lfts, Shares, toks, givenOf, tables, tablesOf, Given, Item, ‵, raw, _⊛_, ⋆, atRet, _$_, _∵_, !, qed, by, move, keep, drop, use1, use2, split, join, fsplit, fjoin, feqL, suffices, frame, done, look, init, store, stop, hop, fld, from, lit, addr, of-opd, bin, and-then, no-more, assigns, first, branches, skips, exec, returns, returns-within, enter, alloc1, alloc0, params1, pass1, pass0, free0, agg, whole, sub, look-in, local, field-of, sets, lands-as, frees-room, frees-cell, returned, R, vals-of, byte-fits, reaches, knows, lent, points-to, reads-place, stores-place, four-made, FmC, fmOf, WpFn-mono, owns, Is, shows, u8, sliceVal, sliceTy, MutSlice, Room, slice-vals, mut-slice-tells, finally, ShrSlice, shr-slice-tells, opens-slice, closes-slice, owned, peeks, heard, nothing, Args, Vals, onEntry, Meets, tripleOf, Contract, Triple, calls-at, entered, cited, says, Stays, gave-slice, stay-dropped, walkOf, goes-gave-slice, goes-dropped, ends-at, walked, walk-meets, yes, plain, shrSliceOf, answered, readRecord, packets, recordOf, Place, Reply, Refused, fourPlaces, placeAt, front, Accepts, AcceptTurn, accepts-row, accepts-short, place-ty, turn-ty, reply-ty, IsReply, replied, reply-told, reply-row, reply-val, turn-row, turn-told, at-fits, placed, said, reply-typed, turn-typed, reply-made, lasting}
+use Rattle.desk.proofs.Walk.{_≡_, refl, ℕ, _<_, List, [], _∷_, ltb→lt, nltb→le, lit<, length, set, length-set, URA, spell, named, erased, imm, mut, w8, w64, tyInt, tyBool, tyPtr, tyRef, Val, SProp, ent, sep, emp, via, fst∗, id⊢, Fml, flft, Memory, Routine, Heap, Env, Calls, Loops, WpFn, Tables, Atoms, sem, Fun, Lfts, Shares, toks, givenOf, tables, tablesOf, Given, Item, ‵, raw, _⊛_, ⋆, atRet, _$_, _∵_, !, qed, by, move, keep, drop, use1, use2, split, join, fsplit, fjoin, feqL, suffices, frame, done, look, init, store, stop, hop, fld, from, lit, addr, of-opd, bin, and-then, no-more, assigns, first, branches, skips, exec, returns, returns-within, enter, alloc1, alloc0, params1, pass1, pass0, free0, agg, whole, sub, look-in, local, field-of, sets, lands-as, frees-room, frees-cell, returned, R, vals-of, byte-fits, reaches, knows, lent, points-to, reads-place, stores-place, four-made, FmC, fmOf, WpFn-mono, owns, Is, shows, u8, sliceVal, sliceTy, MutSlice, Room, slice-vals, mut-slice-tells, finally, ShrSlice, shr-slice-tells, opens-slice, closes-slice, owned, peeks, heard, nothing, Args, Vals, onEntry, Meets, tripleOf, Contract, Triple, calls-at, entered, cited, says, Stays, gave-slice, stay-dropped, walkOf, goes-gave-slice, goes-dropped, ends-at, walked, walk-meets, yes, plain, shrSliceOf, Place, Reply, Refused, unplaced, fourPlaces, placeAt, front, Accepts, AcceptTurn, accepts-row, accepts-short, place-ty, turn-ty, reply-ty, IsReply, replied, reply-told, reply-row, reply-val, turn-row, turn-told, at-fits, placed, said, reply-typed, turn-typed, reply-made, lasting}
 use Rattle.desk_accepting.proofs.accept as core
 use Rattle.desk_accepting.proofs.accept.Symbol as core-def
 use Rattle.desk_accepting.proofs.accept.Symbol.{name as #core}
@@ -83,7 +83,7 @@ module _ {M : Type 1} (𝓤 : URA M) (H : Heap 𝓤) (A : Atoms 𝓤) (W : Given
         use2 W (raw (Short 𝓤 H A mem run .pre to-short)) short-goes $
         -- [what it asks; what the store owns; its token; obs; the borrow; its token; the locals from 6]
         calls-at ! fm (Short 𝓤 H A mem run) short-known to-short (and-then ! (local ! 36 refl) (no-more !)) (λ out. returned ! tt short.ended (short.clauses 𝓤 H A mem run) to-short out (λ r zs.
-        heard ! (r ≡ answered (λ x. Refused 6) Refused (readRecord packets recordOf m)) (λ e. drop ! $ peeks ! reply-row (Is reply-row) (shows 𝓤 H A reply-row) r (out ∷ []) (λ is. drop ! $
+        heard ! (r ≡ Refused (unplaced m)) (λ e. drop ! $ peeks ! reply-row (Is reply-row) (shows 𝓤 H A reply-row) r (out ∷ []) (λ is. drop ! $
         lands-as ! 42 refl (reply-told r out is) refl (reply-typed 𝓤 H A W r out is) $
         returns-within ! Post refl (look ! 42 refl) $ frees-cell ! 42 refl refl $ frees-cell ! 40 refl refl $ frees-cell ! 38 refl refl $ frees-cell ! 36 refl refl $ frees-room ! 34 refl refl $ frees-room ! 32 refl refl $ frees-cell ! 30 refl refl $ frees-cell ! 28 refl refl $ frees-room ! 26 refl refl $ frees-room ! 24 refl refl $ frees-room ! 22 refl refl $ frees-room ! 20 refl refl $ frees-room ! 18 refl refl $ frees-room ! 16 refl refl $ frees-room ! 14 refl refl $ frees-room ! 12 refl refl $ frees-room ! 10 refl refl $ frees-room ! 8 refl refl $ frees-room ! 6 refl refl $ free0 ! $
         move ! (2 ∷ 0 ∷ []) $ join ! $ move ! (1 ∷ []) $ fsplit ! $ drop ! $ fsplit ! $ use1 W (‵ (finally u8 (a .1 .0 .name) s)) (lasting 𝓤 H A W u8 (κs .1 .0) (a .1 .0 .name) s) $ keep ! (3 ∷ 4 ∷ 5 ∷ 2 ∷ 0 ∷ []) $

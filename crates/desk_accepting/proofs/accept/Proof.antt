@@ -1,21 +1,42 @@
 -- `accept` meets its contract: the packet, the first tests, then the way to its notice.
 use mathlib.Core.Path.{_≡_, refl, sym, ap, _∙_, subst, subst₂}
-use mathlib.Core.List.{[], _∷_}
-use Prim.Native.Nat.{_-_, _≤_, _<_}
+use mathlib.Core.List.{List, [], _∷_}
+use Prim.Native.Nat.{ℕ, _-_, _≤_, _<_}
 use native.Mathlib.Omega.{arith}
 use lib.Dec.{lit<}
 use lib.ListN.{length, take, drop}
 use borrow.Author.Needs.{needs}
-use Rattle.packet_reading.specs.Packet.{partBytes}
+use Rattle.format.specs.Fmt.{accepted}
+use Rattle.format.specs.Promises.{readRecord}
+use Rattle.packet_reading.specs.Packet.{partBytes, packets, recordOf}
 use Rattle.places.specs.Places.{placeAt, held, fourPlaces}
 use Rattle.places.specs.Desk.{firstTests, joins, opens, turnedAway, taken}
 use Rattle.places.specs.Promises.{Gives}
 use Rattle.places.specs.laws.Four.{last-of-four, settled}
-use Rattle.packet_reading.specs.laws.Accepted.{read-good}
+use Rattle.packet_reading.specs.laws.Accepted.{Fit, read-good}
 use Rattle.places.specs.laws.Good.{open-sized, tests-passed}
 use Rattle.desk_accepting.proofs.Ways.{of-four, refused-packet, refused-tests, joins-open, opens-free}
 use Rattle.desk_accepting.proofs.accept.Statement.{statement}
 use Rattle.desk_accepting.proofs.accept.Tie as tie
+
+-- ---- what is known of a packet that was read well
+
+abbrev bytes : tie.After-answer → List ℕ
+bytes m = m .before .before .before .before .before .args .packet .now
+
+abbrev content : tie.After-answer → List ℕ
+content m = take (length (bytes m) - 4) (drop 4 (bytes m))
+
+good : (m : tie.After-answer) → let r = m .answer .given .0 .0 in (4 ≤ length (bytes m)) × (readRecord packets recordOf (bytes m) ≡ accepted (r, content m)) × Fit r (content m)
+good m =
+    let read = m .before .before in
+    read-good (bytes m) (m .answer .given .0 .0) (λ i. read .before .shared-slice-known .given i .fits) (sym (m .answer .given .1) ∙ read .read .ensures)
+
+-- and where the first tests passed
+passed : (k : tie.After-content) → let a = k .before .before .before .before .before .before .before .before .before .before .args in firstTests (a .a ∷ a .b ∷ a .c ∷ a .d ∷ []) (a .store .now) ≡ 0
+passed k = sym (k .before .before .first-tests .ensures) ∙ k .before .if1 .left
+
+-- ---- the needs
 
 read-requires : tie.Need-read-requires
 read-requires c κs = search needs
@@ -35,31 +56,25 @@ same-length c = search needs
 returns : tie.Need-returns
 returns c =
     let m = c .before .before .before .before .before in
-    let read = m .before .before in
-    let known = read .before in
-    let a = known .before .before .args in
+    let a = m .before .before .before .before .before .args in
     let r = m .answer .given .0 .0 in
-    let (long, is, fit) = read-good (a .packet .now) r (λ i. known .shared-slice-known .given i .fits) (sym (m .answer .given .1) ∙ read .read .ensures) in
-    of-four (a .a) (a .b) (a .c) (a .d) (a .store .now) (a .packet .now) _ _ _ (refused-tests (a .a) (a .b) (a .c) (a .d) (a .store .now) (a .packet .now) r (take (length (a .packet .now) - 4) (drop 4 (a .packet .now))) is (λ z. c .before .if1 .taken (c .before .before .first-tests .ensures ∙ z))) (settled (a .a) (turnedAway (a .store .now) (firstTests (a .a ∷ a .b ∷ a .c ∷ a .d ∷ []) (a .store .now))) (turnedAway (a .store .now) (c .before .before .first-tests .result)) _ _ (ap (turnedAway (a .store .now)) (sym (c .before .before .first-tests .ensures))) (c .staying .ensures) (lit< tt) refl)
+    let (long, is, fit) = good m in
+    of-four (a .a) (a .b) (a .c) (a .d) (a .store .now) (a .packet .now) _ _ _ (refused-tests (a .a) (a .b) (a .c) (a .d) (a .store .now) (a .packet .now) r (content m) is (λ z. c .before .if1 .taken (c .before .before .first-tests .ensures ∙ z))) (settled (a .a) (turnedAway (a .store .now) (firstTests (a .a ∷ a .b ∷ a .c ∷ a .d ∷ []) (a .store .now))) (turnedAway (a .store .now) (c .before .before .first-tests .result)) _ _ (ap (turnedAway (a .store .now)) (sym (c .before .before .first-tests .ensures))) (c .staying .ensures) (lit< tt) refl)
 
 sub-content : tie.Need-sub-content
 sub-content c =
     let m = c .before .before .before .before in
-    let read = m .before .before in
-    let known = read .before in
-    let a = known .before .before .args in
+    let a = m .before .before .before .before .before .args in
     let r = m .answer .given .0 .0 in
-    let (long, is, fit) = read-good (a .packet .now) r (λ i. known .shared-slice-known .given i .fits) (sym (m .answer .given .1) ∙ read .read .ensures) in
+    let (long, is, fit) = good m in
     omega (arith, long)
 
 part-content-start : tie.Need-part-content-start
 part-content-start c =
     let m = c .before .before .before .before in
-    let read = m .before .before in
-    let known = read .before in
-    let a = known .before .before .args in
+    let a = m .before .before .before .before .before .args in
     let r = m .answer .given .0 .0 in
-    let (long, is, fit) = read-good (a .packet .now) r (λ i. known .shared-slice-known .given i .fits) (sym (m .answer .given .1) ∙ read .read .ensures) in
+    let (long, is, fit) = good m in
     omega (arith, long)
 
 part-content-end : tie.Need-part-content-end
@@ -77,12 +92,10 @@ pick-requires c κs = search needs
 join-requires : tie.Need-join-requires
 join-requires c κs =
     let m = c .before .before .before .before .before .before .before .before .before .before in
-    let read = m .before .before in
-    let known = read .before in
-    let a = known .before .before .args in
+    let a = m .before .before .before .before .before .args in
     let r = m .answer .given .0 .0 in
-    let (long, is, fit) = read-good (a .packet .now) r (λ i. known .shared-slice-known .given i .fits) (sym (m .answer .given .1) ∙ read .read .ensures) in
-    let zero : firstTests (a .a ∷ a .b ∷ a .c ∷ a .d ∷ []) (a .store .now) ≡ 0 = sym (c .before .before .before .before .before .before .before .first-tests .ensures) ∙ c .before .before .before .before .before .before .if1 .left in
+    let (long, is, fit) = good m in
+    let zero = passed (c .before .before .before .before .before) in
     let number = c .before .before .before .before .open-at .ensures in
     let (deep, good) = tests-passed (a .a ∷ a .b ∷ a .c ∷ a .d ∷ []) (a .store .now) zero in
     let low : c .before .before .before .before .open-at .result < fourPlaces = c .before .before .if2 .taken in
@@ -98,28 +111,24 @@ same-length-2 c = search needs
 returns-2 : tie.Need-returns-2
 returns-2 c =
     let m = c .before .before .before .before .before .before .before .before .before .before .before .before .before in
-    let read = m .before .before in
-    let known = read .before in
-    let a = known .before .before .args in
+    let a = m .before .before .before .before .before .args in
     let r = m .answer .given .0 .0 in
-    let (long, is, fit) = read-good (a .packet .now) r (λ i. known .shared-slice-known .given i .fits) (sym (m .answer .given .1) ∙ read .read .ensures) in
-    let zero : firstTests (a .a ∷ a .b ∷ a .c ∷ a .d ∷ []) (a .store .now) ≡ 0 = sym (c .before .before .before .before .before .before .before .before .before .before .first-tests .ensures) ∙ c .before .before .before .before .before .before .before .before .before .if1 .left in
+    let (long, is, fit) = good m in
+    let zero = passed (c .before .before .before .before .before .before .before .before) in
     let number = c .before .before .before .before .before .before .before .open-at .ensures in
     let low : c .before .before .before .before .before .before .before .open-at .result < fourPlaces = c .before .before .before .before .before .if2 .taken in
     let there = c .before .before .before .before .pick .ensures ∙ ap (placeAt (a .a ∷ a .b ∷ a .c ∷ a .d ∷ [])) (last-of-four (c .before .before .before .before .before .before .before .open-at .result) low ∙ number) in
     let j = c .before .before in
-    let gives = subst₂ (λ i p. Gives (a .a) (joins (a .store .now) i p r (take (length (a .packet .now) - 4) (drop 4 (a .packet .now)))) (j .join .result) (j .join .last .1 .1 .1 .0)) number there (j .join .ensures) in
-    of-four (a .a) (a .b) (a .c) (a .d) (a .store .now) (a .packet .now) _ _ _ (joins-open (a .a) (a .b) (a .c) (a .d) (a .store .now) (a .packet .now) r (take (length (a .packet .now) - 4) (drop 4 (a .packet .now))) is zero (subst (_< fourPlaces) number low)) gives
+    let gives = subst₂ (λ i p. Gives (a .a) (joins (a .store .now) i p r (content m)) (j .join .result) (j .join .last .1 .1 .1 .0)) number there (j .join .ensures) in
+    of-four (a .a) (a .b) (a .c) (a .d) (a .store .now) (a .packet .now) _ _ _ (joins-open (a .a) (a .b) (a .c) (a .d) (a .store .now) (a .packet .now) r (content m) is zero (subst (_< fourPlaces) number low)) gives
 
 begin-requires : tie.Need-begin-requires
 begin-requires c κs =
     let m = c .before .before .before .before .before .before .before .before .before in
-    let read = m .before .before in
-    let known = read .before in
-    let a = known .before .before .args in
+    let a = m .before .before .before .before .before .args in
     let r = m .answer .given .0 .0 in
-    let (long, is, fit) = read-good (a .packet .now) r (λ i. known .shared-slice-known .given i .fits) (sym (m .answer .given .1) ∙ read .read .ensures) in
-    let zero : firstTests (a .a ∷ a .b ∷ a .c ∷ a .d ∷ []) (a .store .now) ≡ 0 = sym (c .before .before .before .before .before .before .first-tests .ensures) ∙ c .before .before .before .before .before .if1 .left in
+    let (long, is, fit) = good m in
+    let zero = passed (c .before .before .before .before) in
     let number = c .before .before .before .open-at .ensures in
     let (deep, good) = tests-passed (a .a ∷ a .b ∷ a .c ∷ a .d ∷ []) (a .store .now) zero in
     let own = fit .own in
@@ -138,16 +147,14 @@ same-length-3 c = search needs
 returns-3 : tie.Need-returns-3
 returns-3 c =
     let m = c .before .before .before .before .before .before .before .before .before .before .before .before in
-    let read = m .before .before in
-    let known = read .before in
-    let a = known .before .before .args in
+    let a = m .before .before .before .before .before .args in
     let r = m .answer .given .0 .0 in
-    let (long, is, fit) = read-good (a .packet .now) r (λ i. known .shared-slice-known .given i .fits) (sym (m .answer .given .1) ∙ read .read .ensures) in
-    let zero : firstTests (a .a ∷ a .b ∷ a .c ∷ a .d ∷ []) (a .store .now) ≡ 0 = sym (c .before .before .before .before .before .before .before .before .before .first-tests .ensures) ∙ c .before .before .before .before .before .before .before .before .if1 .left in
+    let (long, is, fit) = good m in
+    let zero = passed (c .before .before .before .before .before .before .before) in
     let number = c .before .before .before .before .before .before .open-at .ensures in
     let j = c .before .before in
-    let gives = subst (λ i. Gives (a .a) (opens (a .store .now) i r (take (length (a .packet .now) - 4) (drop 4 (a .packet .now)))) (j .begin .result) (j .begin .last .1 .1 .0)) (c .before .before .before .before .before .free-at .ensures) (j .begin .ensures) in
-    of-four (a .a) (a .b) (a .c) (a .d) (a .store .now) (a .packet .now) _ _ _ (opens-free (a .a) (a .b) (a .c) (a .d) (a .store .now) (a .packet .now) r (take (length (a .packet .now) - 4) (drop 4 (a .packet .now))) is zero (subst (fourPlaces ≤_) number (c .before .before .before .before .if2 .left))) gives
+    let gives = subst (λ i. Gives (a .a) (opens (a .store .now) i r (content m)) (j .begin .result) (j .begin .last .1 .1 .0)) (c .before .before .before .before .before .free-at .ensures) (j .begin .ensures) in
+    of-four (a .a) (a .b) (a .c) (a .d) (a .store .now) (a .packet .now) _ _ _ (opens-free (a .a) (a .b) (a .c) (a .d) (a .store .now) (a .packet .now) r (content m) is zero (subst (fourPlaces ≤_) number (c .before .before .before .before .if2 .left))) gives
 
 returns-4 : tie.Need-returns-4
 returns-4 c =

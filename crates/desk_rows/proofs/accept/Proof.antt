@@ -4,7 +4,7 @@ use mathlib.Core.List.{[], _∷_}
 use Prim.Native.Nat.{_-_}
 use borrow.Author.Needs.{needs}
 use Rattle.places.specs.Promises.{AcceptTurn}
-use Rattle.desk_rows.specs.laws.Changes.{fourIn, accepts-in, accepts-few}
+use Rattle.desk_rows.specs.laws.Changes.{fourIn, row-long, accepts-in, accepts-few}
 use Rattle.desk_rows.proofs.accept.Statement.{statement}
 use Rattle.desk_rows.proofs.accept.Tie as tie
 
@@ -59,7 +59,7 @@ returns-2 c =
     let k = c .before .before .before .before .before .before .before .before .before in
     let four : _ ≡ fourIn (a .places .now) = λ i. (c .before .before .before .before .before .before .before .before .before .before .before .before .before .before .before .before .before .place .ensures) i ∷ (c .before .before .before .before .before .before .before .before .before .before .before .before .before .before .before .place2 .ensures) i ∷ (c .before .before .before .before .before .before .before .before .before .before .before .before .before .place3 .ensures) i ∷ (c .before .before .before .before .before .before .before .before .before .before .before .place4 .ensures) i ∷ [] in
     let (x, y, z, u) = accepts-in (a .places .now) (c .before .before .before .before .before .before .before .before .before .before .before .before .before .before .before .before .before .before .before .if1 .left) (a .store .now) (a .packet .now) (a .again .now) (k .accept .result) (k .accept .last .1 .1 .1 .1 .0)
-    (subst (λ ps. AcceptTurn ps (a .store .now) (a .packet .now) (k .accept .result) (k .accept .last .1 .1 .1 .1 .0)) four (k .accept .ensures)) in
+    (subst (λ ps. AcceptTurn ps (a .store .now) (a .packet .now) (k .accept .result) (k .accept .last .1 .1 .1 .1 .0)) (four ∙ row-long (a .places .now) (c .before .before .before .before .before .before .before .before .before .before .before .before .before .before .before .before .before .before .before .if1 .left)) (k .accept .ensures)) in
     (c .refusal2 .ensures ∙ x, c .before .before .before .settle .ensures ∙ y, z, c .before .before .before .before .before .again-of .ensures ∙ u)
 
 pub accept-spec : {M : Type 1} → statement M

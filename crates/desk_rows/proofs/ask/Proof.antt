@@ -4,7 +4,7 @@ use mathlib.Core.List.{[], _∷_}
 use Prim.Native.Nat.{_-_}
 use borrow.Author.Needs.{needs}
 use Rattle.places.specs.Promises.{AskTurn}
-use Rattle.desk_rows.specs.laws.Changes.{fourIn, asks-in, asks-few}
+use Rattle.desk_rows.specs.laws.Changes.{fourIn, row-long, asks-in, asks-few}
 use Rattle.desk_rows.proofs.ask.Statement.{statement}
 use Rattle.desk_rows.proofs.ask.Tie as tie
 
@@ -56,7 +56,7 @@ returns-2 c =
     let k = c .before .before .before .before .before .before .before .before .before .before .before .before .before in
     let four : _ ≡ fourIn (a .places .now) = λ i. (c .before .before .before .before .before .before .before .before .before .before .before .before .before .before .before .before .before .before .before .before .before .before .place .ensures) i ∷ (c .before .before .before .before .before .before .before .before .before .before .before .before .before .before .before .before .before .before .before .before .place2 .ensures) i ∷ (c .before .before .before .before .before .before .before .before .before .before .before .before .before .before .before .before .before .before .place3 .ensures) i ∷ (c .before .before .before .before .before .before .before .before .before .before .before .before .before .before .before .before .place4 .ensures) i ∷ [] in
     let (x, y, z, u, v, w) = asks-in (a .places .now) (c .before .before .before .before .before .before .before .before .before .before .before .before .before .before .before .before .before .before .before .before .before .before .before .before .if1 .left) (a .store .now) (a .number) (a .notice .now) (a .missing .now) (a .count .now) (a .language .now) (k .ask .result) (k .ask .last .1 .1 .1 .1 .1 .1 .0) (k .ask .last .1 .1 .1 .1 .1 .1 .1 .0)
-    (subst (λ ps. AskTurn ps (a .store .now) (a .number) (a .notice .now) (a .missing .now) (k .ask .result) (k .ask .last .1 .1 .1 .1 .1 .1 .0) (k .ask .last .1 .1 .1 .1 .1 .1 .1 .0)) four (k .ask .ensures)) in
+    (subst (λ ps. AskTurn ps (a .store .now) (a .number) (a .notice .now) (a .missing .now) (k .ask .result) (k .ask .last .1 .1 .1 .1 .1 .1 .0) (k .ask .last .1 .1 .1 .1 .1 .1 .1 .0)) (four ∙ row-long (a .places .now) (c .before .before .before .before .before .before .before .before .before .before .before .before .before .before .before .before .before .before .before .before .before .before .before .before .if1 .left)) (k .ask .ensures)) in
     (c .refusal .ensures ∙ x, c .before .before .before .settle .ensures ∙ y, z, u, c .before .before .before .before .before .before .before .count-of .ensures ∙ v, c .before .before .before .before .before .language-of .ensures ∙ w)
 
 pub ask-spec : {M : Type 1} → statement M

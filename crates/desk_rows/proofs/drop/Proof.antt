@@ -5,7 +5,7 @@ use Prim.Native.Nat.{_-_}
 use lib.ListN.{drop}
 use borrow.Author.Needs.{needs}
 use Rattle.places.specs.Promises.{DropTurn}
-use Rattle.desk_rows.specs.laws.Changes.{fourIn, drops-in, drops-few}
+use Rattle.desk_rows.specs.laws.Changes.{fourIn, row-long, drops-in, drops-few}
 use Rattle.desk_rows.proofs.drop.Statement.{statement}
 use Rattle.desk_rows.proofs.drop.Tie as tie
 
@@ -44,7 +44,7 @@ returns-2 c =
     let a = c .before .before .before .before .before .before .before .before .before .before .before .before .before .before .before .before .before .args in
     let k = c .before .before .before .before .before in
     let four : _ ≡ fourIn (a .places .now) = λ i. (c .before .before .before .before .before .before .before .before .before .before .before .before .place .ensures) i ∷ (c .before .before .before .before .before .before .before .before .before .before .place2 .ensures) i ∷ (c .before .before .before .before .before .before .before .before .place3 .ensures) i ∷ (c .before .before .before .before .before .before .place4 .ensures) i ∷ [] in
-    let (x, y) = drops-in (a .places .now) (c .before .before .before .before .before .before .before .before .before .before .before .before .before .before .if1 .left) (a .store .now) (a .number) (k .drop .result) (subst (λ ps. DropTurn ps (a .store .now) (a .number) (k .drop .result)) four (k .drop .ensures)) in
+    let (x, y) = drops-in (a .places .now) (c .before .before .before .before .before .before .before .before .before .before .before .before .before .before .if1 .left) (a .store .now) (a .number) (k .drop .result) (subst (λ ps. DropTurn ps (a .store .now) (a .number) (k .drop .result)) (four ∙ row-long (a .places .now) (c .before .before .before .before .before .before .before .before .before .before .before .before .before .before .if1 .left)) (k .drop .ensures)) in
     (c .refusal .ensures ∙ x, c .before .before .before .settle .ensures ∙ y)
 
 pub drop-spec : {M : Type 1} → statement M

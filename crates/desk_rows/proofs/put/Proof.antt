@@ -6,9 +6,9 @@ use native.Mathlib.Omega.{arith}
 use lib.ListN.{length, set, length-set}
 use borrow.Author.Needs.{needs}
 use Rattle.packet_reading.specs.Packet.{mostPackets}
-use Rattle.places.specs.Desk.{laid}
+use Rattle.places.specs.Desk.{laid, laidWithin}
 use Rattle.desk_rows.specs.Bytes.{begins}
-use Rattle.places.specs.laws.Laid.{length-laid}
+use Rattle.places.specs.laws.Laid.{laid-within, length-laid}
 use Rattle.desk_rows.proofs.Stored.{laid-more, four-stored}
 use Rattle.desk_rows.proofs.put.Statement.{statement}
 use Rattle.desk_rows.proofs.put.Tie as tie
@@ -47,11 +47,7 @@ slice-aggregate-lay : tie.Need-slice-aggregate-lay
 slice-aggregate-lay c = search needs
 
 lay-requires : tie.Need-lay-requires
-lay-requires c κs =
-    let m = c .before .before in
-    let a = m .before .before .before .args in
-    let sizes : length (a .p .sizes) ≡ mostPackets = search needs in
-    omega (arith, length-set (a .s .now) (begins (a .i)) (m .mark .result), length-set (set (a .s .now) (begins (a .i)) (m .mark .result)) (begins (a .i) + 1) (a .p .number), length-set (set (set (a .s .now) (begins (a .i)) (m .mark .result)) (begins (a .i) + 1) (a .p .number)) (begins (a .i) + 2) (a .p .language), length-set (set (set (set (a .s .now) (begins (a .i)) (m .mark .result)) (begins (a .i) + 1) (a .p .number)) (begins (a .i) + 2) (a .p .language)) (begins (a .i) + 3) (a .p .total))
+lay-requires c κs = search needs
 
 same-length : tie.Need-same-length
 same-length c =
@@ -64,8 +60,11 @@ returns c =
     let m = c .before .before .before .before .before in
     let a = m .before .before .before .args in
     let head = m .mark .result ∷ a .p .number ∷ a .p .language ∷ a .p .total ∷ [] in
+    let sizes : length (a .p .sizes) ≡ mostPackets = search needs in
+    let four = four-stored (a .s .now) (begins (a .i)) (m .mark .result) (a .p .number) (a .p .language) (a .p .total) (omega arith) in
     c .before .before .lay .ensures
-    ∙ ap (λ s. laid s (begins (a .i) + 4) (a .p .sizes)) (four-stored (a .s .now) (begins (a .i)) (m .mark .result) (a .p .number) (a .p .language) (a .p .total) (omega arith))
+    ∙ ap (λ s. laidWithin s (begins (a .i) + 4) (a .p .sizes)) four
+    ∙ laid-within (laid (a .s .now) (begins (a .i)) head) (begins (a .i) + 4) (a .p .sizes) (omega (arith, sizes, length-laid (a .s .now) (begins (a .i)) head (omega arith)))
     ∙ laid-more (a .s .now) (begins (a .i)) head (a .p .sizes) (omega arith)
     ∙ ap (λ n. laid (a .s .now) (begins (a .i)) (n ∷ a .p .number ∷ a .p .language ∷ a .p .total ∷ a .p .sizes)) (m .mark .ensures)
 

@@ -6,10 +6,10 @@ use Rattle.desk_rows.proofs.total_behind.Statement.{statement}
 use Rattle.desk_rows.proofs.total_behind.Tie as tie
 
 returns : tie.Need-returns
-returns c = sym (rw (lt-leb (c .before .args .mark) 1 (c .if1 .taken)) refl)
+returns c = sym (rw (le-leb (c .before .args .mark) 1 (c .if1 .taken)) refl)
 
 returns-2 : tie.Need-returns-2
-returns-2 c = sym (rw (le-leb (c .before .args .mark) 1 (c .if1 .left)) refl)
+returns-2 c = sym (rw (lt-leb (c .before .args .mark) 1 (c .if1 .left)) refl)
 
 pub total-behind-spec : {M : Type 1} → statement M
 total-behind-spec = tie.close (tie.spec returns returns-2)

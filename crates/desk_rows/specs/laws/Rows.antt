@@ -1,5 +1,5 @@
--- What a call leaves in the bytes is, read as a row, what it leaves of the row: a run of calls over lent bytes is a run over places (desk_runs). Assumes nothing.
-use mathlib.Core.Path.{_≡_, refl, sym, ap, _∙_, subst}
+-- What a call leaves in the bytes is, read as a row, what it leaves of the row: with this a run of calls over lent bytes is a run over places (desk_row_runs). Assumes nothing.
+use mathlib.Core.Path.{_≡_, refl, sym, ap, _∙_}
 use mathlib.Core.Bool.{Bool, true, false, not, cond}
 use mathlib.Core.List.{List, [], _∷_}
 use mathlib.Core.Logic.{_⊎_, inl, inr}
@@ -75,16 +75,24 @@ row-turned bs long (suc (suc (suc (suc i)))) low p each = absurd (omega (arith, 
 
 -- ---- what each call leaves
 
-left-fits : (bs : List ℕ) → begins fourPlaces ≤ length bs → {a : Reply} {c : Change} → Fits a c → rowIn (changedBytes bs c) ≡ applied (rowIn bs) c
-left-fits bs long (none e) = refl
-left-fits bs long (one e i low p each) = row-turned bs long i low p each ∙ ap (λ ps. set ps i p) (row-long bs long)
+-- the change c, made in the bytes: read as a row, and as many bytes
+pub record Leaves (bs : List ℕ) (c : Change) : Type 0 where
+  pub row : rowIn (changedBytes bs c) ≡ applied (rowIn bs) c
+  pub long : length (changedBytes bs c) ≡ length bs
+
+left-fits : (bs : List ℕ) → begins fourPlaces ≤ length bs → {a : Reply} {c : Change} → Fits a c → Leaves bs c
+left-fits bs long (none e) = record { row = refl; long = refl }
+left-fits bs long (one e i low p each) = record {
+  row = row-turned bs long i low p each ∙ ap (λ ps. set ps i p) (row-long bs long);
+  long = length-laid bs (begins i) (bytesOf p) (fits bs long i low p each);
+}
 
 module _ (bs : List ℕ) (long : begins fourPlaces ≤ length bs) where
-  pub accepts-leaves : (s m : List ℕ) → let o = accepting (rowIn bs) s m in rowIn (changedBytes bs (o .change)) ≡ applied (rowIn bs) (o .change)
-  accepts-leaves s m = left-fits bs long (subst (λ qs. Fits (accepting qs s m .reply) (accepting qs s m .change)) (row-long bs long) (accepting-fits (fourIn bs) (sized bs long) s m .is))
+  pub accepts-leaves : (s m : List ℕ) → Leaves bs (accepting (rowIn bs) s m .change)
+  accepts-leaves s m = left-fits bs long (accepting-fits (rowIn bs) (sized bs long) s m .is)
 
-  pub asks-leaves : (s : List ℕ) (n : ℕ) (b w : List ℕ) → let o = asking (rowIn bs) s n b w in rowIn (changedBytes bs (o .change)) ≡ applied (rowIn bs) (o .change)
-  asks-leaves s n b w = left-fits bs long (subst (λ qs. Fits (asking qs s n b w .reply) (asking qs s n b w .change)) (row-long bs long) (asking-fits (fourIn bs) (sized bs long) s n b w .is))
+  pub asks-leaves : (s : List ℕ) (n : ℕ) (b w : List ℕ) → Leaves bs (asking (rowIn bs) s n b w .change)
+  asks-leaves s n b w = left-fits bs long (asking-fits (rowIn bs) (sized bs long) s n b w .is)
 
-  pub drops-leaves : (s : List ℕ) (n : ℕ) → let o = dropping (rowIn bs) s n in rowIn (changedBytes bs (o .change)) ≡ applied (rowIn bs) (o .change)
-  drops-leaves s n = left-fits bs long (subst (λ qs. Fits (dropping qs s n .reply) (dropping qs s n .change)) (row-long bs long) (dropping-fits (fourIn bs) (sized bs long) s n .is))
+  pub drops-leaves : (s : List ℕ) (n : ℕ) → Leaves bs (dropping (rowIn bs) s n .change)
+  drops-leaves s n = left-fits bs long (dropping-fits (rowIn bs) (sized bs long) s n .is)

@@ -30,12 +30,12 @@ use Rattle.desk_runs.specs.laws.Told.{Told, Unopened, tests-pass, retold
 -- ---- the entry of a packet that was accepted
 
 -- it is counted under its number,
-grown-here : (m : List ℕ) (y : Part) (a : Reply) (n : ℕ) (xs : List Part) → readRecord packets recordOf m ≡ accepted y → numberOf a ≡ 0 → y .0 .number ≡ n → grown n (comes m, a) xs ≡ y ∷ xs
-grown-here m y a n xs e z q = rw (z, e, eq-eqb (y .0 .number) n q) refl
+grown-here : (m : List ℕ) (y : Part) (code n : ℕ) (xs : List Part) → readRecord packets recordOf m ≡ accepted y → code ≡ 0 → y .0 .number ≡ n → grown n (comes m, code) xs ≡ y ∷ xs
+grown-here m y code n xs e z q = rw (z, e, eq-eqb (y .0 .number) n q) refl
 
 -- and under no other
-grown-there : (m : List ℕ) (y : Part) (a : Reply) (n : ℕ) (xs : List Part) → readRecord packets recordOf m ≡ accepted y → numberOf a ≡ 0 → (y .0 .number ≡ n → ⊥) → grown n (comes m, a) xs ≡ xs
-grown-there m y a n xs e z d = rw (z, e, ne-eqb (y .0 .number) n d) refl
+grown-there : (m : List ℕ) (y : Part) (code n : ℕ) (xs : List Part) → readRecord packets recordOf m ≡ accepted y → code ≡ 0 → (y .0 .number ≡ n → ⊥) → grown n (comes m, code) xs ≡ xs
+grown-there m y code n xs e z d = rw (z, e, ne-eqb (y .0 .number) n d) refl
 
 -- a place that is opened holds nothing else
 none-held : (n k : ℕ) → _≡_ {A = ℕ} (getD (replicate n 0) k 0) 0
@@ -56,7 +56,7 @@ module _ {ps : List Place} {s : List ℕ} {f : ℕ → List Part} (x : Told ps s
   -- ---- a packet comes in
 
   abbrev Accepted : List ℕ → Accepting → Type 0
-  Accepted m o = Told (applied ps (o .change)) (o .store) (λ n. grown n (comes m, o .reply) (f n))
+  Accepted m o = Told (applied ps (o .change)) (o .store) (λ n. grown n (comes m, numberOf (o .reply)) (f n))
 
   module _ (m : List ℕ) (y : Part) (reads : readRecord packets recordOf m ≡ accepted y) where
     abbrev r : Packet
@@ -90,21 +90,21 @@ module _ {ps : List Place} {s : List ℕ} {f : ℕ → List Part} (x : Told ps s
 
         go : (u v : Bool) → contradicts s i p r c ≡ u → lacks p (r .own) ≡ v
             → Accepted m (cond u (turnedAway s 7) (cond v (taken s i (holding p (r .own) (length c)) r c) (record { reply = Again; change = stays; store = s })))
-        go true v eu ev = retold x (λ n. grown n (comes m, Refused 7) (f n)) (λ n. refl)
+        go true v eu ev = retold x (λ n. grown n (comes m, 7) (f n)) (λ n. refl)
         go false true eu ev =
             let (language, total, h) = agrees s i p r c eu in
             let member : Member (p .total) (p .language) y = record { fit = fit; total = total; language = language } in
-            filled x i l (holding p (r .own) (length c)) (laid s (cell i (r .own)) c) (λ n. grown n (comes m, Done) (f n)) (length-laid s (cell i (r .own)) c (fits i l)) o
+            filled x i l (holding p (r .own) (length c)) (laid s (cell i (r .own)) c) (λ n. grown n (comes m, 0) (f n)) (length-laid s (cell i (r .own)) c (fits i l)) o
             (λ j a d oj e. d (x .alone j i a l oj o e)) (λ k. refl) (others i l)
-            (rw (grown-here m y Done (p .number) (f (p .number)) reads refl (sym q)) (put-in s i (holding p (r .own) (length c)) y (f (p .number)) (p .sizes) (fits i l) (member, st .members) (st .agreed) (sym (st .sizes (r .own)) ∙ eqb-true (held p (r .own)) 0 ev) (st .row) (st .sizes) (st .cells) refl))
-            (λ n d. grown-there m y Done n (f n) reads refl (λ e. d (sym e ∙ sym q)))
+            (rw (grown-here m y 0 (p .number) (f (p .number)) reads refl (sym q)) (put-in s i (holding p (r .own) (length c)) y (f (p .number)) (p .sizes) (fits i l) (member, st .members) (st .agreed) (sym (st .sizes (r .own)) ∙ eqb-true (held p (r .own)) 0 ev) (st .row) (st .sizes) (st .cells) refl))
+            (λ n d. grown-there m y 0 n (f n) reads refl (λ e. d (sym e ∙ sym q)))
         go false false eu ev =
             let (language, total, h) = agrees s i p r c eu in
             let member : Member (p .total) (p .language) y = record { fit = fit; total = total; language = language } in
             let same = sym (in-cell st (r .own)) ∙ alike-same (inCell s i p (r .own)) c (subst (λ v. (v || alike (inCell s i p (r .own)) c) ≡ true) ev h) in
-            subst (λ qs. Told qs s (λ n. grown n (comes m, Again) (f n))) (set-getD ps i blank)
-            (filled x i l p s (λ n. grown n (comes m, Again) (f n)) refl o (λ j a d oj e. d (x .alone j i a l oj o e)) (λ k. refl) (λ j k n d a b. refl)
-            (rw (grown-here m y Again (p .number) (f (p .number)) reads refl (sym q)) (again y st member same)) (λ n d. grown-there m y Again n (f n) reads refl (λ e. d (sym e ∙ sym q))))
+            subst (λ qs. Told qs s (λ n. grown n (comes m, 0) (f n))) (set-getD ps i blank)
+            (filled x i l p s (λ n. grown n (comes m, 0) (f n)) refl o (λ j a d oj e. d (x .alone j i a l oj o e)) (λ k. refl) (λ j k n d a b. refl)
+            (rw (grown-here m y 0 (p .number) (f (p .number)) reads refl (sym q)) (again y st member same)) (λ n d. grown-there m y 0 n (f n) reads refl (λ e. d (sym e ∙ sym q))))
 
     -- it is not
     opens-told : Unopened ps (r .number) → Accepted m (opens s (freeAt ps) r c)
@@ -119,11 +119,11 @@ module _ {ps : List Place} {s : List ℕ} {f : ℕ → List Part} (x : Told ps s
             let l = ltb-true i fourPlaces e in
             let shut = free-found ps l in
             let member : Member (r .total) (r .language) y = record { fit = fit; total = refl; language = refl } in
-            filled x i l (opened r (length c)) (laid s (cell i (r .own)) c) (λ n. grown n (comes m, Done) (f n)) (length-laid s (cell i (r .own)) c (fits i l)) refl
+            filled x i l (opened r (length c)) (laid s (cell i (r .own)) c) (λ n. grown n (comes m, 0) (f n)) (length-laid s (cell i (r .own)) c (fits i l)) refl
             (λ j a d oj q. h j a oj q) (λ o. absurd (false≢true (sym shut ∙ o))) (others i l)
-            (rw (grown-here m y Done (r .number) (f (r .number)) reads refl refl, x .away (r .number) h) (put-in s i (opened r (length c)) y [] (replicate mostPackets 0) (fits i l) (member, tt) (λ z k. absurd (List·Memᴰ·not-nil k)) refl (length-replicate {A = ℕ} mostPackets 0) (none-held mostPackets) (λ k. refl) refl))
-            (λ n d. grown-there m y Done n (f n) reads refl (λ q. d (sym q)))
-        go false e = retold x (λ n. grown n (comes m, Refused 8) (f n)) (λ n. refl)
+            (rw (grown-here m y 0 (r .number) (f (r .number)) reads refl refl, x .away (r .number) h) (put-in s i (opened r (length c)) y [] (replicate mostPackets 0) (fits i l) (member, tt) (λ z k. absurd (List·Memᴰ·not-nil k)) refl (length-replicate {A = ℕ} mostPackets 0) (none-held mostPackets) (λ k. refl) refl))
+            (λ n d. grown-there m y 0 n (f n) reads refl (λ q. d (sym q)))
+        go false e = retold x (λ n. grown n (comes m, 8) (f n)) (λ n. refl)
 
     received-told : Accepted m (received (front ps) s r c)
     unfolding received
@@ -142,7 +142,7 @@ module _ {ps : List Place} {s : List ℕ} {f : ℕ → List Part} (x : Told ps s
     where
       go : (o : Out Part) → readRecord packets recordOf m ≡ o → Accepted m (answered (λ x. let code = firstTests ps s in cond (eqb code 0) (received (front ps) s (x .0) (x .1)) (turnedAway s code)) (turnedAway s) o)
       go (accepted y) e = rw (tests-pass x) (received-told m y e)
-      go (refused n at) e = retold x (λ k. grown k (comes m, Refused n) (f k)) (λ k. rw e (either (eqb n 0) (f k)))
+      go (refused n at) e = retold x (λ k. grown k (comes m, n) (f k)) (λ k. rw e (either (eqb n 0) (f k)))
         where
           either : (u : Bool) (xs : List Part) → cond u xs xs ≡ xs
           either true xs = refl
@@ -157,7 +157,7 @@ module _ {ps : List Place} {s : List ℕ} {f : ℕ → List Part} (x : Told ps s
       (λ k d. rw (ne-eqb n k (λ e. d (sym e ∙ sym q))) refl)
 
   abbrev Asked : ℕ → List ℕ → List ℕ → Asking → Type 0
-  Asked n b w o = Told (applied ps (o .change)) s (λ k. grown k (asks n b w, o .reply) (f k))
+  Asked n b w o = Told (applied ps (o .change)) s (λ k. grown k (asks n b w, numberOf (o .reply)) (f k))
 
   answers-told : (n : ℕ) (b w : List ℕ) (i : ℕ) → i < fourPlaces → placeAt ps i .«open» ≡ true → placeAt ps i .number ≡ n → Asked n b w (answers s i (placeAt ps i) b w)
   unfolding answers
@@ -175,9 +175,9 @@ module _ {ps : List Place} {s : List ℕ} {f : ℕ → List Part} (x : Told ps s
       go : (u v y : Bool)
           → Asked n b w (cond u (cond v (record { reply = Joined (length c) (p .language); change = turns i (freed p); notice = c ++ drop (length c) b; missing = w }) (notAnswered b w 6)) (cond y (record { reply = Missing (length ns); change = stays; notice = b; missing = ns ++ drop (length ns) w }) (notAnswered b w 6)))
       go true true y = freed-told n i l o q
-      go true false y = retold x (λ k. grown k (asks n b w, Refused 6) (f k)) (λ k. refl)
-      go false v true = retold x (λ k. grown k (asks n b w, Missing (length ns)) (f k)) (λ k. refl)
-      go false v false = retold x (λ k. grown k (asks n b w, Refused 6) (f k)) (λ k. refl)
+      go true false y = retold x (λ k. grown k (asks n b w, 6) (f k)) (λ k. refl)
+      go false v true = retold x (λ k. grown k (asks n b w, 9) (f k)) (λ k. refl)
+      go false v false = retold x (λ k. grown k (asks n b w, 6) (f k)) (λ k. refl)
 
   pub asks-told : (n : ℕ) (b w : List ℕ) → Asked n b w (asking ps s n b w)
   unfolding asking
@@ -188,10 +188,10 @@ module _ {ps : List Place} {s : List ℕ} {f : ℕ → List Part} (x : Told ps s
 
       go : (u : Bool) → ltb i fourPlaces ≡ u → Asked n b w (cond u (answers s i (placeAt (front ps) i) b w) (notAnswered b w 11))
       go true e = let l = ltb-true i fourPlaces e in let (o, q) = open-found ps n l in rw (front-at ps i l) (answers-told n b w i l o q)
-      go false e = retold x (λ k. grown k (asks n b w, Refused 11) (f k)) (λ k. refl)
+      go false e = retold x (λ k. grown k (asks n b w, 11) (f k)) (λ k. refl)
 
   abbrev Dropped : ℕ → Dropping → Type 0
-  Dropped n o = Told (applied ps (o .change)) s (λ k. grown k (drops n, o .reply) (f k))
+  Dropped n o = Told (applied ps (o .change)) s (λ k. grown k (drops n, numberOf (o .reply)) (f k))
 
   pub drops-told : (n : ℕ) → Dropped n (dropping ps s n)
   unfolding dropping
@@ -202,7 +202,7 @@ module _ {ps : List Place} {s : List ℕ} {f : ℕ → List Part} (x : Told ps s
 
       go : (u : Bool) → ltb i fourPlaces ≡ u → Dropped n (cond u (record { reply = Done; change = turns i (freed (placeAt (front ps) i)) }) (record { reply = Refused 11; change = stays }))
       go true e = let l = ltb-true i fourPlaces e in let (o, q) = open-found ps n l in rw (front-at ps i l) (freed-told n i l o q)
-      go false e = retold x (λ k. grown k (drops n, Refused 11) (f k)) (λ k. refl)
+      go false e = retold x (λ k. grown k (drops n, 11) (f k)) (λ k. refl)
 
   -- ---- Asking gives what is due.
 

@@ -1,10 +1,11 @@
--- `lay` meets its contract: the copied part is put back into the whole.
+-- `lay` meets its contract: where the part does not fit nothing is done, else the copied part is put back into the whole.
 use Prim.Native.Nat.{ℕ, _+_, _-_}
 use mathlib.Core.List.{List, _++_, append-nil}
-use mathlib.Core.Path.{_≡_, ap, ap₂, _∙_}
+use mathlib.Core.Path.{_≡_, refl, sym, ap, ap₂, _∙_}
 use native.Mathlib.Omega.{arith}
 use lib.ListN.{length, take, drop, length-drop, drop-of-length-le}
 use lib.Seq.{take-all, take-length, drop-drop}
+use borrow.Author.Tests.{le-leb, lt-leb}
 use Rattle.places.specs.Desk.{laid}
 use borrow.Author.Needs.{needs}
 use Rattle.places.proofs.lay.Statement.{statement}
@@ -17,6 +18,21 @@ put-back s at c y e =
     let rest = take-all (length s - at) (drop at s) (omega (arith, length-drop at s)) in
     let front : y ≡ c ++ drop (at + length c) s = e ∙ ap₂ (_++_) (take-length c) (ap (drop (length c)) rest ∙ drop-drop (length c) at s) in
     ap (take at s ++_) (ap₂ (_++_) front none ∙ append-nil (c ++ drop (at + length c) s))
+
+returns : tie.Need-returns
+returns c = let a = c .before .before .before .args in
+    let s = a .s .now in
+    let part = a .part .now in
+    sym (rw (lt-leb (a .at + length part) (length s) (omega (arith, c .if1 .taken))) refl)
+
+sub-if2 : tie.Need-sub-if2
+sub-if2 c = search needs
+
+returns-2 : tie.Need-returns-2
+returns-2 c = let a = c .before .before .before .before .args in
+    let s = a .s .now in
+    let part = a .part .now in
+    sym (rw (lt-leb (a .at + length part) (length s) (omega (arith, c .if2 .taken, c .before .if1 .left))) refl)
 
 sub-copy : tie.Need-sub-copy
 sub-copy c = search needs
@@ -33,12 +49,24 @@ copy-requires c κs = search needs
 same-length : tie.Need-same-length
 same-length c = search needs
 
-returns : tie.Need-returns
-returns c =
-    let k = c .before .before in
-    let a = k .before .before .before .before .args in
-    put-back (a .s .now) (a .at) (a .part .now) (k .copy .last .1 .0) (k .copy .ensures .1)
+returns-3 : tie.Need-returns-3
+returns-3 c = let k = c .before .before in
+    let i = k .before .before in
+    let a = i .before .before .before .before .args in
+    let s = a .s .now in
+    let part = a .part .now in
+    put-back s (a .at) part (k .copy .last .1 .0) (k .copy .ensures .1) ∙ sym (rw (le-leb (a .at + length part) (length s) (omega (arith, i .if2 .left, i .before .if1 .left))) refl)
 
 pub lay-spec : {M : Type 1} → statement M
 lay-spec =
-    tie.close (tie.spec sub-copy part-copy-start part-copy-end copy-requires same-length returns)
+    tie.close
+    (tie.spec
+    returns
+    sub-if2
+    returns-2
+    sub-copy
+    part-copy-start
+    part-copy-end
+    copy-requires
+    same-length
+    returns-3)

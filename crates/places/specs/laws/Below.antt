@@ -45,17 +45,7 @@ pub every-next : (k : ℕ) (f : ℕ → Bool) → everyBelow (k + 1) f ≡ (ever
 unfolding everyBelow
 every-next k f = let e : k + 1 ≡ suc k = omega arith in rw e refl
 
--- the first of which it holds, or the end
-pub first-within : (k n : ℕ) (f : ℕ → Bool) → firstFrom k n f ≤ k + n
-unfolding firstFrom
-first-within k zero f = omega arith
-first-within k (suc n) f = go (f k) (first-within (suc k) n f)
-  where
-    go : (x : Bool) → firstFrom (suc k) n f ≤ suc k + n → cond x k (firstFrom (suc k) n f) ≤ k + suc n
-    go true l = omega arith
-    go false l = omega arith
-
--- it holds there, where that is not the end,
+-- the first of which it holds: it holds there, where that is not the end,
 pub first-holds : (k n : ℕ) (f : ℕ → Bool) → firstFrom k n f < k + n → f (firstFrom k n f) ≡ true
 unfolding firstFrom
 first-holds k zero f l = absurd (omega arith)

@@ -8,13 +8,16 @@ use native.Mathlib.Omega.{arith}
 use lib.Dec.{ltb}
 use lib.ListN.{length, take, drop, length-append, length-drop, take-append-drop}
 use lib.Seq.{length-take-le, take-append-le, drop-at, drop-append-le, drop-drop, take-append-seam}
-use borrow.Author.Tests.{ltb-true, ltb-false}
+use borrow.Author.Tests.{le-leb, ltb-true, ltb-false}
 use Rattle.packet_reading.specs.Packet.{mostPackets, partBytes}
-use Rattle.places.specs.Desk.{cell, laid}
+use Rattle.places.specs.Desk.{cell, laid, laidWithin}
 
 module _ (s : List ℕ) (at : ℕ) (c : List ℕ) (fits : at + length c ≤ length s) where
   in-front : length (take at s) ≡ at
   in-front = length-take-le at s (omega arith)
+
+  pub laid-within : laidWithin s at c ≡ laid s at c
+  laid-within = rw (le-leb (at + length c) (length s) fits) refl
 
   pub length-laid : length (laid s at c) ≡ length s
   length-laid =

@@ -12,7 +12,7 @@ use Rattle.format.specs.Promises.{answered, readRecord}
 use Rattle.packet_reading.specs.Packet.{packets, recordOf}
 use Rattle.packet_reading.specs.declared.Packet.{Packet}
 use Rattle.places.specs.Places.{everyBelow, allApart, fourPlaces, blank, front, goodPlaces}
-use Rattle.places.specs.Desk.{Change, stays, turns, applied, turnOf, storeBytes, firstTests, turnedAway, accepting, asking, dropping}
+use Rattle.places.specs.Desk.{Change, stays, turns, applied, turnOf, storeBytes, firstTests, turnedAway, accepting, unplaced, notAnswered, asking, dropping}
 use Rattle.places.specs.Promises.{Accepts, Asks, Drops, AcceptTurn, AskTurn, DropTurn}
 use Rattle.places.specs.declared.Place.{Place}
 use Rattle.places.specs.declared.Reply.{Reply}
@@ -25,14 +25,14 @@ front-tests : (ps : List Place) (s : List ℕ) → fourPlaces ≤ length ps → 
 unfolding firstTests goodPlaces allApart everyBelow
 front-tests ps s h = ap (λ (z : Bool). cond (z && leb storeBytes (length s)) (cond (goodPlaces ps) 0 4) 6) (sym (le-leb fourPlaces (length ps) h))
 
+-- the row with the turn's place stored
+abbrev with : List Place → Turn → List Place
+with ps r = set ps (r .at) (r .place)
+
 -- storing a turn's place is what its change does
-stored : (ps : List Place) (a : Reply) (c : Change) → set ps (turnOf (front ps) a c .at) (turnOf (front ps) a c .place) ≡ applied ps c
+stored : (ps : List Place) (a : Reply) (c : Change) → with ps (turnOf (front ps) a c) ≡ applied ps c
 stored ps a stays = set-getD ps 0 blank
 stored ps a (turns i p) = refl
-
-replied : (ps : List Place) (a : Reply) (c : Change) → turnOf ps a c .reply ≡ a
-replied ps a stays = refl
-replied ps a (turns i p) = refl
 
 accepting-front : (ps : List Place) (s m : List ℕ) → fourPlaces ≤ length ps → accepting (front ps) s m ≡ accepting ps s m
 unfolding accepting
@@ -46,18 +46,22 @@ dropping-front : (ps : List Place) (s : List ℕ) (n : ℕ) → fourPlaces ≤ l
 unfolding dropping
 dropping-front ps s n h = rw (front-tests ps s h) refl
 
--- what a turn of the first four places makes of the reply and of the row
-turned : (ps : List Place) (r : Turn) (a : Reply) (c : Change) → r ≡ turnOf (front ps) a c → (r .reply ≡ a) × (set ps (r .at) (r .place) ≡ applied ps c)
-turned ps r a c e = (ap (λ (t : Turn). t .reply) e ∙ replied (front ps) a c, ap (λ (t : Turn). set ps (t .at) (t .place)) e ∙ stored ps a c)
+-- what a turn makes of the reply, and of anything that is read from it
+pub turned : {B : Type 0} (f : Turn → B) (ps : List Place) (a : Reply) (c : Change) (r : Turn) {b : B} → r ≡ turnOf ps a c → f (turnOf ps a c) ≡ b → (r .reply ≡ a) × (f r ≡ b)
+turned f ps a c r e q = (ap (λ (t : Turn). t .reply) e ∙ replied c, ap f e ∙ q)
+  where
+    replied : (c : Change) → turnOf ps a c .reply ≡ a
+    replied stays = refl
+    replied (turns i p) = refl
 
 pub accepts-row : (ps : List Place) (s m : List ℕ) (r : Turn) (t : List ℕ) → fourPlaces ≤ length ps → AcceptTurn (front ps) s m r t → Accepts ps s m (r .reply) (set ps (r .at) (r .place)) t
-accepts-row ps s m r t h e = let o = accepting (front ps) s m in let (x, y) = turned ps r (o .reply) (o .change) (e .0) in rw (← accepting-front ps s m h) (x, y, e .2)
+accepts-row ps s m r t h e = let o = accepting (front ps) s m in let (x, y) = turned (with ps) (front ps) (o .reply) (o .change) r (e .0) (stored ps (o .reply) (o .change)) in rw (← accepting-front ps s m h) (x, y, e .2)
 
 pub asks-row : (ps : List Place) (s : List ℕ) (n : ℕ) (b w : List ℕ) (r : Turn) (c v : List ℕ) → fourPlaces ≤ length ps → AskTurn (front ps) s n b w r c v → Asks ps s n b w (r .reply) (set ps (r .at) (r .place)) c v
-asks-row ps s n b w r c v h e = let o = asking (front ps) s n b w in let (x, y) = turned ps r (o .reply) (o .change) (e .0) in rw (← asking-front ps s n b w h) (x, y, e .2, e .3)
+asks-row ps s n b w r c v h e = let o = asking (front ps) s n b w in let (x, y) = turned (with ps) (front ps) (o .reply) (o .change) r (e .0) (stored ps (o .reply) (o .change)) in rw (← asking-front ps s n b w h) (x, y, e .2, e .3)
 
 pub drops-row : (ps : List Place) (s : List ℕ) (n : ℕ) (r : Turn) → fourPlaces ≤ length ps → DropTurn (front ps) s n r → Drops ps s n (r .reply) (set ps (r .at) (r .place))
-drops-row ps s n r h e = let o = dropping (front ps) s n in let (x, y) = turned ps r (o .reply) (o .change) (e .0) in rw (← dropping-front ps s n h) (x, y)
+drops-row ps s n r h e = let o = dropping (front ps) s n in let (x, y) = turned (with ps) (front ps) (o .reply) (o .change) r (e .0) (stored ps (o .reply) (o .change)) in rw (← dropping-front ps s n h) (x, y)
 
 -- ---- fewer
 
@@ -66,19 +70,27 @@ unfolding firstTests
 short-tests ps s h = ap (λ (z : Bool). cond (z && leb storeBytes (length s)) (cond (goodPlaces ps) 0 4) 6) (lt-leb fourPlaces (length ps) h)
 
 -- a packet's own refusal comes first
-away : (ps : List Place) (s : List ℕ) (o : Out (Packet × List ℕ))
-    → let q = answered (λ x. turnedAway s 6) (turnedAway s) o in (answered (λ x. Refused 6) Refused o ≡ q .reply) × (ps ≡ applied ps (q .change)) × (s ≡ q .store)
-away ps s (accepted x) = (refl, refl, refl)
-away ps s (refused c p) = (refl, refl, refl)
-
-pub accepts-short : (ps : List Place) (s m : List ℕ) (a : Reply) → length ps < fourPlaces → a ≡ answered (λ x. Refused 6) Refused (readRecord packets recordOf m) → Accepts ps s m a ps s
+pub accepting-short : (ps : List Place) (s m : List ℕ) → length ps < fourPlaces → accepting ps s m ≡ turnedAway s (unplaced m)
 unfolding accepting
-accepts-short ps s m a h e = rw (e, short-tests ps s h) (away ps s (readRecord packets recordOf m))
+accepting-short ps s m h = rw (short-tests ps s h) (away (readRecord packets recordOf m))
+  where
+    away : (o : Out (Packet × List ℕ)) → answered (λ x. turnedAway s 6) (turnedAway s) o ≡ turnedAway s (answered (λ x. 6) (λ code. code) o)
+    away (accepted x) = refl
+    away (refused c p) = refl
+
+pub asking-short : (ps : List Place) (s : List ℕ) (n : ℕ) (b w : List ℕ) → length ps < fourPlaces → asking ps s n b w ≡ notAnswered b w 6
+unfolding asking
+asking-short ps s n b w h = rw (short-tests ps s h) refl
+
+pub dropping-short : (ps : List Place) (s : List ℕ) (n : ℕ) → length ps < fourPlaces → dropping ps s n ≡ record { reply = Refused 6; change = stays }
+unfolding dropping
+dropping-short ps s n h = rw (short-tests ps s h) refl
+
+pub accepts-short : (ps : List Place) (s m : List ℕ) (a : Reply) → length ps < fourPlaces → a ≡ Refused (unplaced m) → Accepts ps s m a ps s
+accepts-short ps s m a h e = rw (accepting-short ps s m h) (e, refl, refl)
 
 pub asks-short : (ps : List Place) (s : List ℕ) (n : ℕ) (b w : List ℕ) → length ps < fourPlaces → Asks ps s n b w (Refused 6) ps b w
-unfolding asking
-asks-short ps s n b w h = rw (short-tests ps s h) (refl, refl, refl, refl)
+asks-short ps s n b w h = rw (asking-short ps s n b w h) (refl, refl, refl, refl)
 
 pub drops-short : (ps : List Place) (s : List ℕ) (n : ℕ) → length ps < fourPlaces → Drops ps s n (Refused 6) ps
-unfolding dropping
-drops-short ps s n h = rw (short-tests ps s h) (refl, refl)
+drops-short ps s n h = rw (dropping-short ps s n h) (refl, refl)

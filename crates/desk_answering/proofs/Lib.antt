@@ -1,2 +1,0 @@
--- What the proof of `answer` cites.
-mod Ways

@@ -1,2 +1,0 @@
--- What the proofs of `join` and `same` cite.
-mod Ways

@@ -1,0 +1,3 @@
+-- What is proved of runs over lent bytes.
+pub mod Follows
+pub mod Demand
