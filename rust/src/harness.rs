@@ -147,6 +147,12 @@ fn cell(count: &Option<u64>) -> String {
     count.map_or("-".to_string(), |count| count.to_string())
 }
 
+/// A number's digits in groups of three.
+fn grouped(digits: &str) -> String {
+    let groups = digits.as_bytes().rchunks(3).rev().map(String::from_utf8_lossy);
+    groups.collect::<Vec<_>>().join(",")
+}
+
 /// What a run met, by call, and the first inputs that differ.
 pub struct Counts {
     met: Vec<Met>,
@@ -290,13 +296,14 @@ impl Tally {
     /// Prints what each family met, and all of them together, as a table for docs/.
     pub fn print_families(&self) {
         let line = |cells: Vec<String>| println!("| {} |", cells.join(" | "));
-        let counts = |row: &Row| [inputs(row).to_string()].into_iter().chain(row.iter().map(cell)).collect::<Vec<_>>();
+        let counts = |row: &Row| [Some(inputs(row))].iter().chain(row).map(|count| grouped(&cell(count))).collect();
         let names = ["family", "inputs"].map(str::to_string).into_iter();
         line(names.chain((0..NUMBERS).map(|number| number.to_string())).collect());
         line(vec!["---".to_string(); 2 + NUMBERS]);
         let all = self.families.iter().fold(Row::default(), |all, (_, row)| sum(&all, row));
         for (name, row) in self.families.iter().chain([&("all", all)]) {
-            line([vec![name.to_string()], counts(row)].concat());
+            let counts: Vec<String> = counts(row);
+            line([vec![name.to_string()], counts].concat());
         }
     }
 

@@ -7,13 +7,10 @@ use std::fs::{self, File};
 use std::io::{self, BufRead, BufReader, Read, Write};
 use std::path::Path;
 use std::process::{self, Command, Stdio};
-use std::time::Instant;
 use std::{env, thread};
 
-/// How many records the logs have.
-const RECORDS: [usize; 3] = [1_000, 100_000, 1_000_000];
-/// How often each program lists a log.
-const RUNS: usize = 20;
+/// How many records the logs have, and how often each program lists them.
+const LOGS: [(usize, usize); 3] = [(1_000, 100), (100_000, 20), (1_000_000, 10)];
 /// The word by which the benchmark runs itself as the independent program.
 pub const PAPER: &str = "list";
 /// What `rust/native listing` makes.
@@ -32,23 +29,24 @@ pub fn list_by_paper() {
 pub fn table() {
     let room = env::temp_dir().join(format!("bellnewt-listing-{}", process::id()));
     fs::create_dir(&room).expect("room for logs");
-    println!("{:>10}{:>12}{:>44}{:>24}", "", "", "seconds a listing", "resident KiB");
+    println!("{:>10}{:>12}{:>44}{:>24}", "", "", "processor seconds a listing", "resident KiB");
     print!("{:>10}{:>12}", "records", "bytes");
     ["proved", "emulated", "paper", "wc -c", "proved", "emulated"].iter().for_each(|head| print!("{head:>11}"));
     println!();
-    let printed = RECORDS.iter().try_for_each(|records| print_line(&room, *records));
+    let printed = LOGS.iter().try_for_each(|(records, runs)| print_line(&room, *records, *runs));
     fs::remove_dir_all(&room).expect("the logs are ours");
     printed.expect("logs that are listed");
     println!(
-        "Records of every kind and of none, good and damaged; all listings are the same. Best of {RUNS} runs from a"
+        "Records of every kind and of none, good and damaged; all listings are the same. Seconds: user and system, the"
     );
-    println!("file to a file. wc -c gets the log by a pipe, since it reads no file that it is given. Resident: the greatest.");
+    println!("mean of some runs from a file to a file; wc -c gets the log by a pipe from cat, since it does not read a file.");
+    println!("Resident: the greatest.");
     if EMULATED {
         println!("proved: compiled for this machine, as rust/native says; emulated: as ./listing runs it.");
     }
 }
 
-fn print_line(room: &Path, records: usize) -> io::Result<()> {
+fn print_line(room: &Path, records: usize, runs: usize) -> io::Result<()> {
     let log = room.join("log");
     fs::write(&log, daylog::good_log(&mut Random::new(1, "listing", records as u64), records))?;
     let mut paper = Command::new(env::current_exe()?);
@@ -59,10 +57,10 @@ fn print_line(room: &Path, records: usize) -> io::Result<()> {
         ["proved", "emulated", "paper", "size"].map(|name| room.join(name));
 
     let times = [
-        Some(time(&mut proved(), &log, &proved_text)?),
-        emulated().map(|mut program| time(&mut program, &log, &emulated_text)).transpose()?,
-        Some(time(&mut paper, &log, &paper_text)?),
-        Some(time(&mut count, &log, &size)?),
+        Some(time(&mut proved(), &log, &proved_text, runs)?),
+        emulated().map(|mut program| time(&mut program, &log, &emulated_text, runs)).transpose()?,
+        Some(time(&mut paper, &log, &paper_text, runs)?),
+        Some(time(&mut count, &log, &size, runs)?),
     ];
     let due = fs::read(paper_text)?;
     if fs::read(proved_text)? != due || EMULATED && fs::read(emulated_text)? != due {
@@ -93,19 +91,26 @@ fn emulated() -> Option<Command> {
     EMULATED.then(listing::program)
 }
 
-/// The least seconds that a program takes from a log to its text.
-fn time(program: &mut Command, log: &Path, text: &Path) -> io::Result<f64> {
-    let mut best = f64::INFINITY;
-    for _ in 0..RUNS {
-        let (log, text) = (File::open(log)?, File::create(text)?);
-        let start = Instant::now();
-        let status = program.stdin(log).stdout(text).status()?;
-        best = best.min(start.elapsed().as_secs_f64());
+/// The seconds of the processor that a program takes from a log to its text. The machine may be shared, so the time on
+/// the wall says less.
+fn time(program: &mut Command, log: &Path, text: &Path, runs: usize) -> io::Result<f64> {
+    let before = spent()?;
+    for _ in 0..runs {
+        let status = program.stdin(File::open(log)?).stdout(File::create(text)?).status()?;
         if !status.success() {
             return Err(io::Error::other(format!("{program:?}: {status}")));
         }
     }
-    Ok(best)
+    Ok((spent()? - before) / runs as f64)
+}
+
+/// The seconds of the processor, user and system, that programs took which were started here and have ended.
+fn spent() -> io::Result<f64> {
+    let stat = fs::read_to_string("/proc/self/stat")?;
+    // The second word is a name in brackets; the 16th and 17th are hundredths of a second.
+    let words = stat.rsplit(')').next().unwrap_or("").split_whitespace();
+    let hundredths = words.skip(13).take(2).filter_map(|word| word.parse::<f64>().ok());
+    Ok(hundredths.sum::<f64>() / 100.0)
 }
 
 /// The greatest resident memory, in KiB, of a program that lists a log of so many records. The log comes by a pipe that

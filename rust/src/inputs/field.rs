@@ -38,11 +38,13 @@ impl Field {
         }
     }
 
-    /// A number at or just past a bound of the range or of the width.
+    /// A number at or just past a bound of the range or of the width. A number of note that is good with one sign is not
+    /// with the other.
     pub fn edge(&self, random: &mut Random) -> i64 {
         let past = 1 << self.width;
         let note = random.pick(self.notes);
-        let bound = random.pick(&[self.least, self.most, note, 0, past / 2, past]);
+        let mirrored = if self.least < 0 { -note } else { note };
+        let bound = random.pick(&[self.least, self.most, note, mirrored, 0, past / 2, past]);
         bound + random.between(-1, 1)
     }
 

@@ -147,8 +147,13 @@ impl Draft {
         }
     }
 
+    /// How many bits stand before an entry of the areas.
+    fn bits_before(&self, at: usize) -> u32 {
+        HEAD_BITS + self.entries[..at].iter().map(|entry| entry.parts.width()).sum::<u32>()
+    }
+
     fn bits_before_text(&self) -> u32 {
-        HEAD_BITS + self.entries.iter().map(|entry| entry.parts.width()).sum::<u32>()
+        self.bits_before(self.entries.len())
     }
 
     /// How many bytes it takes.
@@ -186,8 +191,23 @@ impl Draft {
     }
 }
 
+/// The bytes of a notice up to a bit of an entry that is at an edge, or a little past it: a bad part of a point goes
+/// before what is missing behind it.
+fn cut_message(random: &mut Random, mut draft: Draft) -> Vec<u8> {
+    let at = random.below(draft.entries.len());
+    let parts = draft.entries[at].parts;
+    draft.entries[at].number = parts.edge(random);
+    let bits = draft.bits_before(at) as usize + random.below(parts.width() as usize + 8);
+    let mut message = draft.message();
+    message.truncate(bits / 8);
+    message
+}
+
 /// The bytes of a notice, damaged some times or not at all.
 pub fn message(random: &mut Random, draft: &Draft) -> Vec<u8> {
+    if !draft.entries.is_empty() && random.one_in(16) {
+        return cut_message(random, draft.clone());
+    }
     let mut message = draft.message();
     for _ in 0..random.pick(&[0, 0, 0, 0, 0, 1, 1, 2]) {
         damage(random, &mut message);
