@@ -4,7 +4,7 @@ ghost use Rattle.format.specs.Promises.{Corrects};
 ghost use Rattle.area_reading.specs.Area.{areas};
 ghost use Rattle.area_reading.specs.Changed.{fieldOf};
 use area_reading::fields;
-use area_reading::lead;
+use area_reading::read;
 
 // Where the fields stand in every area that has them, their widths, and the shape that has them, 0 for both.
 const PLACES: [usize; 15] = [
@@ -33,7 +33,7 @@ const KINDS: [usize; 15] = [0, 0, 0, 0, 0, 0, 0, 0, 0, 0, 0, 0, 1, 2, 2];
 pub fn correct(buf: &mut [u8], field: usize, value: u64) -> u8
     ensures { λ code. ⌜ Corrects areas (now (buf .entry)) (fieldOf (fieldAt (now (buf .entry)) 92 2) field) value code (now (buf .exit)) ⌝ }
 {
-    let was = fields(buf, lead(buf));
+    let was = read(buf);
     let kind = bits::get(buf, 92, 2);
     let spot = change::correcting::look_up_of(&PLACES, &WIDTHS, &KINDS, field, kind as usize);
     let at = spot.at;

@@ -1,15 +1,14 @@
 // Message 6 with application 412/11, an area marked off (paper 01, "AIS"; 003, tables 4 and 38 to 40).
 ghost use mathlib.Core.Path.{_≡_};
 ghost use mathlib.Core.Bool.{cond};
-ghost use mathlib.Core.List.{[]};
 ghost use lib.Dec.{eqb};
-ghost use lib.ListN.{length};
-ghost use Rattle.bits.specs.Bits.{bitsOf};
-ghost use Rattle.format.specs.Fmt.{also, check, read as Fmt·read};
-ghost use Rattle.format.specs.Message.{fault};
+ghost use Rattle.format.specs.Fmt.{also};
+ghost use Rattle.format.specs.Message.{fieldsOf};
 ghost use Rattle.area_reading.specs.Area.{area, areas, recordOf, answerOf, numberOf};
 ghost use Rattle.area_reading.specs.Promises.{Reads};
 ghost use Rattle.area_reading.specs.declared.Answer.the-variants.{Good, Refused};
+use number::choosing::choose;
+use number::choosing::none;
 
 pub mod shapes;
 
@@ -141,13 +140,12 @@ pub fn lead(s: &[u8]) -> u8
     0
 }
 
-// The fields in bit order, behind the first tests' answer. Once the size is known here, no field has to be tested for it.
+// The fields in bit order, behind the first tests' answer. Another size is refused at once: no field has then to be tested for it.
 pub fn fields(s: &[u8], lead: u8) -> Answer
-    requires { ⌜ (lead ≡ 0 → length (now s) ≡ 31) ⌝ }
-    ensures { λ r. ⌜ r ≡ answerOf (also recordOf (check (fault lead) 0 (Fmt·read area [] 0 (bitsOf (now (s .entry)))))) ⌝ }
+    ensures { λ r. ⌜ r ≡ answerOf (also recordOf (fieldsOf area 31 31 lead (now (s .entry)))) ⌝ }
 {
     if s.len() != Area::LEAST {
-        return Answer::Refused(lead);
+        return Answer::Refused(choose(none(lead), format::SIZE, lead));
     }
     let w = layout::walk::Walk::begin(lead, 0).code(s, 6, MESSAGE);
     let w = w.num(s, 2, 0, 3);

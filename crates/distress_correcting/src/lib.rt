@@ -2,7 +2,7 @@
 ghost use Rattle.distress_reading.specs.Report.{reports};
 ghost use Rattle.format.specs.Promises.{Corrects};
 use distress_reading::report::fields;
-use distress_reading::report::lead;
+use distress_reading::report::read;
 
 // Where the fields stand in every report, and the widths of those that may be corrected.
 const PLACES: [usize; 11] = [0, 16, 48, 73, 97, 102, 107, 113, 120, 129, 133];
@@ -13,7 +13,7 @@ const WIDTHS: [usize; 11] = [0, 32, 25, 24, 5, 5, 6, 7, 9, 4, 0];
 pub fn correct(buf: &mut [u8], field: usize, value: u64) -> u8
     ensures { λ code. ⌜ Corrects reports (now (buf .entry)) field value code (now (buf .exit)) ⌝ }
 {
-    let was = fields(buf, lead(buf));
+    let was = read(buf);
     let spot = change::correcting::look_up(&PLACES, &WIDTHS, field);
     let at = spot.at;
     let width = spot.width;

@@ -1,15 +1,14 @@
 // The distress report (paper 01, "Distress report"; 001, A.1).
 ghost use mathlib.Core.Path.{_≡_};
 ghost use mathlib.Core.Bool.{cond};
-ghost use mathlib.Core.List.{[]};
 ghost use lib.Dec.{eqb};
 ghost use Rattle.distress_reading.specs.declared.report.Answer.the-variants.{Good, Refused};
-ghost use lib.ListN.{length};
 ghost use Rattle.distress_reading.specs.Report.{reports, report, reportOf, answerOf, numberOf};
 ghost use Rattle.distress_reading.specs.Promises.{Reads};
-ghost use Rattle.bits.specs.Bits.{bitsOf};
-ghost use Rattle.format.specs.Fmt.{also, check, read};
-ghost use Rattle.format.specs.Message.{fault};
+ghost use Rattle.format.specs.Fmt.{also};
+ghost use Rattle.format.specs.Message.{fieldsOf};
+use number::choosing::choose;
+use number::choosing::none;
 
 pub struct Report {
     pub mmsi: u32,
@@ -105,13 +104,12 @@ pub fn lead(s: &[u8]) -> u8
     0
 }
 
-// The fields in bit order, after the first tests' answer. Once the size is known here, no field has to be tested for it.
+// The fields in bit order, after the first tests' answer. Another size is refused at once: no field has then to be tested for it.
 pub fn fields(s: &[u8], lead: u8) -> Answer
-    requires { ⌜ (lead ≡ 0 → length (now s) ≡ 17) ⌝ }
-    ensures { λ r. ⌜ r ≡ answerOf (also reportOf (check (fault lead) 0 (read report [] 0 (bitsOf (now (s .entry)))))) ⌝ }
+    ensures { λ r. ⌜ r ≡ answerOf (also reportOf (fieldsOf report 17 17 lead (now (s .entry)))) ⌝ }
 {
     if s.len() != Report::LEAST {
-        return Answer::Refused(lead);
+        return Answer::Refused(choose(none(lead), format::SIZE, lead));
     }
     let w = layout::walk::Walk::begin(lead, 0).code(s, 16, CODE);
     let w = w.num(s, 32, 0, 999_999_999);

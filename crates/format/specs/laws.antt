@@ -18,5 +18,6 @@ pub mod Correcting
 pub mod Entries
 pub mod Family
 pub mod Corrections
+pub mod Showing
 pub mod Runs
 pub mod Written

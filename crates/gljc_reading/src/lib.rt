@@ -1,15 +1,14 @@
 // The frame GLJC (paper 01, "Serial frames"): one byte, minutes.
 ghost use mathlib.Core.Path.{_≡_};
 ghost use mathlib.Core.Bool.{cond};
-ghost use mathlib.Core.List.{[]};
 ghost use lib.Dec.{eqb};
-ghost use lib.ListN.{length};
-ghost use Rattle.bits.specs.Bits.{bitsOf};
-ghost use Rattle.format.specs.Fmt.{also, check, read as Fmt·read};
-ghost use Rattle.format.specs.Message.{fault};
+ghost use Rattle.format.specs.Fmt.{also};
+ghost use Rattle.format.specs.Message.{fieldsOf};
 ghost use Rattle.gljc_reading.specs.Gljc.{gljc, recordOf, answerOf, numberOf};
 ghost use Rattle.gljc_reading.specs.Promises.{Reads};
 ghost use Rattle.gljc_reading.specs.declared.Answer.the-variants.{Good, Refused};
+use number::choosing::choose;
+use number::choosing::none;
 
 pub struct Gljc {
     pub address: u32,
@@ -71,13 +70,12 @@ pub fn read(s: &[u8]) -> Answer
     fields(change::sealing::inner(s), code)
 }
 
-// The fields in bit order, behind the first tests' answer. Once the size is known here, no field has to be tested for it.
+// The fields in bit order, behind the first tests' answer. Another size is refused at once: no field has then to be tested for it.
 pub fn fields(s: &[u8], code: u8) -> Answer
-    requires { ⌜ (code ≡ 0 → length (now s) ≡ 11) ⌝ }
-    ensures { λ r. ⌜ r ≡ answerOf (also recordOf (check (fault code) 0 (Fmt·read gljc [] 0 (bitsOf (now (s .entry)))))) ⌝ }
+    ensures { λ r. ⌜ r ≡ answerOf (also recordOf (fieldsOf gljc 11 11 code (now (s .entry)))) ⌝ }
 {
     if s.len() != SEALED {
-        return Answer::Refused(code);
+        return Answer::Refused(choose(none(code), format::SIZE, code));
     }
     let w = frame::head(s, code, LETTERS, LENGTH, LENGTH);
     let address = w.v as u32;

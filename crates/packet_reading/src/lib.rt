@@ -1,16 +1,15 @@
 // The packet (paper 01, "Notice and packet"; 000, 5.2.2.2): a part of a notice, with its head.
 ghost use mathlib.Core.Path.{_≡_};
 ghost use mathlib.Core.Bool.{cond};
-ghost use mathlib.Core.List.{[]};
-ghost use Prim.Native.Nat.{_-_, _≤_};
+ghost use Prim.Native.Nat.{_-_};
 ghost use lib.Dec.{eqb};
-ghost use lib.ListN.{length};
-ghost use Rattle.bits.specs.Bits.{bitsOf};
-ghost use Rattle.format.specs.Fmt.{also, check, read as Fmt·read};
-ghost use Rattle.format.specs.Message.{fault};
+ghost use Rattle.format.specs.Fmt.{also};
+ghost use Rattle.format.specs.Message.{fieldsOf};
 ghost use Rattle.packet_reading.specs.Packet.{greatest, packet, packets, recordOf, answerOf, numberOf};
 ghost use Rattle.packet_reading.specs.Promises.{Reads, Shows};
 ghost use Rattle.packet_reading.specs.declared.Answer.the-variants.{Good, Refused};
+use number::choosing::choose;
+use number::choosing::none;
 
 // The content stands beside the record: in the packet that was read, or lent to be written.
 pub struct Packet {
@@ -120,16 +119,16 @@ pub fn lead(s: &[u8]) -> u8
     0
 }
 
-// The fields in bit order, after the first tests' answer. Once the size is known here, no field has to be tested for it.
+// The fields in bit order, after the first tests' answer. Another size is refused at once: no field has then to be tested for it.
 pub fn fields(s: &[u8], lead: u8) -> Answer
-    requires { ⌜ (lead ≡ 0 → (5 ≤ length (now s)) × (length (now s) ≤ greatest)) ⌝ }
-    ensures { λ r. ⌜ r ≡ answerOf (also recordOf (check (fault lead) 0 (Fmt·read packet [] 0 (bitsOf (now (s .entry)))))) ⌝ }
+    ensures { λ r. ⌜ r ≡ answerOf (also recordOf (fieldsOf packet 5 greatest lead (now (s .entry)))) ⌝ }
 {
+    let other = choose(none(lead), format::SIZE, lead);
     if s.len() < Packet::LEAST {
-        return Answer::Refused(lead);
+        return Answer::Refused(other);
     }
     if s.len() > Packet::GREATEST {
-        return Answer::Refused(lead);
+        return Answer::Refused(other);
     }
     let content = (s.len() - Packet::CONTENT) as u32 * 8;
     let w = layout::walk::Walk::begin(lead, 0)

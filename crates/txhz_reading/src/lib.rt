@@ -1,17 +1,16 @@
 // The frame TXHZ (paper 01, "Serial frames"): a receiver, and the times of up to five messages and of their receipts.
 ghost use mathlib.Core.Path.{_≡_};
 ghost use mathlib.Core.Bool.{cond};
-ghost use mathlib.Core.List.{[]};
 ghost use Prim.Native.Nat.{_<_, _^_};
 ghost use lib.Dec.{eqb};
-ghost use lib.ListN.{length};
-ghost use Rattle.bits.specs.Bits.{bitsOf};
-ghost use Rattle.format.specs.Fmt.{also, check, read as Fmt·read};
-ghost use Rattle.format.specs.Message.{fault};
+ghost use Rattle.format.specs.Fmt.{also};
+ghost use Rattle.format.specs.Message.{fieldsOf};
 ghost use Rattle.txhz_reading.specs.Promises.{Reads};
 ghost use Rattle.txhz_reading.specs.Steps.{slotRead, receiptRead};
 ghost use Rattle.txhz_reading.specs.Txhz.{txhz, recordOf, answerOf, numberOf, countOf};
 ghost use Rattle.txhz_reading.specs.declared.Answer.the-variants.{Good, Refused};
+use number::choosing::choose;
+use number::choosing::none;
 
 pub struct Receipt {
     pub sent_hour: u8,
@@ -107,13 +106,12 @@ pub fn read(s: &[u8]) -> Answer
 
 // ---- reading
 
-// The fields in bit order, behind the first tests' answer. Once the size is known here, no field has to be tested for it.
+// The fields in bit order, behind the first tests' answer. Another size is refused at once: no field has then to be tested for it.
 pub fn fields(s: &[u8], code: u8) -> Answer
-    requires { ⌜ (code ≡ 0 → length (now s) ≡ 34) ⌝ }
-    ensures { λ r. ⌜ r ≡ answerOf (also recordOf (check (fault code) 0 (Fmt·read txhz [] 0 (bitsOf (now (s .entry)))))) ⌝ }
+    ensures { λ r. ⌜ r ≡ answerOf (also recordOf (fieldsOf txhz 34 34 code (now (s .entry)))) ⌝ }
 {
     if s.len() != SEALED {
-        return Answer::Refused(code);
+        return Answer::Refused(choose(none(code), format::SIZE, code));
     }
     let w = frame::head(s, code, LETTERS, LENGTH, LENGTH);
     let address = w.v as u32;

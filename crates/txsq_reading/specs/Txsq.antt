@@ -23,16 +23,16 @@ abbrev pub allowed : ℕ → ℕ → ℕ
 allowed with most = cond (eqb with 0) 0 most
 
 -- At most 188 bits for category 00, 83 with password, else 1,680; text mode (0) needs a multiple of 8.
-abbrev pub bits : ℕ → ℕ → ℕ → ℕ → Bool
-bits category mode password l = leb l (cond (eqb category 0) 188 (cond (eqb password 0) 1_680 83)) && (cond (eqb mode 0) (eqb (l % 8) 0) true)
+abbrev pub goodLength : ℕ → ℕ → ℕ → ℕ → Bool
+goodLength category mode password l = leb l (cond (eqb category 0) 188 (cond (eqb password 0) 1_680 83)) && (cond (eqb mode 0) (eqb (l % 8) 0) true)
 
 -- the fault of a bit length: these limits are 4; then the content's size is 1
 abbrev pub bounded : ℕ → ℕ → ℕ → ℕ → ℕ → ℕ
-bounded category mode password length l = cond (bits category mode password l) (cond (fits 18 length l) 0 1) 4
+bounded category mode password length l = cond (goodLength category mode password l) (cond (fits 18 length l) 0 1) 4
 
 -- the same of the values before: receiver, password, mode, category, class, own address, length
 abbrev pub limits : Test
-limits h = bits (ago 3 h) (ago 2 h) (ago 1 h)
+limits h = goodLength (ago 3 h) (ago 2 h) (ago 1 h)
 
 abbrev pub filling : Test
 filling h = fits 18 (ago 6 h)

@@ -4,7 +4,7 @@ ghost use Rattle.format.specs.Promises.{Corrects};
 ghost use Rattle.warning_reading.specs.Warning.{warnings};
 ghost use Rattle.warning_reading.specs.Changed.{fieldOf};
 use warning_reading::fields;
-use warning_reading::lead;
+use warning_reading::read;
 
 // Where the fields stand in every warning that has them, their widths, and the warning type that has them, 0 for all.
 const PLACES: [usize; 27] = [
@@ -101,7 +101,7 @@ const KINDS: [usize; 27] = [
 pub fn correct(buf: &mut [u8], field: usize, value: u64) -> u8
     ensures { λ code. ⌜ Corrects warnings (now (buf .entry)) (fieldOf (fieldAt (now (buf .entry)) 56 4) field) value code (now (buf .exit)) ⌝ }
 {
-    let was = fields(buf, lead(buf));
+    let was = read(buf);
     let kind = bits::get(buf, 56, 4);
     let spot = change::correcting::look_up_of(&PLACES, &WIDTHS, &KINDS, field, kind as usize);
     let at = spot.at;

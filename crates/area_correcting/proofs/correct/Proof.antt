@@ -1,12 +1,10 @@
 -- `correct` is the correction in place of every family, with the area's fields read before and behind the change and the table of its fields' numbers.
-use mathlib.Core.Path.{refl, sym, ap, _∙_}
+use mathlib.Core.Path.{refl, ap, _∙_}
 use Rattle.bits.specs.Bits.{Bytes, fieldAt}
 use Rattle.format.specs.Fmt.{also}
-use Rattle.format.specs.laws.Answers.{clean-lead}
-use Rattle.format.specs.laws.Correcting.{admitted-clean}
-use Rattle.format.specs.laws.Corrections.{family-early, family-late}
-use Rattle.format.specs.laws.Lead.{read-first}
-use Rattle.area_reading.specs.Area.{areas, recordOf, answerOf, numberOf}
+use Rattle.format.specs.laws.Corrections.{family-early, family-late, goes-on}
+use Rattle.format.specs.laws.Lead.{exact-fields}
+use Rattle.area_reading.specs.Area.{area, areas, recordOf, answerOf, numberOf}
 use Rattle.area_reading.specs.Changed.{fieldOf}
 use Rattle.area_reading.specs.laws.Correction.{thin}
 use Rattle.area_reading.specs.laws.Demands.{family, looked-stands}
@@ -16,13 +14,8 @@ use borrow.Author.Needs.{needs}
 use Rattle.area_correcting.proofs.correct.Statement.{statement}
 use Rattle.area_correcting.proofs.correct.Tie as tie
 
-lead-requires : tie.Need-lead-requires
-lead-requires c κs = search needs
-
-fields-requires : tie.Need-fields-requires
-fields-requires c κs =
-    let st = c .before .before .before in
-    λ z. sized (st .args .buf .now) (sym (c .lead .ensures) ∙ z)
+read-requires : tie.Need-read-requires
+read-requires c κs = search needs
 
 get-requires : tie.Need-get-requires
 get-requires c κs = search needs
@@ -55,36 +48,22 @@ returns c =
     let number = admits .before in
     let look = number .before in
     let get = look .before .before .before .before in
-    let f = get .before .before in
-    let first = f .before in
-    let known = first .before .before in
+    let was = get .before .before in
+    let known = was .before .before in
     let st = known .before in
     let a = st .args in
     let s = a .buf .now in
     let fine : Bytes s = λ i. known .slice-known .given i .fits in
     family-early family Good Refused numberOf (λ r. refl) (λ c. refl) s (fieldOf (fieldAt s 92 2) (a .field)) (a .value) _ _
-    (f .fields .ensures ∙ ap (λ o. answerOf (also recordOf o)) (sym (read-first areas s (first .lead .ensures)))) (number .refusal .ensures)
+    (was .read .ensures) (number .refusal .ensures)
     (looked-stands s (a .field) fine (get .get .ensures) (look .look-up-of .ensures)) (thin (get .get .result) (a .field) (look .look-up-of .ensures))
     (admits .admits .ensures) (c .if1 .taken)
 
 swap-requires : tie.Need-swap-requires
 swap-requires c κs = search needs
 
-fields-requires-2 : tie.Need-fields-requires-2
-unfolding areas
-fields-requires-2 c κs =
-    let swap = c .before .before .before in
-    let test = swap .before .before in
-    let admits = test .before in
-    let number = admits .before in
-    let look = number .before in
-    let f = look .before .before .before .before .before .before in
-    let first = f .before in
-    let st = first .before .before .before in
-    let a = st .args in
-    let s = a .buf .now in
-    let clean = admitted-clean (number .refusal .result) (look .look-up-of .result .width) (a .value) (sym (admits .admits .ensures) ∙ test .if1 .left) in
-    λ z. swap .swap .kept .0 ∙ sized s (sym (first .lead .ensures) ∙ clean-lead Good Refused recordOf numberOf (λ r. refl) (λ c. refl) areas s _ _ _ (number .refusal .ensures) (f .fields .ensures) clean)
+fields-requires : tie.Need-fields-requires
+fields-requires c κs = search needs
 
 refusal-requires-2 : tie.Need-refusal-requires-2
 refusal-requires-2 c κs = search needs
@@ -100,31 +79,31 @@ unfolding areas
 returns-2 c =
     let settle = c .before .before in
     let again = settle .before in
-    let f2 = again .before .before in
-    let swap = f2 .before .before .before .before in
+    let f = again .before .before in
+    let swap = f .before .before .before .before in
     let test = swap .before .before in
     let admits = test .before in
     let number = admits .before in
     let look = number .before in
     let get = look .before .before .before .before in
-    let f = get .before .before in
-    let first = f .before in
-    let known = first .before .before in
+    let was = get .before .before in
+    let known = was .before .before in
     let st = known .before in
     let a = st .args in
     let s = a .buf .now in
+    let long = sized s (goes-on areas Good Refused recordOf numberOf (λ r. refl) (λ c. refl) s (was .read .ensures) (number .refusal .ensures) (look .look-up-of .result .width) (a .value) (admits .admits .ensures) (test .if1 .left)) in
+    let sizes = exact-fields area 31 0 (swap .swap .last .0) (λ z. swap .swap .kept .0 ∙ long) in
     let fine : Bytes s = λ i. known .slice-known .given i .fits in
     family-late family Good Refused numberOf (λ r. refl) (λ c. refl) s (fieldOf (fieldAt s 92 2) (a .field)) (a .value) _ _
-    (f .fields .ensures ∙ ap (λ o. answerOf (also recordOf o)) (sym (read-first areas s (first .lead .ensures)))) (number .refusal .ensures)
+    (was .read .ensures) (number .refusal .ensures)
     (looked-stands s (a .field) fine (get .get .ensures) (look .look-up-of .ensures)) (thin (get .get .result) (a .field) (look .look-up-of .ensures))
-    fine (admits .admits .ensures) (test .if1 .left) (swap .swap .ensures) (f2 .fields2 .ensures) (again .refusal2 .ensures) (settle .settle .ensures) refl
+    fine (admits .admits .ensures) (test .if1 .left) (swap .swap .ensures) (f .fields .ensures ∙ ap (λ o. answerOf (also recordOf o)) sizes) (again .refusal2 .ensures) (settle .settle .ensures) refl
 
 pub correct-spec : {M : Type 1} → statement M
 correct-spec =
     tie.close
     (tie.spec
-    lead-requires
-    fields-requires
+    read-requires
     get-requires
     slice-aggregate-look-up-of
     slice-aggregate-look-up-of-2
@@ -135,7 +114,7 @@ correct-spec =
     same-length
     returns
     swap-requires
-    fields-requires-2
+    fields-requires
     refusal-requires-2
     settle-requires
     same-length-2

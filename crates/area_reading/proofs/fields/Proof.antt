@@ -1,13 +1,12 @@
 -- `fields` walks the area as its layout stands: one step a field, the shape and the times one law each; then the record is that of the values.
 use mathlib.Core.Path.{_≡_, refl, sym, ap, _∙_, subst⁻¹}
 use mathlib.Core.Bool.{cond}
-use mathlib.Core.List.{[]}
 use lib.Dec.{eqb, lit<, lit≤}
-use Rattle.bits.specs.Bits.{bitsOf}
 use Rattle.format.specs.Fmt.{also, read}
 use Rattle.format.specs.Words.{_‥_}
 use Rattle.format.specs.laws.Answers.{told-so}
-use Rattle.format.specs.laws.Lead.{held-back}
+use native.Mathlib.Omega.{arith}
+use Rattle.format.specs.laws.Lead.{exact-fields, other-size}
 use Rattle.layout.specs.laws.Reading.{start, step-code, step-num, step-decide, step-fill}
 use Rattle.layout.specs.laws.Walked.{finish}
 use Rattle.time.specs.laws.Walking.{time-read, short-read}
@@ -22,12 +21,18 @@ use Rattle.area_reading.proofs.fields.Tie as tie
 use Rattle.time.proofs.ShortTime.of.Reads as ShortTime-of-reads
 use Rattle.time.proofs.Time.of.Reads as Time-of-reads
 
+none-requires : tie.Need-none-requires
+none-requires c κs = search needs
+
+choose-requires : tie.Need-choose-requires
+choose-requires c κs = search needs
+
 returns : tie.Need-returns
 returns c =
-    let st = c .before .before in
-    let a = st .args in
-    let n : a .lead ≡ 0 → ⊥ = λ z. c .if1 .taken (st .pre z) in
-    sym (ap (λ o. answerOf (also recordOf o)) (held-back (a .lead) (read area [] 0 (bitsOf (a .s .now))) n))
+    let test = c .before .before in
+    let a = test .before .before .args in
+    ap Refused (c .choose .ensures ∙ ap (λ x. cond x 1 (a .lead)) (c .before .none .ensures))
+    ∙ sym (ap (λ o. answerOf (also recordOf o)) (other-size area 31 31 (a .lead) (a .s .now) (λ l u. test .if1 .taken (omega (arith, l, u)))))
 
 begin-requires : tie.Need-begin-requires
 begin-requires c κs = search needs
@@ -136,7 +141,8 @@ returns-2 c =
     let n1 = n2 .before .before in
     let c1 = n1 .before in
     let b = c1 .before in
-    let st = b .before .before .before in
+    let test = b .before in
+    let st = test .before .before in
     let a = st .args in
     let s = a .s .now in
     let r0 = start area 0 (a .lead) s (b .begin .ensures) in
@@ -179,11 +185,14 @@ returns-2 c =
     })) (Refused code))
     ∙ ap (λ r. cond (eqb code 0) (Good r) (Refused code)) (sym back)
     ∙ told-so Good Refused recordOf _ _ code (ended .end .result .place) (w .so)
+    ∙ sym (ap (λ o. answerOf (also recordOf o)) (exact-fields area 31 (a .lead) s (λ z. test .if1 .left)))
 
 pub fields-spec : {M : Type 1} → statement M
 fields-spec =
     tie.close
     (tie.spec
+    none-requires
+    choose-requires
     returns
     begin-requires
     code-requires

@@ -1,14 +1,12 @@
 -- A family's own type of answer, from the walk's code and to its number: for any good answers and refusals with their numbers. Assumes nothing.
 use mathlib.Core.Path.{_≡_, refl, sym, ap, _∙_}
 use mathlib.Core.Bool.{Bool, true, false, cond}
-use mathlib.Core.List.{List, []}
+use mathlib.Core.List.{List}
 use Prim.Native.Nat.{ℕ}
 use lib.Dec.{eqb}
-use Rattle.bits.specs.Bits.{bitsOf}
-use Rattle.format.specs.Fmt.{Out, accepted, refused, also, check, read}
-use Rattle.format.specs.Message.{Layout, fault, first, body, codeOf, readMessage}
-use Rattle.format.specs.Promises.{answered}
-use Rattle.format.specs.laws.Lead.{read-first, unled}
+use Rattle.format.specs.Fmt.{Out, accepted, refused, also}
+use Rattle.format.specs.Message.{Layout, codeOf, readMessage}
+use Rattle.format.specs.Promises.{answered, readRecord}
 
 module _ {R A : Type 0} (good : R → A) (bad : ℕ → A) (recordOf : List ℕ → R) where
   -- the answer of a walk that ended with the code c
@@ -25,13 +23,6 @@ module _ {R A : Type 0} (good : R → A) (bad : ℕ → A) (recordOf : List ℕ 
     numbered (accepted vs) = of-good (recordOf vs)
     numbered (refused c p) = of-bad c
 
-    -- the code n of the answer a of the fields of s, behind first tests that answered c
-    module _ (l : Layout) (s : List ℕ) (c n : ℕ) (a : A) (is : n ≡ numberOf a) (walked : a ≡ answered good bad (also recordOf (check (fault c) 0 (read (l .fmt) [] 0 (bitsOf s))))) where
-      pub fields-code : n ≡ codeOf (check (fault c) 0 (read (l .fmt) [] 0 (bitsOf s)))
-      fields-code = is ∙ ap numberOf walked ∙ numbered (check (fault c) 0 (read (l .fmt) [] 0 (bitsOf s)))
-
-      pub clean-lead : n ≡ 0 → c ≡ 0
-      clean-lead z = unled c (read (l .fmt) [] 0 (bitsOf s)) (sym fields-code ∙ z)
-
-      pub whole-code : (t : List ℕ) → s ≡ body (l .seal) t → c ≡ first l t → n ≡ codeOf (readMessage l t)
-      whole-code t b e = fields-code ∙ ap (λ s. codeOf (check (fault c) 0 (read (l .fmt) [] 0 (bitsOf s)))) b ∙ ap codeOf (sym (read-first l t e))
+    -- the number n of the answer a of reading s
+    pub read-code : (l : Layout) (s : List ℕ) {a : A} {n : ℕ} → a ≡ answered good bad (readRecord l recordOf s) → n ≡ numberOf a → n ≡ codeOf (readMessage l s)
+    read-code l s reads is = is ∙ ap numberOf reads ∙ numbered (readMessage l s)

@@ -1,24 +1,33 @@
 -- The first tests of a message: its lead and its seal are one test before the fields. Assumes nothing.
 use mathlib.Core.Path.{_≡_, refl, _∙_}
-use mathlib.Core.Bool.{Bool, true, false}
+use mathlib.Core.Bool.{Bool, true, false, cond, _&&_, false≢true}
 use mathlib.Core.List.{List, []}
-use Prim.Native.Nat.{ℕ, zero, suc, _-_}
-use lib.Dec.{eqb}
+use Prim.Native.Nat.{ℕ, zero, suc, _-_, _≤_}
+use native.Mathlib.Omega.{arith}
+use borrow.Author.Tests.{leb-true, le-leb, ne-eqb}
+use lib.Dec.{leb, eqb}
 use lib.ListN.{length, take, getD}
 use Rattle.bits.specs.Xor.{xorOf}
 use Rattle.bits.specs.Bits.{bitsOf}
-use Rattle.format.specs.Fmt.{Out, refused, orBad, check, read}
-use Rattle.format.specs.Message.{Layout, fault, body, sealFault, firstOf, first, codeOf, readMessage}
+use Rattle.format.specs.Fmt.{Out, bad, Fmt, refused, orBad, check, read}
+use Rattle.format.specs.Message.{Layout, fault, between, fieldsOf, body, sealFault, firstOf, first, codeOf, readMessage}
 
 -- Where the first tests refused, that is the answer.
 pub held-back : {A : Type 0} (c : ℕ) (o : Out A) → (c ≡ 0 → ⊥) → check (fault c) 0 o ≡ refused c 0
 held-back zero o n = absurd (n refl)
 held-back (suc c) o n = refl
 
--- What was accepted behind the first tests passed them.
-pub unled : {A : Type 0} (c : ℕ) (o : Out A) → codeOf (check (fault c) 0 o) ≡ 0 → c ≡ 0
-unled zero o e = refl
-unled (suc c) o e = e
+-- A message that was read passed its first tests.
+pub read-led : (l : Layout) (s : List ℕ) → codeOf (readMessage l s) ≡ 0 → l .lead s ≡ 0
+unfolding readMessage
+read-led l s = go (l .lead s)
+  where
+    o : Out (List ℕ)
+    o = check (sealFault (l .seal) s) 0 (read (l .fmt) [] 0 (bitsOf (body (l .seal) s)))
+
+    go : (c : ℕ) → codeOf (check (fault c) 0 o) ≡ 0 → c ≡ 0
+    go zero e = refl
+    go (suc c) e = e
 
 -- the lead and the seal are one test
 pub first-tests : {A : Type 0} (l : Layout) (s : List ℕ) (o : Out A) → check (fault (l .lead s)) 0 (check (sealFault (l .seal) s) 0 o) ≡ check (fault (first l s)) 0 o
@@ -41,3 +50,32 @@ first-tests l s o = go (l .lead s) (l .seal)
 pub read-first : (l : Layout) (s : List ℕ) {c : ℕ} → c ≡ first l s → readMessage l s ≡ check (fault c) 0 (read (l .fmt) [] 0 (bitsOf (body (l .seal) s)))
 unfolding readMessage
 read-first l s e = first-tests l s (read (l .fmt) [] 0 (bitsOf (body (l .seal) s))) ∙ rw (← e) refl
+
+-- ---- fields that may be of another size
+
+module _ (f : Fmt) (lo hi c : ℕ) (s : List ℕ) where
+  -- Where what the first tests pass has a good size, the size is no more to be tested.
+  pub sized-fields : (c ≡ 0 → (lo ≤ length s) × (length s ≤ hi)) → fieldsOf f lo hi c s ≡ check (fault c) 0 (read f [] 0 (bitsOf s))
+  sized-fields h = go c (between lo hi (length s)) (λ z. rw (le-leb lo (length s) (h z .0), le-leb (length s) hi (h z .1)) refl)
+    where
+      go : (c : ℕ) (b : Bool) → (c ≡ 0 → b ≡ true) → check (fault (firstOf (orBad b 1) c)) 0 (read f [] 0 (bitsOf s)) ≡ check (fault c) 0 (read f [] 0 (bitsOf s))
+      go c true h = refl
+      go zero false h = absurd (false≢true (h refl))
+      go (suc c) false h = refl
+
+  -- Another size is refused, whatever the fields are.
+  pub other-size : (lo ≤ length s → length s ≤ hi → ⊥) → fieldsOf f lo hi c s ≡ refused (cond (eqb c 0) 1 c) 0
+  other-size n = go (leb lo (length s)) (leb (length s) hi) refl refl
+    where
+      first : (c : ℕ) → check (fault (firstOf (bad 1 0) c)) 0 (read f [] 0 (bitsOf s)) ≡ refused (cond (eqb c 0) 1 c) 0
+      first zero = refl
+      first (suc c) = rw (ne-eqb (suc c) 0 (λ z. omega arith)) refl
+
+      go : (x y : Bool) → leb lo (length s) ≡ x → leb (length s) hi ≡ y → check (fault (firstOf (orBad (x && y) 1) c)) 0 (read f [] 0 (bitsOf s)) ≡ refused (cond (eqb c 0) 1 c) 0
+      go true true e k = absurd (n (leb-true lo (length s) e) (leb-true (length s) hi k))
+      go true false e k = first c
+      go false y e k = first c
+
+-- The same for one size.
+pub exact-fields : (f : Fmt) (n c : ℕ) (s : List ℕ) → (c ≡ 0 → length s ≡ n) → fieldsOf f n n c s ≡ check (fault c) 0 (read f [] 0 (bitsOf s))
+exact-fields f n c s h = sized-fields f n n c s (λ z. (omega (arith, h z), omega (arith, h z)))

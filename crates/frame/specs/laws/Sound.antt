@@ -12,11 +12,10 @@ use Rattle.bits.specs.Bits.{valueOf, bitsOf, fieldAt}
 use Rattle.bits.specs.laws.Bytes.{length-bits}
 use Rattle.bits.specs.laws.Fields.{field-front}
 use Rattle.format.specs.Fmt.{accepted, Fault, good, bad, Fmt, read}
-use Rattle.format.specs.Message.{Sound, body, sealFault, firstOf, codeOf, readMessage}
+use Rattle.format.specs.Message.{Sound, body, sealFault, firstOf}
 use Rattle.format.specs.laws.First.{opened}
 use Rattle.format.specs.laws.Held.{Held, held, exactly}
 use Rattle.format.specs.laws.Round.{read-write}
-use Rattle.format.specs.laws.Lead.{unled}
 use Rattle.frame.specs.Frame.{frame, frames, leads}
 
 module _ (letters lo hi : ℕ) (f : Fmt) where
@@ -95,9 +94,6 @@ first-size letters n s e is z =
     go (bad d i) zero e = refl
     go (bad d i) (suc c) e = e
 
--- So has a frame that was read, with a field changed.
-pub read-size : (letters n : ℕ) (fmt : Fmt) (s t : List ℕ) {b : List ℕ} → codeOf (readMessage (frames letters n n fmt) s) ≡ 0 → length t ≡ length s → b ≡ body true t → length b ≡ n - 1
-unfolding readMessage
-read-size letters n fmt s t z same is =
-    let l = leads-size letters n s (unled (leads letters n n s) _ z) in
-    ap length is ∙ length-take-le (length t - 1) t (omega arith) ∙ ap (_- 1) (same ∙ l)
+-- So has such a message with a field changed.
+pub same-size : (letters n : ℕ) (s t : List ℕ) {b : List ℕ} → leads letters n n s ≡ 0 → length t ≡ length s → b ≡ body true t → length b ≡ n - 1
+same-size letters n s t z same is = ap length is ∙ length-take-le (length t - 1) t (omega arith) ∙ ap (_- 1) (same ∙ leads-size letters n s z)

@@ -1,13 +1,11 @@
 -- `correct` is the correction in place of every family, with the frame's fields read before and behind the change and its table of places.
-use mathlib.Core.Path.{refl, sym, ap, _∙_}
+use mathlib.Core.Path.{refl, ap, _∙_}
 use mathlib.Core.List.{[]}
 use Rattle.bits.specs.Bits.{bitsOf}
-use Rattle.frame.specs.laws.Sound.{read-size}
+use Rattle.frame.specs.laws.Sound.{same-size}
 use Rattle.format.specs.Fmt.{also, read}
-use Rattle.format.specs.Message.{readMessage}
-use Rattle.format.specs.laws.Answers.{numbered}
-use Rattle.format.specs.laws.Correcting.{admitted-clean}
-use Rattle.format.specs.laws.Corrections.{family-early, family-late}
+use Rattle.format.specs.laws.Lead.{exact-fields}
+use Rattle.format.specs.laws.Corrections.{family-early, family-late, goes-on}
 use Rattle.format.specs.laws.Spots.{slim, table-stands, table-slim}
 use Rattle.gljc_reading.specs.Gljc.{letters, gljc, gljcs, valuesOf, recordOf, answerOf, numberOf}
 use Rattle.gljc_reading.specs.laws.Correction.{places, widths, along}
@@ -57,18 +55,7 @@ inner-requires : tie.Need-inner-requires
 inner-requires c κs = search needs
 
 fields-requires : tie.Need-fields-requires
-unfolding gljcs
-fields-requires c κs =
-    let swap = c .before .before .before .before in
-    let test = swap .before .before in
-    let admits = test .before in
-    let number = admits .before in
-    let look = number .before in
-    let was = look .before .before .before in
-    let a = was .before .before .before .args in
-    let s = a .buf .now in
-    let clean = admitted-clean (number .refusal .result) (look .look-up .result .width) (a .value) (sym (admits .admits .ensures) ∙ test .if1 .left) in
-    λ z. read-size letters 12 gljc s (swap .swap .last .0) (sym (number .refusal .ensures ∙ ap numberOf (was .read .ensures) ∙ numbered Good Refused recordOf numberOf (λ r. refl) (λ c. refl) (readMessage gljcs s)) ∙ clean) (swap .swap .kept .0) (c .inner .ensures)
+fields-requires c κs = search needs
 
 refusal-requires-2 : tie.Need-refusal-requires-2
 refusal-requires-2 c κs = search needs
@@ -98,10 +85,13 @@ returns-2 c =
     let was = look .before .before .before in
     let known = was .before .before in
     let a = known .before .args in
-    family-late family Good Refused numberOf (λ r. refl) (λ c. refl) (a .buf .now) (a .field) (a .value) _ _ (was .read .ensures) (number .refusal .ensures)
+    let s = a .buf .now in
+    let led = goes-on gljcs Good Refused recordOf numberOf (λ r. refl) (λ c. refl) s (was .read .ensures) (number .refusal .ensures) (look .look-up .result .width) (a .value) (admits .admits .ensures) (test .if1 .left) in
+    let sizes = exact-fields gljc 11 0 (inner .inner .result .now) (λ z. same-size letters 12 s (swap .swap .last .0) led (swap .swap .kept .0) (inner .inner .ensures)) in
+    family-late family Good Refused numberOf (λ r. refl) (λ c. refl) s (a .field) (a .value) _ _ (was .read .ensures) (number .refusal .ensures)
     (λ r e. table-stands places widths (a .field) (look .look-up .ensures) (gljcs .fmt) (valuesOf r) refl (along r)) (table-slim places widths (a .field) (look .look-up .ensures) refl)
     (λ i. known .slice-known .given i .fits) (admits .admits .ensures) (test .if1 .left) (swap .swap .ensures)
-    (f .fields .ensures ∙ ap (λ b. answerOf (also recordOf (read gljc [] 0 (bitsOf b)))) (inner .inner .ensures)) (again .refusal2 .ensures) (settle .settle .ensures) (seal .seal .ensures)
+    (f .fields .ensures ∙ ap (λ o. answerOf (also recordOf o)) sizes ∙ ap (λ b. answerOf (also recordOf (read gljc [] 0 (bitsOf b)))) (inner .inner .ensures)) (again .refusal2 .ensures) (settle .settle .ensures) (seal .seal .ensures)
 
 pub correct-spec : {M : Type 1} → statement M
 correct-spec =

@@ -1,17 +1,16 @@
 -- `correct` is the correction in place of every family, with the packet's fields read before and behind the change and its table of places.
-use mathlib.Core.Path.{refl, sym, ap, _∙_}
+use mathlib.Core.Path.{refl, ap, _∙_}
 use mathlib.Core.List.{List}
 use Prim.Native.Nat.{ℕ}
 use native.Mathlib.Omega.{arith}
-use Rattle.format.specs.Message.{readMessage}
-use Rattle.format.specs.laws.Answers.{numbered}
-use Rattle.format.specs.laws.Correcting.{admitted-clean}
-use Rattle.format.specs.laws.Corrections.{family-early, family-late}
+use Rattle.format.specs.Fmt.{also}
+use Rattle.format.specs.laws.Corrections.{family-early, family-late, goes-on}
+use Rattle.format.specs.laws.Lead.{sized-fields}
 use Rattle.format.specs.laws.Spots.{slim, table-stands, table-slim}
-use Rattle.packet_reading.specs.Packet.{packets, valuesOf, recordOf, numberOf}
+use Rattle.packet_reading.specs.Packet.{greatest, packet, packets, valuesOf, recordOf, answerOf, numberOf}
 use Rattle.packet_reading.specs.laws.Correction.{places, widths, along}
 use Rattle.packet_reading.specs.laws.Demands.{family}
-use Rattle.packet_reading.specs.laws.Sound.{read-sized}
+use Rattle.packet_reading.specs.laws.Sound.{sized}
 use Rattle.packet_reading.specs.declared.Packet.{Packet}
 use Rattle.packet_reading.specs.declared.Answer.{Answer}
 use Rattle.packet_reading.specs.declared.Answer.the-variants.{Good, Refused}
@@ -61,19 +60,7 @@ swap-requires : tie.Need-swap-requires
 swap-requires c κs = search needs
 
 fields-requires : tie.Need-fields-requires
-fields-requires c κs =
-    let swap = c .before .before .before in
-    let test = swap .before .before in
-    let admits = test .before in
-    let number = admits .before in
-    let look = number .before in
-    let was = look .before .before .before in
-    let i = was .before .before .before in
-    let a = i .args in
-    let s = a .buf .now in
-    let clean = admitted-clean (number .refusal .result) (look .look-up .result .width) (a .value) (sym (admits .admits .ensures) ∙ test .if1 .left) in
-    let (least, most) = read-sized s (sym (number .refusal .ensures ∙ ap numberOf (was .read .ensures) ∙ numbered Shown Refused recordOf numberOf (λ r. refl) (λ c. refl) (readMessage packets s)) ∙ clean) in
-    λ z. (omega (arith, swap .swap .kept .0, least), omega (arith, swap .swap .kept .0, most))
+fields-requires c κs = search needs
 
 refusal-requires-2 : tie.Need-refusal-requires-2
 refusal-requires-2 c κs = search needs
@@ -99,9 +86,13 @@ returns-2 c =
     let known = was .before .before in
     let i = known .before in
     let a = i .args in
-    family-late family Shown Refused numberOf (λ r. refl) (λ c. refl) (a .buf .now) (a .field) (a .value) _ _ (was .read .ensures) (number .refusal .ensures)
+    let s = a .buf .now in
+    let (least, most) = sized s (goes-on packets Shown Refused recordOf numberOf (λ r. refl) (λ c. refl) s (was .read .ensures) (number .refusal .ensures) (look .look-up .result .width) (a .value) (admits .admits .ensures) (test .if1 .left)) in
+    let sizes = sized-fields packet 5 greatest 0 (swap .swap .last .0) (λ z. (omega (arith, swap .swap .kept .0, least), omega (arith, swap .swap .kept .0, most))) in
+    family-late family Shown Refused numberOf (λ r. refl) (λ c. refl) s (a .field) (a .value) _ _ (was .read .ensures) (number .refusal .ensures)
     (λ r e. table-stands places widths (a .field) (look .look-up .ensures) (packets .fmt) (valuesOf r) refl (along r)) (table-slim places widths (a .field) (look .look-up .ensures) refl)
-    (λ i. known .slice-known .given i .fits) (admits .admits .ensures) (test .if1 .left) (swap .swap .ensures) (f .fields .ensures) (again .refusal2 .ensures) (settle .settle .ensures) refl
+    (λ i. known .slice-known .given i .fits) (admits .admits .ensures) (test .if1 .left) (swap .swap .ensures)
+    (f .fields .ensures ∙ ap (λ o. answerOf (also recordOf o)) sizes) (again .refusal2 .ensures) (settle .settle .ensures) refl
 
 pub correct-spec : {M : Type 1} → statement M
 correct-spec =

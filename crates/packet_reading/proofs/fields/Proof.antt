@@ -1,39 +1,47 @@
 -- `fields` walks the packet as its layout stands: one step a field, then the record is that of the values.
 use mathlib.Core.Path.{_≡_, refl, sym, ap, _∙_}
-use mathlib.Core.Bool.{true}
-use mathlib.Core.List.{[]}
-use Prim.Native.Nat.{_-_, _*_}
+use mathlib.Core.Bool.{Bool, true, cond}
+use mathlib.Core.List.{List}
+use Prim.Native.Nat.{ℕ, _-_, _*_, _≤_}
 use native.Mathlib.Omega.{arith}
-use lib.Dec.{lit<, lit≤}
+use lib.Dec.{eqb, lit<, lit≤}
 use lib.ListN.{length}
-use Rattle.bits.specs.Bits.{bitsOf}
 use Rattle.field.specs.Faults.{wholly}
-use Rattle.format.specs.Fmt.{also, read}
+use Rattle.format.specs.Fmt.{also}
+use Rattle.format.specs.Message.{fieldsOf}
 use Rattle.format.specs.Words.{_‥_, ago}
 use Rattle.format.specs.laws.Answers.{told-so}
-use Rattle.format.specs.laws.Lead.{held-back}
+use Rattle.format.specs.laws.Lead.{sized-fields, other-size}
 use Rattle.layout.specs.Reading.{ranged, carried}
 use Rattle.layout.specs.laws.Reading.{start, step-code, step-num, step-limits, step-rest, step-content}
 use Rattle.layout.specs.laws.Walked.{finish}
-use Rattle.packet_reading.specs.Packet.{version, mostPackets, packet, recordOf, answerOf}
+use Rattle.packet_reading.specs.Packet.{version, greatest, mostPackets, packet, recordOf, answerOf}
 use Rattle.packet_reading.specs.declared.Answer.the-variants.{Good, Refused}
 use borrow.Author.Needs.{needs}
 use Rattle.packet_reading.proofs.fields.Statement.{statement}
 use Rattle.packet_reading.proofs.fields.Tie as tie
 
+none-requires : tie.Need-none-requires
+none-requires c κs = search needs
+
+choose-requires : tie.Need-choose-requires
+choose-requires c κs = search needs
+
+-- a packet of another size is refused, by the first tests or by its size
+other : (lead : ℕ) (s : List ℕ) {b : Bool} {r : ℕ} → b ≡ eqb lead 0 → r ≡ cond b 1 lead → (5 ≤ length s → length s ≤ greatest → ⊥) → Refused r ≡ answerOf (also recordOf (fieldsOf packet 5 greatest lead s))
+other lead s e is n = ap Refused (is ∙ ap (λ x. cond x 1 lead) e) ∙ sym (ap (λ o. answerOf (also recordOf o)) (other-size packet 5 greatest lead s n))
+
 returns : tie.Need-returns
 returns c =
-    let i = c .before .before in
-    let a = i .args in
-    let n : a .lead ≡ 0 → ⊥ = λ z. omega (arith, i .pre z, c .if1 .taken) in
-    sym (ap (λ o. answerOf (also recordOf o)) (held-back (a .lead) (read packet [] 0 (bitsOf (a .s .now))) n))
+    let x = c .before in
+    let a = x .before .before .before .args in
+    other (a .lead) (a .s .now) (x .before .none .ensures) (x .choose .ensures) (λ l u. omega (arith, l, c .if1 .taken))
 
 returns-2 : tie.Need-returns-2
 returns-2 c =
-    let i = c .before .before .before in
-    let a = i .args in
-    let n : a .lead ≡ 0 → ⊥ = λ z. omega (arith, i .pre z, c .if2 .taken) in
-    sym (ap (λ o. answerOf (also recordOf o)) (held-back (a .lead) (read packet [] 0 (bitsOf (a .s .now))) n))
+    let x = c .before .before in
+    let a = x .before .before .before .args in
+    other (a .lead) (a .s .now) (x .before .none .ensures) (x .choose .ensures) (λ l u. omega (arith, u, c .if2 .taken))
 
 sub-content : tie.Need-sub-content
 sub-content c = search needs
@@ -106,7 +114,9 @@ returns-3 c =
     let edition = language .before in
     let kind = edition .before in
     let begin = kind .before in
-    let i = begin .before .before .before .before in
+    let high = begin .before in
+    let low = high .before in
+    let i = low .before .before .before .before in
     let a = i .args in
     let s = a .s .now in
     let n : wholly s 32 * 8 ≡ (length s - 4) * 8 = omega arith in
@@ -121,11 +131,14 @@ returns-3 c =
     let r8 = step-content (wholly s 32 * 8) (omega arith) r7 (carrying .content .ensures ∙ ap (λ w. carried s w (rest .rest .result)) (sym n)) in
     let w = finish (omega arith) r8 (ended .end .ensures) in
     c .told .ensures ∙ told-so (λ r. Good (r .0)) Refused recordOf _ _ (ended .end .result .code) (ended .end .result .place) (w .so)
+    ∙ sym (ap (λ o. answerOf (also recordOf o)) (sized-fields packet 5 greatest (a .lead) s (λ z. (omega (arith, low .if1 .left), omega (arith, high .if2 .left)))))
 
 pub fields-spec : {M : Type 1} → statement M
 fields-spec =
     tie.close
     (tie.spec
+    none-requires
+    choose-requires
     returns
     returns-2
     sub-content

@@ -7,20 +7,16 @@ use lib.ListN.{length, take, drop, getD}
 use Rattle.bits.specs.Bits.{Bytes, bitsOf}
 use Rattle.bits.specs.laws.Bytes.{length-bits}
 use Rattle.bits.specs.laws.Runs.{run-whole}
-use Rattle.format.specs.Fmt.{accepted, also, end, read}
-use Rattle.format.specs.Message.{codeOf, readMessage}
-use Rattle.format.specs.Promises.{answered}
+use Rattle.format.specs.Fmt.{accepted, end, read}
 use Rattle.format.specs.Words.{any, only, kept}
-use Rattle.format.specs.laws.Answers.{numbered}
-use Rattle.format.specs.laws.Correcting.{accepted-by, refused-by}
 use Rattle.format.specs.laws.Entries.{entries}
 use Rattle.format.specs.laws.Extent.{extent, extent-laid}
 use Rattle.format.specs.laws.Held.{held}
 use Rattle.format.specs.laws.Places.{value-at}
 use Rattle.format.specs.laws.Round.{read-write}
 use Rattle.format.specs.laws.Runs.{run-stands}
+use Rattle.format.specs.laws.Showing.{shows-none, shows-values}
 use Rattle.format.specs.laws.Whole.{was}
-use Rattle.format.specs.laws.Zero.{read-zero-message}
 use Rattle.packet_reading.specs.Promises.{Reads, Shows}
 use Rattle.packet_reading.specs.Packet.{packet, packets, recordOf, numberOf}
 use Rattle.packet_reading.specs.declared.Answer.{Answer}
@@ -29,18 +25,15 @@ use Rattle.packet_reading.specs.laws.Demands.{family}
 use Rattle.packet_reading.specs.laws.Sound.{listed}
 
 module _ (s : List ℕ) {a : Answer} {n : ℕ} (reads : Reads s a) (number : n ≡ numberOf a) where
-  code : n ≡ codeOf (readMessage packets s)
-  code = number ∙ ap numberOf reads ∙ numbered (λ r. Good (r .0)) Refused recordOf numberOf (λ r. refl) (λ c. refl) (readMessage packets s)
-
   -- a refused packet shows nothing
   pub hidden : (n ≡ 0 → ⊥) → Shows s []
-  hidden h = let (p, e) = refused-by (readMessage packets s) code h in ap (λ o. answered (λ r. r .1) (λ n. []) (also recordOf o)) (sym e)
+  hidden = shows-none packets (family .judged) (λ r. Good (r .0)) Refused recordOf numberOf (λ r. refl) (λ c. refl) (λ r. r .1) [] s reads number
 
   -- A good packet shows its content.
   pub shown : Bytes s → n ≡ 0 → (4 ≤ length s) × Shows s (take (length s - 4) (drop 4 s))
   unfolding packets packet recordOf entries
   shown fine z =
-      let (vs, e) = accepted-by (readMessage packets s) code (λ p. read-zero-message packets s p (family .judged)) z in
+      let (vs, e, is-shown) = shows-values packets (family .judged) (λ r. Good (r .0)) Refused recordOf numberOf (λ r. refl) (λ c. refl) (λ r. r .1) [] s reads number z in
       let b = bitsOf s in
       let walked : read packet [] 0 b ≡ accepted vs = was packets s vs e .walked in
       let w = read-write packet [] 0 vs b walked in
@@ -50,5 +43,5 @@ module _ (s : List ℕ) {a : Answer} {n : ℕ} (reads : Reads s a) (number : n �
       let is = value-at 7 packet (entries 0 8 vs) b (walked ∙ ap accepted (sym (listed vs h))) (n * 8) (only (n * 8) 4 any) kept end refl in
       let left : n ≡ length s - 4 = omega (arith, size) in (
         omega (arith, size),
-        sym (ap (λ o. answered (λ r. r .1) (λ n. []) (also recordOf o)) e ∙ run-stands s 32 n (getD vs 7 0) (omega (arith, size)) is ∙ run-whole s 4 n fine (omega (arith, size)) ∙ ap (λ k. take k (drop 4 s)) left),
+        sym (is-shown ∙ run-stands s 32 n (getD vs 7 0) (omega (arith, size)) is ∙ run-whole s 4 n fine (omega (arith, size)) ∙ ap (λ k. take k (drop 4 s)) left),
       )

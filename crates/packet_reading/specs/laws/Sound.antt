@@ -13,7 +13,7 @@ use Rattle.format.specs.Words.{_‥_, only, kept}
 use Rattle.format.specs.laws.Entries.{entries, held-entries}
 use Rattle.format.specs.laws.First.{led-between}
 use Rattle.format.specs.laws.Held.{Held, held, exactly}
-use Rattle.format.specs.laws.Lead.{unled}
+use Rattle.format.specs.laws.Lead.{read-led}
 use Rattle.format.specs.laws.Places.{value-at}
 use Rattle.format.specs.laws.Round.{read-write}
 use Rattle.packet_reading.specs.Packet.{version, greatest, packet, packets}
@@ -56,5 +56,4 @@ sized s e = led-between 5 5 greatest (λ s. eqb (fieldAt s 0 8) 0xE1 && eqb (fie
 
 -- and so has a packet that is read
 pub read-sized : (s : List ℕ) → codeOf (readMessage packets s) ≡ 0 → (5 ≤ length s) × (length s ≤ greatest)
-unfolding readMessage
-read-sized s e = sized s (unled (packets .lead s) _ e)
+read-sized s e = sized s (read-led packets s e)

@@ -8,9 +8,8 @@ use lib.ListN.{length, take, drop, length-drop}
 use lib.Seq.{length-take-le}
 use Rattle.bits.specs.Bits.{Bytes}
 use Rattle.format.specs.Fmt.{Out, accepted, refused, also}
-use Rattle.format.specs.Message.{readMessage}
 use Rattle.format.specs.Promises.{readRecord}
-use Rattle.format.specs.laws.Answers.{numbered}
+use Rattle.format.specs.laws.Answers.{read-code}
 use Rattle.packet_reading.specs.Packet.{greatest, packets, recordOf, answerOf, numberOf}
 use Rattle.packet_reading.specs.Promises.{Reads}
 use Rattle.packet_reading.specs.laws.Demands.{good}
@@ -25,7 +24,7 @@ use Rattle.packet_rows.specs.Packet.{rowOf, numbersOf}
 module _ (s : List ℕ) (r : Packet) (reads : Reads s (Good r)) where
   -- a good packet has a packet's size
   pub good-size : (5 ≤ length s) × (length s ≤ greatest)
-  good-size = read-sized s (sym (ap numberOf reads ∙ numbered (λ r. Good (r .0)) Refused recordOf numberOf (λ r. refl) (λ c. refl) (readMessage packets s)))
+  good-size = read-sized s (sym (read-code (λ r. Good (r .0)) Refused recordOf numberOf (λ r. refl) (λ c. refl) packets s reads refl))
 
   pub good-numbers : Bytes s → numbersOf s ≡ accepted (rowOf r (length s - 4))
   good-numbers fine =

@@ -1,13 +1,11 @@
 -- `correct` is the correction in place of every family, with the frame's fields read before and behind the change and the table of places of its count.
-use mathlib.Core.Path.{refl, sym, ap, _∙_}
+use mathlib.Core.Path.{refl, ap, _∙_}
 use mathlib.Core.List.{[]}
 use Rattle.bits.specs.Bits.{bitsOf}
-use Rattle.frame.specs.laws.Sound.{read-size}
+use Rattle.frame.specs.laws.Sound.{same-size}
 use Rattle.format.specs.Fmt.{also, read}
-use Rattle.format.specs.Message.{readMessage}
-use Rattle.format.specs.laws.Answers.{numbered}
-use Rattle.format.specs.laws.Correcting.{admitted-clean}
-use Rattle.format.specs.laws.Corrections.{family-early, family-late}
+use Rattle.format.specs.laws.Lead.{exact-fields}
+use Rattle.format.specs.laws.Corrections.{family-early, family-late, goes-on}
 use Rattle.txhz_reading.specs.Txhz.{letters, txhz, txhzs, recordOf, answerOf, numberOf}
 use Rattle.txhz_reading.specs.laws.Correction.{looked-stands, looked-slim}
 use Rattle.txhz_reading.specs.laws.Demands.{family}
@@ -65,20 +63,7 @@ inner-requires : tie.Need-inner-requires
 inner-requires c κs = search needs
 
 fields-requires : tie.Need-fields-requires
-unfolding txhzs
-fields-requires c κs =
-    let swap = c .before .before .before .before in
-    let test = swap .before .before in
-    let admits = test .before in
-    let number = admits .before in
-    let look = number .before in
-    let table = look .before .before .before in
-    let count = table .before in
-    let was = count .before in
-    let a = was .before .before .before .args in
-    let s = a .buf .now in
-    let clean = admitted-clean (number .refusal .result) (look .look-up .result .width) (a .value) (sym (admits .admits .ensures) ∙ test .if1 .left) in
-    λ z. read-size letters 35 txhz s (swap .swap .last .0) (sym (number .refusal .ensures ∙ ap numberOf (was .read .ensures) ∙ numbered Good Refused recordOf numberOf (λ r. refl) (λ c. refl) (readMessage txhzs s)) ∙ clean) (swap .swap .kept .0) (c .inner .ensures)
+fields-requires c κs = search needs
 
 refusal-requires-2 : tie.Need-refusal-requires-2
 refusal-requires-2 c κs = search needs
@@ -110,11 +95,14 @@ returns-2 c =
     let was = count .before in
     let known = was .before .before in
     let a = known .before .args in
-    family-late family Good Refused numberOf (λ r. refl) (λ c. refl) (a .buf .now) (a .field) (a .value) _ _ (was .read .ensures) (number .refusal .ensures)
-    (looked-stands (a .buf .now) (a .field) (was .read .ensures) (count .count .ensures) (table .table .ensures) (look .look-up .ensures))
-    (looked-slim (a .buf .now) (a .field) (was .read .ensures) (count .count .ensures) (table .table .ensures) (look .look-up .ensures))
+    let s = a .buf .now in
+    let led = goes-on txhzs Good Refused recordOf numberOf (λ r. refl) (λ c. refl) s (was .read .ensures) (number .refusal .ensures) (look .look-up .result .width) (a .value) (admits .admits .ensures) (test .if1 .left) in
+    let sizes = exact-fields txhz 34 0 (inner .inner .result .now) (λ z. same-size letters 35 s (swap .swap .last .0) led (swap .swap .kept .0) (inner .inner .ensures)) in
+    family-late family Good Refused numberOf (λ r. refl) (λ c. refl) s (a .field) (a .value) _ _ (was .read .ensures) (number .refusal .ensures)
+    (looked-stands s (a .field) (was .read .ensures) (count .count .ensures) (table .table .ensures) (look .look-up .ensures))
+    (looked-slim s (a .field) (was .read .ensures) (count .count .ensures) (table .table .ensures) (look .look-up .ensures))
     (λ i. known .slice-known .given i .fits) (admits .admits .ensures) (test .if1 .left) (swap .swap .ensures)
-    (f .fields .ensures ∙ ap (λ b. answerOf (also recordOf (read txhz [] 0 (bitsOf b)))) (inner .inner .ensures)) (again .refusal2 .ensures) (settle .settle .ensures) (seal .seal .ensures)
+    (f .fields .ensures ∙ ap (λ o. answerOf (also recordOf o)) sizes ∙ ap (λ b. answerOf (also recordOf (read txhz [] 0 (bitsOf b)))) (inner .inner .ensures)) (again .refusal2 .ensures) (settle .settle .ensures) (seal .seal .ensures)
 
 pub correct-spec : {M : Type 1} → statement M
 correct-spec =

@@ -5,7 +5,7 @@ use Rattle.bits.specs.Bits.{bitsOf}
 use Rattle.frame.specs.laws.Sound.{first-size}
 use Rattle.format.specs.Fmt.{also, check, read}
 use Rattle.format.specs.Message.{fault}
-use Rattle.format.specs.laws.Lead.{read-first}
+use Rattle.format.specs.laws.Lead.{read-first, exact-fields}
 use Rattle.txhz_reading.specs.Txhz.{letters, txhz, txhzs, recordOf, answerOf}
 use borrow.Author.Needs.{needs}
 use Rattle.txhz_reading.proofs.read.Statement.{statement}
@@ -18,17 +18,18 @@ inner-requires : tie.Need-inner-requires
 inner-requires c κs = search needs
 
 fields-requires : tie.Need-fields-requires
-fields-requires c κs =
-    let first = c .before in
-    first-size letters 35 (first .before .before .args .s .now) (first .first .ensures) (c .inner .ensures)
+fields-requires c κs = search needs
 
 returns : tie.Need-returns
 unfolding txhzs
 returns c =
-    let s = c .before .before .before .before .args .s .now in
+    let inner = c .before in
+    let first = inner .before in
+    let s = first .before .before .args .s .now in
     c .fields .ensures
-    ∙ ap (λ b. answerOf (also recordOf (check (fault (c .before .before .first .result)) 0 (read txhz [] 0 (bitsOf b))))) (c .before .inner .ensures)
-    ∙ ap (λ o. answerOf (also recordOf o)) (sym (read-first txhzs s (c .before .before .first .ensures)))
+    ∙ ap (λ o. answerOf (also recordOf o)) (exact-fields txhz 34 (first .first .result) (inner .inner .result .now) (first-size letters 35 s (first .first .ensures) (inner .inner .ensures)))
+    ∙ ap (λ b. answerOf (also recordOf (check (fault (first .first .result)) 0 (read txhz [] 0 (bitsOf b))))) (inner .inner .ensures)
+    ∙ ap (λ o. answerOf (also recordOf o)) (sym (read-first txhzs s (first .first .ensures)))
 
 pub read-spec : {M : Type 1} → statement M
 read-spec = tie.close (tie.spec first-requires inner-requires fields-requires returns)

@@ -10,18 +10,14 @@ use Rattle.bits.specs.Bits.{Bytes, bitsOf}
 use Rattle.bits.specs.laws.Bytes.{length-bits}
 use Rattle.frame.specs.Frame.{bytesFor}
 use Rattle.frame.specs.laws.Content.{content-part}
-use Rattle.format.specs.Fmt.{accepted, also, end, pad, read}
-use Rattle.format.specs.Message.{codeOf, readMessage}
-use Rattle.format.specs.Promises.{answered}
-use Rattle.format.specs.laws.Answers.{numbered}
-use Rattle.format.specs.laws.Correcting.{accepted-by, refused-by}
+use Rattle.format.specs.Fmt.{accepted, end, pad, read}
 use Rattle.format.specs.laws.Places.{value-at}
 use Rattle.format.specs.laws.Entries.{entries}
 use Rattle.format.specs.laws.Held.{held}
 use Rattle.format.specs.laws.Round.{read-write}
 use Rattle.format.specs.Words.{any, _‥_, only, kept, fill}
+use Rattle.format.specs.laws.Showing.{shows-none, shows-values}
 use Rattle.format.specs.laws.Whole.{was}
-use Rattle.format.specs.laws.Zero.{read-zero-message}
 use Rattle.txsq_reading.specs.Promises.{Reads, Shows}
 use Rattle.txsq_reading.specs.Txsq.{txsq, txsqs, recordOf, numberOf}
 use Rattle.txsq_reading.specs.declared.Answer.{Answer}
@@ -29,18 +25,15 @@ use Rattle.txsq_reading.specs.declared.Answer.the-variants.{Good, Refuse
 use Rattle.txsq_reading.specs.laws.Demands.{family, listed, long, fit}
 
 module _ (s : List ℕ) {a : Answer} {n : ℕ} (reads : Reads s a) (number : n ≡ numberOf a) where
-  code : n ≡ codeOf (readMessage txsqs s)
-  code = number ∙ ap numberOf reads ∙ numbered (λ r. Good (r .0)) Refused recordOf numberOf (λ r. refl) (λ c. refl) (readMessage txsqs s)
-
   -- a refused frame shows nothing
   pub hidden : (n ≡ 0 → ⊥) → Shows s []
-  hidden h = let (p, e) = refused-by (readMessage txsqs s) code h in ap (λ o. answered (λ r. r .1) (λ n. []) (also recordOf o)) (sym e)
+  hidden = shows-none txsqs (family .judged) (λ r. Good (r .0)) Refused recordOf numberOf (λ r. refl) (λ c. refl) (λ r. r .1) [] s reads number
 
   -- A good frame shows its content.
   pub shown : Bytes s → n ≡ 0 → (18 ≤ length s) × Shows s (take (length s - 1 - 17) (drop 17 s))
   unfolding txsqs txsq recordOf entries
   shown fine z =
-      let (vs, e) = accepted-by (readMessage txsqs s) code (λ p. read-zero-message txsqs s p (family .judged)) z in
+      let (vs, e, is-shown) = shows-values txsqs (family .judged) (λ r. Good (r .0)) Refused recordOf numberOf (λ r. refl) (λ c. refl) (λ r. r .1) [] s reads number z in
       let b = bitsOf (take (length s - 1) s) in
       let walked : read txsq [] 0 b ≡ accepted vs = was txsqs s vs e .walked in
       let h = held txsq [] 0 vs b (read-write txsq [] 0 vs b walked) in
@@ -52,6 +45,5 @@ module _ (s : List ℕ) {a : Answer} {n : ℕ} (reads : Reads s a) (number : n �
       let (whole, _) = long b vs walked in
       let size : length s ≡ 17 + bytesFor l + 1 = omega (arith, whole, n, fit vs h) in (
         omega (arith, size),
-        sym (ap (λ o. answered (λ r. r .1) (λ n. []) (also recordOf o)) e
-            ∙ content-part s 17 1 l (getD vs 11 0) (getD vs 12 0) fine (lit< tt) size is filled),
+        sym (is-shown ∙ content-part s 17 1 l (getD vs 11 0) (getD vs 12 0) fine (lit< tt) size is filled),
       )

@@ -10,18 +10,16 @@ use lib.ListN.{length, take, drop, getD}
 use Rattle.bits.specs.Bits.{Bytes, bitsOf}
 use Rattle.frame.specs.Frame.{bytesFor}
 use Rattle.frame.specs.laws.Content.{content-part}
-use Rattle.format.specs.Fmt.{accepted, also, end, pad, read}
-use Rattle.format.specs.Message.{between, codeOf, readMessage}
-use Rattle.format.specs.Promises.{answered, readRecord}
-use Rattle.format.specs.laws.Answers.{numbered}
-use Rattle.format.specs.laws.Correcting.{accepted-by, refused-by}
+use Rattle.format.specs.Fmt.{accepted, end, pad, read}
+use Rattle.format.specs.Message.{between, readMessage}
+use Rattle.format.specs.Promises.{readRecord}
 use Rattle.format.specs.laws.Places.{value-at}
 use Rattle.format.specs.laws.Entries.{entries}
 use Rattle.format.specs.laws.Held.{held}
 use Rattle.format.specs.laws.Round.{also-inv, read-write}
 use Rattle.format.specs.Words.{any, _‥_, only, kept, num, fill}
+use Rattle.format.specs.laws.Showing.{shows-none, shows-values}
 use Rattle.format.specs.laws.Whole.{was}
-use Rattle.format.specs.laws.Zero.{read-zero-message}
 use Rattle.txxx_reading.specs.Promises.{Reads, Shows}
 use Rattle.txxx_reading.specs.Txxx.{txxx, txxxs, recordOf, numberOf}
 use Rattle.txxx_reading.specs.declared.Txxx.{Txxx}
@@ -30,18 +28,15 @@ use Rattle.txxx_reading.specs.declared.Answer.the-variants.{Good, Refuse
 use Rattle.txxx_reading.specs.laws.Demands.{family, listed, read-long}
 
 module _ (s : List ℕ) {a : Answer} {n : ℕ} (reads : Reads s a) (number : n ≡ numberOf a) where
-  code : n ≡ codeOf (readMessage txxxs s)
-  code = number ∙ ap numberOf reads ∙ numbered (λ r. Good (r .0)) Refused recordOf numberOf (λ r. refl) (λ c. refl) (readMessage txxxs s)
-
   -- a refused frame shows nothing
   pub hidden : (n ≡ 0 → ⊥) → Shows s []
-  hidden h = let (p, e) = refused-by (readMessage txxxs s) code h in ap (λ o. answered (λ r. r .1) (λ n. []) (also recordOf o)) (sym e)
+  hidden = shows-none txxxs (family .judged) (λ r. Good (r .0)) Refused recordOf numberOf (λ r. refl) (λ c. refl) (λ r. r .1) [] s reads number
 
   -- A good frame shows its content.
   pub shown : Bytes s → n ≡ 0 → (20 ≤ length s) × Shows s (take (length s - 2 - 18) (drop 18 s))
   unfolding txxxs txxx recordOf entries
   shown fine z =
-      let (vs, e) = accepted-by (readMessage txxxs s) code (λ p. read-zero-message txxxs s p (family .judged)) z in
+      let (vs, e, is-shown) = shows-values txxxs (family .judged) (λ r. Good (r .0)) Refused recordOf numberOf (λ r. refl) (λ c. refl) (λ r. r .1) [] s reads number z in
       let b = bitsOf (take (length s - 1) s) in
       let walked : read txxx [] 0 b ≡ accepted vs = was txxxs s vs e .walked in
       let l = getD vs 8 0 in
@@ -50,8 +45,7 @@ module _ (s : List ℕ) {a : Answer} {n : ℕ} (reads : Reads s a) (number : n �
       let filled = value-at 10 txxx (entries 0 12 vs) b entered (pad l) (only (pad l) 5 (0 ‥ 0)) kept (num 8 (0 ‥ 255) end) refl in
       let size : length s ≡ 18 + bytesFor l + 2 = omega (arith, read-long s vs e .1) in (
         omega (arith, size),
-        sym (ap (λ o. answered (λ r. r .1) (λ n. []) (also recordOf o)) e
-            ∙ content-part s 18 2 l (getD vs 9 0) (getD vs 10 0) fine (lit< tt) size is filled),
+        sym (is-shown ∙ content-part s 18 2 l (getD vs 9 0) (getD vs 10 0) fine (lit< tt) size is filled),
       )
 
 -- the mark stands before the seal

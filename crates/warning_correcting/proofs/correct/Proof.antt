@@ -1,10 +1,14 @@
 -- `correct` is the correction in place of every layout, with the warning's fields read before and behind the change and its table of numbers.
-use mathlib.Core.Path.{refl, sym, _∙_}
-use Rattle.bits.specs.Bits.{fieldAt}
-use Rattle.format.specs.laws.Answers.{fields-code, whole-code, clean-lead}
-use Rattle.format.specs.laws.Correcting.{admitted-clean, correct-early, correct-late}
+use mathlib.Core.Path.{refl, ap, _∙_}
+use mathlib.Core.List.{[]}
+use Rattle.bits.specs.Bits.{bitsOf, fieldAt}
+use Rattle.format.specs.laws.Answers.{numbered, read-code}
+use Rattle.format.specs.Fmt.{also, read}
+use Rattle.format.specs.laws.Lead.{exact-fields}
+use Rattle.format.specs.laws.Corrections.{goes-on}
+use Rattle.format.specs.laws.Correcting.{correct-early, correct-late}
 use Rattle.warning_reading.specs.Changed.{fieldOf}
-use Rattle.warning_reading.specs.Warning.{warnings, recordOf, numberOf}
+use Rattle.warning_reading.specs.Warning.{warning, warnings, recordOf, answerOf, numberOf}
 use Rattle.warning_reading.specs.laws.Correction.{thin}
 use Rattle.warning_reading.specs.laws.Demands.{family, looked-stands}
 use Rattle.warning_reading.specs.laws.Sound.{sound, sized}
@@ -13,16 +17,8 @@ use borrow.Author.Needs.{needs}
 use Rattle.warning_correcting.proofs.correct.Statement.{statement}
 use Rattle.warning_correcting.proofs.correct.Tie as tie
 
-lead-requires : tie.Need-lead-requires
-lead-requires c κs = search needs
-
-fields-requires : tie.Need-fields-requires
-fields-requires c κs =
-    let lead = c in
-    let known = lead .before .before in
-    let st = known .before in
-    let s = st .args .buf .now in
-    λ z. sized s (sym (c .lead .ensures) ∙ z)
+read-requires : tie.Need-read-requires
+read-requires c κs = search needs
 
 get-requires : tie.Need-get-requires
 get-requires c κs = search needs
@@ -53,39 +49,23 @@ unfolding warnings
 returns c =
     let test = c in
     let g = test .before in
-    let was = g .before in
-    let look = was .before in
+    let number = g .before in
+    let look = number .before in
     let get = look .before .before .before .before in
-    let f = get .before .before in
-    let lead = f .before in
-    let known = lead .before .before in
+    let was = get .before .before in
+    let known = was .before .before in
     let st = known .before in
     let a = st .args in
     let s = a .buf .now in
-    let reads = whole-code Good Refused recordOf numberOf (λ r. refl) (λ c. refl) warnings s _ _ _ (was .refusal .ensures) (f .fields .ensures) s refl (lead .lead .ensures) in
+    let reads = read-code Good Refused recordOf numberOf (λ r. refl) (λ c. refl) warnings s (was .read .ensures) (number .refusal .ensures) in
     correct-early warnings sound (family .judged) s (fieldOf (fieldAt s 56 4) (a .field)) (a .value) _ _ reads (looked-stands s (get .get .ensures) (a .field) (look .look-up-of .ensures)) (thin _ (a .field) (look .look-up-of .ensures))
     (g .admits .ensures) (c .if1 .taken)
 
 swap-requires : tie.Need-swap-requires
 swap-requires c κs = search needs
 
-fields-requires-2 : tie.Need-fields-requires-2
-unfolding warnings
-fields-requires-2 c κs =
-    let swap = c .before .before .before in
-    let test = swap .before .before in
-    let g = test .before in
-    let was = g .before in
-    let look = was .before in
-    let get = look .before .before .before .before in
-    let f = get .before .before in
-    let lead = f .before in
-    let known = lead .before .before in
-    let st = known .before in
-    let a = st .args in
-    let s = a .buf .now in
-    let clean = admitted-clean (was .refusal .result) (look .look-up-of .result .width) (a .value) (sym (g .admits .ensures) ∙ test .if1 .left) in
-    λ z. swap .swap .kept .0 ∙ sized s (sym (lead .lead .ensures) ∙ clean-lead Good Refused recordOf numberOf (λ r. refl) (λ c. refl) warnings s _ _ _ (was .refusal .ensures) (f .fields .ensures) clean)
+fields-requires : tie.Need-fields-requires
+fields-requires c κs = search needs
 
 refusal-requires-2 : tie.Need-refusal-requires-2
 refusal-requires-2 c κs = search needs
@@ -101,30 +81,30 @@ unfolding warnings
 returns-2 c =
     let settle = c .before .before in
     let again = settle .before in
-    let f2 = again .before .before in
-    let swap = f2 .before .before .before .before in
+    let f = again .before .before in
+    let swap = f .before .before .before .before in
     let test = swap .before .before in
     let g = test .before in
-    let was = g .before in
-    let look = was .before in
+    let number = g .before in
+    let look = number .before in
     let get = look .before .before .before .before in
-    let f = get .before .before in
-    let lead = f .before in
-    let known = lead .before .before in
+    let was = get .before .before in
+    let known = was .before .before in
     let st = known .before in
     let a = st .args in
     let s = a .buf .now in
-    let reads = whole-code Good Refused recordOf numberOf (λ r. refl) (λ c. refl) warnings s _ _ _ (was .refusal .ensures) (f .fields .ensures) s refl (lead .lead .ensures) in
+    let reads = read-code Good Refused recordOf numberOf (λ r. refl) (λ c. refl) warnings s (was .read .ensures) (number .refusal .ensures) in
+    let long = sized s (goes-on warnings Good Refused recordOf numberOf (λ r. refl) (λ c. refl) s (was .read .ensures) (number .refusal .ensures) (look .look-up-of .result .width) (a .value) (g .admits .ensures) (test .if1 .left)) in
+    let sizes = exact-fields warning 23 0 (swap .swap .last .0) (λ z. swap .swap .kept .0 ∙ long) in
     correct-late warnings sound (family .judged) s (fieldOf (fieldAt s 56 4) (a .field)) (a .value) _ _ reads (looked-stands s (get .get .ensures) (a .field) (look .look-up-of .ensures)) (thin _ (a .field) (look .look-up-of .ensures))
     (λ i. known .slice-known .given i .fits) (g .admits .ensures) (test .if1 .left) (swap .swap .ensures)
-    (fields-code Good Refused recordOf numberOf (λ r. refl) (λ c. refl) warnings _ 0 _ _ (again .refusal2 .ensures) (f2 .fields2 .ensures)) (settle .settle .ensures) refl
+    (again .refusal2 .ensures ∙ ap numberOf (f .fields .ensures ∙ ap (λ o. answerOf (also recordOf o)) sizes) ∙ numbered Good Refused recordOf numberOf (λ r. refl) (λ c. refl) (read warning [] 0 (bitsOf (swap .swap .last .0)))) (settle .settle .ensures) refl
 
 pub correct-spec : {M : Type 1} → statement M
 correct-spec =
     tie.close
     (tie.spec
-    lead-requires
-    fields-requires
+    read-requires
     get-requires
     slice-aggregate-look-up-of
     slice-aggregate-look-up-of-2
@@ -135,7 +115,7 @@ correct-spec =
     same-length
     returns
     swap-requires
-    fields-requires-2
+    fields-requires
     refusal-requires-2
     settle-requires
     same-length-2

@@ -1,15 +1,14 @@
 -- `fields` walks the warning as its layout stands: one step a field and one law for the body, then the record is that of the values.
 use mathlib.Core.Path.{_≡_, refl, sym, ap, _∙_}
 use mathlib.Core.Bool.{cond}
-use mathlib.Core.List.{[]}
 use lib.Dec.{eqb, lit<, lit≤}
-use Rattle.bits.specs.Bits.{bitsOf}
 use Rattle.bodies.specs.Bodies.{kindOf, bodyKind}
 use Rattle.bodies.specs.laws.Walking.{body-read, read-kind}
 use Rattle.format.specs.Fmt.{also, read}
 use Rattle.format.specs.Words.{_‥_}
 use Rattle.format.specs.laws.Answers.{told-so}
-use Rattle.format.specs.laws.Lead.{held-back}
+use native.Mathlib.Omega.{arith}
+use Rattle.format.specs.laws.Lead.{exact-fields, other-size}
 use Rattle.layout.specs.laws.Reading.{start, step-code, step-fill, step-num, step-decide}
 use Rattle.layout.specs.laws.Walked.{finish}
 use Rattle.time.specs.laws.Walking.{time-read}
@@ -23,12 +22,18 @@ use Rattle.warning_reading.proofs.fields.Statement.{statement}
 use Rattle.warning_reading.proofs.fields.Tie as tie
 use Rattle.time.proofs.read.Reads as read-reads′
 
+none-requires : tie.Need-none-requires
+none-requires c κs = search needs
+
+choose-requires : tie.Need-choose-requires
+choose-requires c κs = search needs
+
 returns : tie.Need-returns
 returns c =
-    let i = c .before .before in
-    let a = i .args in
-    let n : a .lead ≡ 0 → ⊥ = λ z. c .if1 .taken (i .pre z) in
-    sym (ap (λ o. answerOf (also recordOf o)) (held-back (a .lead) (read warning [] 0 (bitsOf (a .s .now))) n))
+    let test = c .before .before in
+    let a = test .before .before .args in
+    ap Refused (c .choose .ensures ∙ ap (λ x. cond x 1 (a .lead)) (c .before .none .ensures))
+    ∙ sym (ap (λ o. answerOf (also recordOf o)) (other-size warning 23 23 (a .lead) (a .s .now) (λ l u. test .if1 .taken (omega (arith, l, u)))))
 
 begin-requires : tie.Need-begin-requires
 begin-requires c κs = search needs
@@ -115,7 +120,8 @@ returns-2 c =
     let n1 = n2 .before .before in
     let code = n1 .before in
     let begin = code .before in
-    let st = begin .before .before .before in
+    let test = begin .before in
+    let st = test .before .before in
     let a = st .args in
     let s = a .s .now in
     let r0 = start warning 0 (a .lead) s (begin .begin .ensures) in
@@ -140,11 +146,14 @@ returns-2 c =
     c .told .ensures
     ∙ (λ i. told (record { repeat = n1 .num .result .v; source = n2 .num2 .result .v; longitude = n3 .num3 .result .v; latitude = n4 .num4 .result .v; body = body .read .result .body; time = of .of .ensures i; hours = n5 .num5 .result .v }))
     ∙ ap told (sym made) ∙ told-so Good Refused recordOf _ _ (ended .end .result .code) (ended .end .result .place) (w .so)
+    ∙ sym (ap (λ o. answerOf (also recordOf o)) (exact-fields warning 23 (a .lead) s (λ z. test .if1 .left)))
 
 pub fields-spec : {M : Type 1} → statement M
 fields-spec =
     tie.close
     (tie.spec
+    none-requires
+    choose-requires
     returns
     begin-requires
     code-requires

@@ -1,8 +1,8 @@
 -- `read` is the fields behind the first tests.
 use mathlib.Core.Path.{sym, ap, _∙_}
-use Rattle.format.specs.Fmt.{also, read}
-use Rattle.format.specs.laws.Lead.{read-first}
-use Rattle.warning_reading.specs.Warning.{warnings, recordOf, answerOf}
+use Rattle.format.specs.Fmt.{also}
+use Rattle.format.specs.laws.Lead.{read-first, exact-fields}
+use Rattle.warning_reading.specs.Warning.{warning, warnings, recordOf, answerOf}
 use Rattle.warning_reading.specs.laws.Sound.{sized}
 use borrow.Author.Needs.{needs}
 use Rattle.warning_reading.proofs.read.Statement.{statement}
@@ -12,13 +12,14 @@ lead-requires : tie.Need-lead-requires
 lead-requires c κs = search needs
 
 fields-requires : tie.Need-fields-requires
-fields-requires c κs = let s = c .before .before .args .s .now in λ z. sized s (sym (c .lead .ensures) ∙ z)
+fields-requires c κs = search needs
 
 returns : tie.Need-returns
 unfolding warnings
 returns c =
-    let s = c .before .before .before .args .s .now in
-    c .fields .ensures ∙ ap (λ o. answerOf (also recordOf o)) (sym (read-first warnings s (c .before .lead .ensures)))
+    let lead = c .before in
+    let s = lead .before .before .args .s .now in
+    c .fields .ensures ∙ ap (λ o. answerOf (also recordOf o)) (exact-fields warning 23 (lead .lead .result) s (λ z. sized s (sym (lead .lead .ensures) ∙ z)) ∙ sym (read-first warnings s (lead .lead .ensures)))
 
 pub read-spec : {M : Type 1} → statement M
 read-spec = tie.close (tie.spec lead-requires fields-requires returns)

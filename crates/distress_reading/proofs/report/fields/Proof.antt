@@ -1,15 +1,15 @@
 -- `fields` walks the report as its layout stands: one step a field, then the record is that of the values.
-use mathlib.Core.Path.{_≡_, refl, sym, ap, _∙_}
+use mathlib.Core.Path.{refl, sym, ap, _∙_}
 use Prim.Native.Nat.{_≤_, _<_, _^_}
 use mathlib.Core.List.{[], _∷_}
 use lib.Dec.{eqb, lit<, lit≤}
 use Rattle.number.specs.Sign.{spellOf}
 use Rattle.layout.specs.laws.Reading.{start, step-code, step-num, step-signed, step-fill}
-use Rattle.bits.specs.Bits.{bitsOf}
-use Rattle.format.specs.Fmt.{also, read}
+use Rattle.format.specs.Fmt.{also}
 use mathlib.Core.Bool.{cond}
 use Rattle.layout.specs.laws.Walked.{finish, same-values}
-use Rattle.format.specs.laws.Lead.{held-back}
+use native.Mathlib.Omega.{arith}
+use Rattle.format.specs.laws.Lead.{exact-fields, other-size}
 use Rattle.number.specs.laws.Sign.{spell-int}
 use mir.Syntax.{w32}
 use mir.ValLaws.{toZ-ofZ}
@@ -20,12 +20,18 @@ use borrow.Author.Needs.{needs}
 use Rattle.distress_reading.proofs.report.fields.Statement.{statement}
 use Rattle.distress_reading.proofs.report.fields.Tie as tie
 
+none-requires : tie.Need-none-requires
+none-requires c κs = search needs
+
+choose-requires : tie.Need-choose-requires
+choose-requires c κs = search needs
+
 returns : tie.Need-returns
 returns c =
-    let i = c .before .before in
-    let a = i .args in
-    let n : a .lead ≡ 0 → ⊥ = λ z. c .if1 .taken (i .pre z) in
-    sym (ap (λ o. answerOf (also reportOf o)) (held-back (a .lead) (read report [] 0 (bitsOf (a .s .now))) n))
+    let test = c .before .before in
+    let a = test .before .before .args in
+    ap Refused (c .choose .ensures ∙ ap (λ x. cond x 1 (a .lead)) (c .before .none .ensures))
+    ∙ sym (ap (λ o. answerOf (also reportOf o)) (other-size report 17 17 (a .lead) (a .s .now) (λ l u. test .if1 .taken (omega (arith, l, u)))))
 
 begin-requires : tie.Need-begin-requires
 begin-requires c κs = search needs
@@ -114,7 +120,8 @@ returns-2 c =
     let c1 = c2 .before .before in
     let c0 = c1 .before in
     let cs = c0 .before in
-    let a = cs .before .before .before .args in
+    let test = cs .before in
+    let a = test .before .before .args in
     let s = a .s .now in
     let r0 = start report 0 (a .lead) s (cs .begin .ensures) in
     let r1 = step-code 16 (lit≤ tt) (lit< tt) 0xBDC1 r0 (c0 .code .ensures) in
@@ -133,11 +140,14 @@ returns-2 c =
     let north = ap (spellOf (2 ^ 24)) (toZ-ofZ w32 (c5 .int2 .result) (record { sfits = c5 .int2 .ok }) ∙ c5 .int2 .ensures) ∙ spell-int (2 ^ 24) (c4 .signed2 .result .v) (lit≤ tt) refl (c4 .signed2 .ensures .1) in
     let w = same-values (λ i. 0xBDC1 ∷ c1 .num .result .v ∷ sym east i ∷ sym north i ∷ c6 .num2 .result .v ∷ c7 .num3 .result .v ∷ c8 .num4 .result .v ∷ c9 .num5 .result .v ∷ c10 .num6 .result .v ∷ c11 .num7 .result .v ∷ 0 ∷ []) r12 in
     c .told .ensures ∙ ap (λ r. cond (eqb (ended .end .result .code) 0) (Good r) (Refused (ended .end .result .code))) (sym (again _ (rw east (c2 .signed .ensures .1)) (rw north (c4 .signed2 .ensures .1)))) ∙ told-so Good Refused reportOf _ _ (ended .end .result .code) (ended .end .result .place) (w .so)
+    ∙ sym (ap (λ o. answerOf (also reportOf o)) (exact-fields report 17 (a .lead) s (λ z. test .if1 .left)))
 
 pub fields-spec : {M : Type 1} → statement M
 fields-spec =
     tie.close
     (tie.spec
+    none-requires
+    choose-requires
     returns
     begin-requires
     code-requires
