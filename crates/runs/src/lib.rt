@@ -70,13 +70,13 @@ fn pour(buf: &mut [u8], at: usize, t: &[u8])
     let first = 8 - left;
     let whole = t.len() - 1;
     let end = at / 8 + t.len();
-    bits::write(buf, at, first, bits::read(t, 0, first));
+    bits::put(buf, at, first, bits::get(t, 0, first));
     slide(t, first, whole, buf, at / 8 + 1);
-    bits::write(
+    bits::put(
         &mut buf[end..],
         0,
         left,
-        bits::read(&t[whole..], first, left),
+        bits::get(&t[whole..], first, left),
     );
 }
 
