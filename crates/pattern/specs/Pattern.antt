@@ -3,7 +3,7 @@ use Prim.Native.Nat.{ℕ, _-_}
 use mathlib.Core.Path.{_≡_}
 use mathlib.Core.Bool.{Bool, true, false, cond, not, _&&_}
 use mathlib.Core.List.{List, [], _∷_, _++_}
-use lib.Dec.{eqb}
+use lib.Dec.{leb, eqb}
 use lib.ListN.{length, take, drop, getD}
 use Rattle.bits.specs.Xor.{xorOf}
 use Rattle.format.specs.Fmt.{Out, accepted, refused, orBad, check}
@@ -95,3 +95,7 @@ refusalOf (Refuses c) = c
 -- w at the front of a lent buffer that then holds t, and past it what s had there
 abbrev pub Front : List ℕ → List ℕ → List ℕ → Type 0
 Front w s t = t ≡ w ++ drop (length w) s
+
+-- the call that lays w over the front of a lent buffer s: where there is room, which r says; else every byte stays
+abbrev pub Laid : List ℕ → List ℕ → Bool → List ℕ → Type 0
+Laid w s r t = (r ≡ leb (length w) (length s)) × (t ≡ cond r (w ++ drop (length w) s) s)

@@ -3,7 +3,7 @@ ghost use mathlib.Core.Path.{_≡_};
 ghost use Prim.Native.Nat.{_+_, _≤_};
 ghost use lib.ListN.{length};
 ghost use lib.Seq.{paste};
-ghost use Rattle.pattern.specs.Pattern.{Front, opening, summedUp};
+ghost use Rattle.pattern.specs.Pattern.{Laid, opening, summedUp};
 
 // Puts the bytes of a part at a place of the buffer.
 fn put(buf: &mut [u8], at: usize, part: &[u8])
@@ -17,11 +17,20 @@ fn put(buf: &mut [u8], at: usize, part: &[u8])
     }
 }
 
-// Lays the sentence of an address's digits and of the report's 17 bytes over the buffer's front.
-pub fn lay(buf: &mut [u8], digits: &[u8], bytes: &[u8])
-    requires { ⌜ (length (now bytes) ≡ 17) × (53 + length (now digits) ≤ length (now buf)) ⌝ }
-    ensures { λ _. ⌜ Front (summedUp (opening (now (digits .entry)) (now (bytes .entry)))) (now (buf .entry)) (now (buf .exit)) ⌝ }
+// All of a sentence but its address.
+pub const AROUND: usize = 53;
+
+// Lays the sentence of an address's digits and of the report's bytes over the buffer's front. Where there is no room for it,
+// says so and leaves every byte.
+pub fn lay(buf: &mut [u8], digits: &[u8], bytes: [u8; 17]) -> bool
+    ensures { λ r. ⌜ Laid (summedUp (opening (now (digits .entry)) bytes)) (now (buf .entry)) r (now (buf .exit)) ⌝ }
 {
+    if buf.len() < AROUND {
+        return false;
+    }
+    if buf.len() - AROUND < digits.len() {
+        return false;
+    }
     let inside = spelling::hex(bytes);
     let mark = 7 + digits.len();
     let star = mark + 41;
@@ -31,4 +40,5 @@ pub fn lay(buf: &mut [u8], digits: &[u8], bytes: &[u8])
     put(buf, mark + 7, &inside);
     let last = spelling::closing(bits::xor(&buf[1..star]));
     put(buf, star, &last);
+    true
 }

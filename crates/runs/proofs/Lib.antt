@@ -1,4 +1,3 @@
--- What the proofs of `byte`, `slide` and `pour` cite.
-mod Pairs
+-- What the proofs of `slide` and `pour` cite.
 mod Sliding
 mod Pouring

@@ -1,5 +1,5 @@
 -- What `pour` makes of its three parts: the end of one byte, whole bytes, and the start of one, each put in right behind the one before.
-use mathlib.Core.Bool.{Bool}
+use mathlib.Core.Bool.{Bool, cond}
 use mathlib.Core.List.{List, [], _∷_, _++_, append-assoc, append-nil}
 use mathlib.Core.Path.{_≡_, sym, ap, _∙_}
 use Prim.Native.Nat.{ℕ, _+_, _*_, _-_, _/_, _%_, _≤_, _<_}
@@ -8,10 +8,16 @@ use native.Mathlib.Omega.{arith}
 use lib.ListN.{length, take, drop, length-append, length-take, length-drop, take-append-drop, drop-of-length-le}
 use lib.Seq.{take-at, drop-at, take-all, take-add, drop-drop, length-take-le}
 use Rattle.bits.specs.Bits.{Bytes, bitsOf, fieldAt, putAt, bytesAt, putBytesAt}
+use Rattle.bits.specs.Answers.{got, puttable}
+use Rattle.bits.specs.laws.Answers.{got-fits, put-done}
 use Rattle.bits.specs.laws.Digits.{bits-nil}
 use Rattle.bits.specs.laws.Bytes.{length-bits, bits-append}
-use Rattle.bits.specs.laws.Fields.{field-bits, length-put, bits-put, bits-take, bits-drop}
+use Rattle.bits.specs.laws.Fields.{field-bits, field-lt, length-put, bits-put, bits-take, bits-drop}
 use Rattle.bits.specs.laws.Runs.{length-run, bits-run, put-run-is}
+
+-- what a call of `bits::put` with the result r, that left x, promises
+abbrev Put : List ℕ → ℕ → ℕ → ℕ → Bool → List ℕ → Type 0
+Put s at w v r x = (r ≡ puttable s at w v) × (x ≡ cond r (putAt s at w v) s)
 
 -- the bits b, with those from `at` on made l
 abbrev over : ℕ → List Bool → List Bool → List Bool
@@ -105,17 +111,25 @@ module _ (s : List ℕ) (at : ℕ) (t : List ℕ) (some : 0 < length t) (fits : 
       rw (e, ← take-add first (whole * 8) (bitsOf t), ← take-add (first + whole * 8) (at % 8) (bitsOf t))
       (take-all (first + whole * 8 + at % 8) (bitsOf t) (omega (arith, length-bits t)))
 
-  pub poured : (u v : ℕ) (s1 s2 x : List ℕ)
-      → u ≡ fieldAt t 0 first
-      → s1 ≡ putAt s at first u
+  pub poured : (u v : ℕ) (b1 b2 : Bool) (s1 s2 x : List ℕ)
+      → u ≡ got t 0 first
+      → Put s at first u b1 s1
       → s2 ≡ take (at / 8 + 1) s1 ++ (bytesAt t first whole ++ drop (at / 8 + 1 + whole) s1)
-      → v ≡ fieldAt (take (length t - whole) (drop whole t)) first (at % 8)
-      → x ≡ putAt (take (length s2 - end) (drop end s2)) 0 (at % 8) v
+      → v ≡ got (take (length t - whole) (drop whole t)) first (at % 8)
+      → Put (take (length s2 - end) (drop end s2)) 0 (at % 8) v b2 x
       → Bytes (take end s2 ++ (x ++ drop (length s2 - end) (drop end s2)))
       → take end s2 ++ (x ++ drop (length s2 - end) (drop end s2)) ≡ putBytesAt s at t
-  poured u v s1 s2 x read1 e1 e2 read2 e3 bytes =
+  poured u v b1 b2 s1 s2 x get1 put1 e2 get2 put2 bytes =
+      let last = take (length t - whole) (drop whole t) in
+      let tail = take (length s2 - end) (drop end s2) in
+      let read1 = get1 ∙ got-fits t 0 first (omega arith) (omega arith) in
+      let e1 = put-done s at first u b1 s1 put1 (omega arith) (omega arith) (omega (arith, read1, field-lt t 0 first)) .1 in
       let here : length s1 ≡ length s = ap length e1 ∙ length-put s at first u in
       let long : length s2 ≡ length s = ap length e2 ∙ simp (length-append, length-run, length-take, length-drop) (omega arith) in
+      let read2 = get2 ∙ got-fits last first (at % 8) (omega arith) (simp (length-take, length-drop) (omega arith)) in
+      let e3 =
+      put-done tail 0 (at % 8) v b2 x put2 (omega arith) (simp (length-take, length-drop) (omega arith)) (omega (arith, read2, field-lt last first (at % 8))) .1
+      in
       put-run-is s at t fits (take end s2 ++ (x ++ drop (length s2 - end) (drop end s2))) bytes
       (rw (e3, read2, bits-ended s2 end (at % 8) t whole first (omega arith) (omega arith) (omega arith) (omega arith))
       (rw (

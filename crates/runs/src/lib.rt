@@ -2,10 +2,11 @@
 ghost use mathlib.Core.Bool.{cond};
 ghost use mathlib.Core.List.{_++_};
 ghost use mathlib.Core.Path.{_≡_};
-ghost use Prim.Native.Nat.{_+_, _*_, _/_, _%_, _^_, _≤_, _<_};
+ghost use Prim.Native.Nat.{_+_, _*_, _/_, _≤_, _<_};
 ghost use lib.ListN.{length, take, drop};
 ghost use Rattle.bits.specs.Answers.{spanned, gettable};
-ghost use Rattle.bits.specs.Bits.{fieldAt, bytesAt, putBytesAt};
+ghost use Rattle.bits.specs.Bits.{bytesAt, putBytesAt};
+ghost use Rattle.runs.specs.Across.{acrossOf};
 
 // The `n` bytes that start at bit `at` of `s`, which need be no byte's first, into the front of `out`. Where they do not lie
 // within `s`, or `out` is too short, says so and leaves every byte.
@@ -44,7 +45,7 @@ pub fn spans(len: usize, at: usize, n: usize) -> bool
     if n > len {
         return false;
     }
-    at / 8 + (at % 8 + 7) / 8 <= len - n
+    bytes_to(at) <= len - n
 }
 
 // The `n` bytes that start at bit `at` of `s`, into `out` from its byte `to` on.
@@ -53,9 +54,11 @@ fn slide(s: &[u8], at: usize, n: usize, out: &mut [u8], to: usize)
     ensures { λ _. ⌜ now (out .exit)
         ≡ take to (now (out .entry)) ++ (bytesAt (now (s .entry)) at n ++ drop (to + n) (now (out .entry))) ⌝ }
 {
+    let high = at / 8;
+    let low = bytes_to(at);
     let mut i = 0;
     while i < n {
-        out[to + i] = byte(s, at, i);
+        out[to + i] = across(s[high + i], s[low + i], at);
         i += 1;
     }
 }
@@ -70,33 +73,28 @@ fn pour(buf: &mut [u8], at: usize, t: &[u8])
     let first = 8 - left;
     let whole = t.len() - 1;
     let end = at / 8 + t.len();
-    bits::write(buf, at, first, bits::read(t, 0, first));
+    bits::put(buf, at, first, bits::get(t, 0, first));
     slide(t, first, whole, buf, at / 8 + 1);
-    bits::write(
+    bits::put(
         &mut buf[end..],
         0,
         left,
-        bits::read(&t[whole..], first, left),
+        bits::get(&t[whole..], first, left),
     );
 }
 
-// The byte `i` of the run that starts at bit `at` of `s`. It lies in two neighbour bytes of `s`, or wholly in one, which then
-// stands for both. In a loop over `i` the compiler works out once what hangs on `at` alone.
-pub fn byte(s: &[u8], at: usize, i: usize) -> u8
-    requires { ⌜ at + (i + 1) * 8 ≤ length (now s) * 8 ⌝ }
-    ensures { λ r. ⌜ r ≡ fieldAt (now (s .entry)) (at + i * 8) 8 ⌝ }
+// How many bytes hold the bits before bit `at`: the byte where a run's byte ends, if bit `at` is its first.
+pub fn bytes_to(at: usize) -> usize
+    ensures { λ r. ⌜ r ≡ (at + 7) / 8 ⌝ }
 {
-    let high = at / 8 + i;
-    let low = high + (at % 8 + 7) / 8;
-    let spare = 8 - at % 8;
-    across(s[high], s[low], spare)
+    at / 8 + (at % 8 + 7) / 8
 }
 
-// The eight bits that end `spare` bits before the end of two bytes.
-fn across(high: u8, low: u8, spare: usize) -> u8
-    requires { ⌜ spare ≤ 8 ⌝ }
-    ensures { λ r. ⌜ r ≡ (high * 256 + low) / 2 ^ spare % 256 ⌝ }
+// The byte that starts at bit `at` of a message, from the byte in which it starts and the byte in which it ends; where they
+// are one, it stands for both. A loop over a run asks it for each byte, and the compiler works out once what hangs on `at`.
+pub fn across(high: u8, low: u8, at: usize) -> u8
+    ensures { λ r. ⌜ r ≡ acrossOf high low at ⌝ }
 {
     let pair = high as u16 * 256 + low as u16;
-    ((pair >> spare) % 256) as u8
+    ((pair >> (8 - at % 8)) % 256) as u8
 }

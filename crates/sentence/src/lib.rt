@@ -64,10 +64,9 @@ pub fn write(buf: &mut [u8], address: u32, r: Report) -> Sent
     let figures = spelling::decimal(address);
     let from = figures.from;
     let places = figures.places;
-    let size = Sentence::GREATEST - from;
-    if buf.len() < size {
-        return Sent::Refused(format::ROOM);
+    let size = pattern_making::AROUND + 10 - from;
+    if pattern_making::lay(buf, &places[from..], bytes) {
+        return Sent::Bytes(size);
     }
-    pattern_making::lay(buf, &places[from..], &bytes);
-    Sent::Bytes(size)
+    Sent::Refused(format::ROOM)
 }

@@ -2,7 +2,9 @@
 use Prim.Native.Nat.{ℕ, zero, suc, _+_, _*_, _-_, _/_, _%_}
 use mathlib.Core.Bool.{Bool, true, cond, _&&_}
 use mathlib.Core.List.{List, [], _∷_, _++_}
+use mathlib.Core.Path.{_≡_}
 use lib.Dec.{ltb, eqb}
+use lib.ListN.{length, replicate}
 use Rattle.format.specs.Message.{between}
 
 -- the digit of n: `0` to `9`, then the letters from `ten` on
@@ -31,12 +33,17 @@ unfoldable pub decimal : ℕ → ℕ → List ℕ
 decimal zero n = []
 decimal (suc k) n = cond (eqb n 0) [] (decimal k (n / 10) ++ (lower (n % 10) ∷ []))
 
+-- ten places, of which those from `from` on are the digits of n and the others 0
+pub record Spells (n from : ℕ) (places : List ℕ) : Type 0 where
+  pub long : length places ≡ 10
+  pub figures : places ≡ replicate from 0 ++ decimal 10 n
+
 -- the number that decimal digits spell after those that spell n
 unfoldable pub spelt : ℕ → List ℕ → ℕ
 spelt n [] = n
 spelt n (c ∷ cs) = spelt (n * 10 + digitValue c) cs
 
--- bytes as small hex digits, two each, and digits as bytes
+-- bytes as small hex digits, two each, and digits as bytes; what is no digit counts 0
 unfoldable pub hexOf : List ℕ → List ℕ
 hexOf [] = []
 hexOf (b ∷ bs) = lower (b / 16) ∷ lower (b % 16) ∷ hexOf bs
@@ -44,7 +51,11 @@ hexOf (b ∷ bs) = lower (b / 16) ∷ lower (b % 16) ∷ hexOf bs
 unfoldable pub unhexed : List ℕ → List ℕ
 unhexed [] = []
 unhexed (c ∷ []) = []
-unhexed (c ∷ d ∷ cs) = (digitValue c * 16 + digitValue d) ∷ unhexed cs
+unhexed (c ∷ d ∷ cs) = (digitValue c % 16 * 16 + digitValue d % 16) ∷ unhexed cs
+
+-- what 34 digits spell; for any other count of them, zeros
+abbrev pub unhexedSo : List ℕ → List ℕ
+unhexedSo s = cond (eqb (length s) 34) (unhexed s) (replicate 17 0)
 
 -- `*`, the sum in two capital hex digits, CR LF
 unfoldable pub closingOf : ℕ → List ℕ

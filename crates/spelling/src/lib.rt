@@ -1,9 +1,7 @@
 // Digits and what they spell: decimal, hex, and the end of a sentence.
 ghost use mathlib.Core.Path.{_≡_};
-ghost use mathlib.Core.Bool.{true};
-ghost use Prim.Native.Nat.{_<_, _≤_};
-ghost use lib.ListN.{length, drop};
-ghost use Rattle.spelling.specs.Spelling.{figureOf, digitValue, allDigits, decimal, hexOf, unhexed, closingOf};
+ghost use Prim.Native.Nat.{_/_, _<_};
+ghost use Rattle.spelling.specs.Spelling.{figureOf, digitValue, allDigits, Spells, hexOf, unhexedSo, closingOf};
 
 // What a digit counts, `0` to `9` or `a` to `f`: 16 for any other byte.
 pub fn digit_value(c: u8) -> u8
@@ -35,6 +33,13 @@ fn figure(n: u8, ten: u8) -> u8
     ten + (n - 10)
 }
 
+// The value of a byte's first hex digit.
+fn high(b: u8) -> u8
+    ensures { λ r. ⌜ (r ≡ b / 16) × (r < 16) ⌝ }
+{
+    b / 16
+}
+
 // Whether each byte is a digit of the base.
 pub fn all_digits(part: &[u8], base: u8) -> bool
     ensures { λ r. ⌜ r ≡ allDigits base (now (part .entry)) ⌝ }
@@ -49,19 +54,18 @@ pub fn all_digits(part: &[u8], base: u8) -> bool
     true
 }
 
-// Seven places, of which those from `from` on are a number's digits.
+// Ten places, of which those from `from` on are a number's digits and the others 0.
 pub struct Figures {
     pub from: usize,
-    pub places: [u8; 7],
+    pub places: [u8; 10],
 }
 
-// The decimal digits of a number of at most seven, last to first.
+// The decimal digits of a number, last to first: none has more than ten.
 pub fn decimal(n: u32) -> Figures
-    requires { ⌜ n < 10_000_000 ⌝ }
-    ensures { λ r. ⌜ (r .from ≤ 7) × (length (r .places) ≡ 7) × (drop (r .from) (r .places) ≡ decimal 7 n) ⌝ }
+    ensures { λ r. ⌜ Spells n (r .from) (r .places) ⌝ }
 {
-    let mut places = [0u8; 7];
-    let mut from = 7;
+    let mut places = [0u8; 10];
+    let mut from = 10;
     let mut rest = n;
     while rest > 0 {
         from -= 1;
@@ -71,16 +75,18 @@ pub fn decimal(n: u32) -> Figures
     Figures { from, places }
 }
 
-// The bytes that 34 hex digits spell.
+// The bytes that 34 hex digits spell, another byte counting 0; for any other count of them, zeros.
 pub fn unhex(part: &[u8]) -> [u8; 17]
-    requires { ⌜ (length (now part) ≡ 34) × (allDigits 16 (now part) ≡ true) ⌝ }
-    ensures { λ r. ⌜ r ≡ unhexed (now (part .entry)) ⌝ }
+    ensures { λ r. ⌜ r ≡ unhexedSo (now (part .entry)) ⌝ }
 {
     let mut bytes = [0u8; 17];
+    if part.len() != 34 {
+        return bytes;
+    }
     let mut i = 0;
     while i < 17 {
-        let high = digit_value(part[2 * i]);
-        let low = digit_value(part[2 * i + 1]);
+        let high = digit_value(part[2 * i]) % 16;
+        let low = digit_value(part[2 * i + 1]) % 16;
         bytes[i] = high * 16 + low;
         i += 1;
     }
@@ -88,15 +94,14 @@ pub fn unhex(part: &[u8]) -> [u8; 17]
 }
 
 // The hex digits of 17 bytes.
-pub fn hex(bytes: &[u8]) -> [u8; 34]
-    requires { ⌜ length (now bytes) ≡ 17 ⌝ }
-    ensures { λ r. ⌜ r ≡ hexOf (now (bytes .entry)) ⌝ }
+pub fn hex(bytes: [u8; 17]) -> [u8; 34]
+    ensures { λ r. ⌜ r ≡ hexOf bytes ⌝ }
 {
     let mut out = [0u8; 34];
     let mut i = 0;
     while i < 17 {
         let b = bytes[i];
-        out[2 * i] = figure(b / 16, b'a');
+        out[2 * i] = figure(high(b), b'a');
         out[2 * i + 1] = figure(b % 16, b'a');
         i += 1;
     }
@@ -109,7 +114,7 @@ pub fn closing(sum: u8) -> [u8; 5]
 {
     [
         b'*',
-        figure(sum / 16, b'A'),
+        figure(high(sum), b'A'),
         figure(sum % 16, b'A'),
         b'\r',
         b'\n',

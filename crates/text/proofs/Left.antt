@@ -1,12 +1,15 @@
 -- The bytes of a run that are still to be looked at, and what one more of them, or a pair, says of a text.
 use mathlib.Core.Bool.{Bool, true, false, _&&_, and-true, and-assoc}
 use mathlib.Core.List.{List, [], _∷_}
-use mathlib.Core.Path.{_≡_, refl, sym}
-use Prim.Native.Nat.{ℕ, suc, _+_, _*_, _-_, _≤_, _<_}
+use mathlib.Core.Path.{_≡_, refl, sym, _∙_}
+use Prim.Native.Nat.{ℕ, suc, _+_, _*_, _-_, _/_, _≤_, _<_}
 use native.Mathlib.Omega.{arith}
+use lib.ListN.{length, getD}
 use lib.Seq.{drop-drop}
-use Rattle.bits.specs.Bits.{bitsOf, fieldAt, bytesAt}
+use Rattle.bits.specs.Bits.{Bytes, bitsOf, fieldAt, bytesAt}
 use Rattle.bits.specs.laws.Digits.{bytes-zero, bytes-suc}
+use Rattle.runs.specs.Across.{acrossOf}
+use Rattle.runs.specs.laws.Pairs.{byte-across}
 use Rattle.text.specs.Text.{plain, levelOne, english, chinese}
 
 -- the n bytes from bit `at`, without the first i
@@ -20,17 +23,18 @@ module _ (s : List ℕ) (at n : ℕ) where
       let count : n - 0 ≡ n = omega arith in
       rw (place, count)
 
-  module _ (i : ℕ) where
-    pub left-next : {x : ℕ} → i < n → x ≡ fieldAt s (at + i * 8) 8 → left s at n i ≡ x ∷ left s at n (i + 1)
+  pub left-none : (i : ℕ) → n ≤ i → left s at n i ≡ []
+  unfolding bytesAt
+  left-none i h = let count : n - i ≡ 0 = omega arith in rw (count, bytes-zero)
+
+  -- the byte x that a turn of a loop takes from its two neighbours is the next one
+  module _ (bytes : Bytes s) (fits : at + n * 8 ≤ length s * 8) (low : ℕ) (e : low ≡ (at + 7) / 8) where
+    pub left-next : (i : ℕ) {x : ℕ} → i < n → x ≡ acrossOf (getD s (at / 8 + i) 0) (getD s (low + i) 0) at → left s at n i ≡ x ∷ left s at n (i + 1)
     unfolding bytesAt fieldAt
-    left-next h e =
+    left-next i h f =
         let count : n - i ≡ suc (n - (i + 1)) = omega arith in
         let place : at + i * 8 + 8 ≡ at + (i + 1) * 8 = omega arith in
-        rw (e, count, bytes-suc, drop-drop 8 (at + i * 8) (bitsOf s), place)
-
-    pub left-none : n ≤ i → left s at n i ≡ []
-    unfolding bytesAt
-    left-none h = let count : n - i ≡ 0 = omega arith in rw (count, bytes-zero)
+        rw (f ∙ byte-across s at i low bytes e (omega arith), count, bytes-suc, drop-drop 8 (at + i * 8) (bitsOf s), place)
 
 pub english-none : (g : Bool) → (g && english []) ≡ g
 unfolding english

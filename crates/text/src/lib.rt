@@ -26,10 +26,12 @@ fn is_english(s: &[u8], at: usize, n: usize) -> bool
     requires { ⌜ at + n * 8 ≤ length (now s) * 8 ⌝ }
     ensures { λ r. ⌜ r ≡ english (bytesAt (now (s .entry)) at n) ⌝ }
 {
+    let high = at / 8;
+    let low = runs::bytes_to(at);
     let mut good = true;
     let mut i = 0;
     while i < n {
-        good = still_plain(good, runs::byte(s, at, i));
+        good = still_plain(good, runs::across(s[high + i], s[low + i], at));
         i += 1;
     }
     good
@@ -40,9 +42,11 @@ fn is_chinese(s: &[u8], at: usize, n: usize) -> bool
     requires { ⌜ at + n * 8 ≤ length (now s) * 8 ⌝ }
     ensures { λ r. ⌜ r ≡ chinese (bytesAt (now (s .entry)) at n) ⌝ }
 {
+    let high = at / 8;
+    let low = runs::bytes_to(at);
     let mut i = 0;
     while i < n {
-        let x = runs::byte(s, at, i);
+        let x = runs::across(s[high + i], s[low + i], at);
         i += 1;
         if is_plain(x) {
             continue;
@@ -50,7 +54,7 @@ fn is_chinese(s: &[u8], at: usize, n: usize) -> bool
         if i == n {
             return false; // half a pair
         }
-        if is_level_one(x, runs::byte(s, at, i)) {
+        if is_level_one(x, runs::across(s[high + i], s[low + i], at)) {
             i += 1;
         } else {
             return false;

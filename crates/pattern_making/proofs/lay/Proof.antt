@@ -1,12 +1,32 @@
--- `lay`: five parts put one after another, the sum taken of what stands.
-use borrow.Author.Needs.{needs}
-use Rattle.pattern.specs.laws.Front.{all-laid}
-use mathlib.Core.Path.{refl, ap, _∙_}
-use Rattle.spelling.specs.Spelling.{closingOf}
+-- `lay`: five parts put one after another, the sum taken of what stands; where there is no room, nothing is put.
+use mathlib.Core.Path.{_≡_, refl, sym, ap, _∙_}
 use Prim.Native.Nat.{_+_}
+use native.Mathlib.Omega.{arith}
 use lib.ListN.{length}
+use borrow.Author.Tests.{le-leb, lt-leb}
+use Rattle.spelling.specs.Spelling.{closingOf}
+use Rattle.pattern.specs.Pattern.{opening, summedUp}
+use Rattle.pattern.specs.laws.Front.{all-laid}
+use Rattle.pattern.specs.laws.Parts.{summed-long}
+use borrow.Author.Needs.{needs}
 use Rattle.pattern_making.proofs.lay.Statement.{statement}
 use Rattle.pattern_making.proofs.lay.Tie as tie
+
+size : (c : tie.Start) → length (c .args .bytes) ≡ 17
+size c = c .good .1 .1 .0 .1 .0 .1
+
+returns : tie.Need-returns
+returns c = let a = c .before .before .before in
+    let n = summed-long (a .args .digits .now) (a .args .bytes) (size a) in
+    (sym (lt-leb (length (summedUp (opening (a .args .digits .now) (a .args .bytes)))) (length (a .args .buf .now)) (omega arith)), refl)
+
+sub-if2 : tie.Need-sub-if2
+sub-if2 c = search needs
+
+returns-2 : tie.Need-returns-2
+returns-2 c = let a = c .before .before .before .before in
+    let n = summed-long (a .args .digits .now) (a .args .bytes) (size a) in
+    (sym (lt-leb (length (summedUp (opening (a .args .digits .now) (a .args .bytes)))) (length (a .args .buf .now)) (omega arith)), refl)
 
 hex-requires : tie.Need-hex-requires
 hex-requires c κs = search needs
@@ -65,9 +85,8 @@ put-requires-5 c κs = search needs
 same-length : tie.Need-same-length
 same-length c = search needs
 
-returns : tie.Need-returns
-returns c =
-    let p5 = c .before .before in
+returns-3 : tie.Need-returns-3
+returns-3 c = let p5 = c .before .before in
     let k = p5 .before .before .before in
     let x = k .before in
     let p4 = x .before .before .before .before .before in
@@ -75,17 +94,23 @@ returns c =
     let p2 = p3 .before .before .before .before .before in
     let p1 = p2 .before .before .before .before in
     let h = p1 .before .before .before in
-    let a = h .before .before .before .before in
+    let a = h .before .before .before .before .before in
     let ds = a .args .digits .now in
     let mark = 7 + length ds in
-    all-laid ds (a .args .bytes .now) (a .args .buf .now) (p1 .put .last .0) (p2 .put2 .last .0) (p3 .put3 .last .0) (p4 .put4 .last .0) (h .hex .result) (k .closing .result) mark (mark + 41)
-    (a .pre .0) (h .hex .ensures) refl refl (p1 .put .ensures) (p2 .put2 .ensures) (p3 .put3 .ensures) (p4 .put4 .ensures)
-    (k .closing .ensures ∙ ap closingOf (x .xor .ensures)) (p5 .put5 .ensures)
+    let n = summed-long ds (a .args .bytes) (size a) in (
+      sym (le-leb (length (summedUp (opening ds (a .args .bytes)))) (length (a .args .buf .now)) (omega arith)),
+      all-laid ds (a .args .bytes) (a .args .buf .now) (p1 .put .last .0) (p2 .put2 .last .0) (p3 .put3 .last .0) (p4 .put4 .last .0) (h .hex .result) (k .closing .result) mark (mark + 41)
+          (size a) (h .hex .ensures) refl refl (p1 .put .ensures) (p2 .put2 .ensures) (p3 .put3 .ensures) (p4 .put4 .ensures)
+          (k .closing .ensures ∙ ap closingOf (x .xor .ensures)) (p5 .put5 .ensures),
+    )
 
 pub lay-spec : {M : Type 1} → statement M
 lay-spec =
     tie.close
     (tie.spec
+    returns
+    sub-if2
+    returns-2
     hex-requires
     add-mark
     add-star
@@ -105,4 +130,4 @@ lay-spec =
     slice-aggregate-put-4
     put-requires-5
     same-length
-    returns)
+    returns-3)

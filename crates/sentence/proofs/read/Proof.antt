@@ -1,10 +1,12 @@
 -- `read`: a refused sentence gives its number; an accepted one, taken apart, gives the report's own answer.
 use borrow.Author.Needs.{needs}
-use mathlib.Core.Path.{sym, ap, _∙_}
+use mathlib.Core.Path.{_≡_, sym, ap, _∙_}
 use native.Mathlib.Omega.{arith}
 use Prim.Native.Nat.{_-_}
 use lib.ListN.{length}
-use Rattle.pattern.specs.Pattern.{refusalOf}
+use borrow.Author.Tests.{eq-eqb}
+use Rattle.spelling.specs.Spelling.{unhexed}
+use Rattle.pattern.specs.Pattern.{hexPart, refusalOf}
 use Rattle.format.specs.Fmt.{accepted}
 use Rattle.sentence.specs.declared.Heard.the-variants.{Refused}
 use Rattle.pattern.specs.laws.Parts.{length-part}
@@ -16,6 +18,15 @@ apart : (c : tie.After-known-told) → Taken (c .before .before .before .before 
 apart c =
     let m = c .before .before .before in
     taken (m .before .before .args .s .now) (m .accept .result) (c .before .outer .given .0 .0) (m .accept .ensures) (c .before .outer .given .1)
+
+-- the report's digits are 34
+unhexed-here : (c : tie.After-unhex) → c .unhex .result ≡ unhexed (hexPart (c .before .before .before .before .before .before .before .args .s .now))
+unhexed-here c =
+    let k = c .before .before in
+    let s = k .before .before .before .before .before .args .s .now in
+    let l = apart k .least in
+    let n = length-part (length s - 39) (length s - 5) s (omega arith) (omega arith) in
+    c .unhex .ensures ∙ rw (eq-eqb (length (hexPart s)) 34 (n ∙ omega arith))
 
 accept-requires : tie.Need-accept-requires
 accept-requires c κs = search needs
@@ -52,11 +63,7 @@ part-unhex-end : tie.Need-part-unhex-end
 part-unhex-end c = search needs
 
 unhex-requires : tie.Need-unhex-requires
-unhex-requires c κs =
-    let k = c .before in
-    let s = k .before .before .before .before .before .args .s .now in
-    let l = apart k .least in
-    (length-part (length s - 39) (length s - 5) s (omega arith) (omega arith) ∙ omega arith, apart k .figures)
+unhex-requires c κs = search needs
 
 slice-aggregate-read : tie.Need-slice-aggregate-read
 slice-aggregate-read c = search needs
@@ -79,7 +86,7 @@ returns-2 c =
     let s = k .before .before .before .before .before .args .s .now in
     let to = k .before .outer .given .0 .0 in
     sym
-    (heard-inside s to (u .unhex .result) (apart k .inside ∙ ap (λ b. accepted (to, b)) (sym (u .unhex .ensures)))
+    (heard-inside s to (u .unhex .result) (apart k .inside ∙ ap (λ b. accepted (to, b)) (sym (unhexed-here u)))
     ∙ ap (heardAs to) (sym (r .read .ensures) ∙ g .r .given .1))
 
 returns-3 : tie.Need-returns-3
@@ -91,7 +98,7 @@ returns-3 c =
     let s = k .before .before .before .before .before .args .s .now in
     let to = k .before .outer .given .0 .0 in
     sym
-    (heard-inside s to (u .unhex .result) (apart k .inside ∙ ap (λ b. accepted (to, b)) (sym (u .unhex .ensures)))
+    (heard-inside s to (u .unhex .result) (apart k .inside ∙ ap (λ b. accepted (to, b)) (sym (unhexed-here u)))
     ∙ ap (heardAs to) (sym (r .read .ensures) ∙ g .code .given .1))
 
 pub read-spec : {M : Type 1} → statement M

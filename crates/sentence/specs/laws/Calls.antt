@@ -1,11 +1,11 @@
 -- What the calls' steps say of the definitions: reading takes the accepted sentence apart, writing tests address, report and room. Assumes nothing.
-use mathlib.Core.Bool.{true, false}
+use mathlib.Core.Bool.{Bool, true, false, cond}
 use mathlib.Core.List.{List, _++_, append-nil}
 use mathlib.Core.Path.{_≡_, refl, sym, ap, _∙_, subst}
 use Prim.Native.Nat.{ℕ, _+_, _≤_, _<_}
 use native.Mathlib.Omega.{arith}
 use lib.ListN.{length, drop, drop-of-length-le}
-use borrow.Author.Tests.{le-leb, lt-leb}
+use borrow.Author.Tests.{le-leb, lt-leb, leb-true, leb-false}
 use Rattle.bits.specs.Bits.{Bytes}
 use Rattle.format.specs.Fmt.{Out, accepted, refused, also}
 use Rattle.format.specs.Message.{codeOf, leaves, into, writeMessage}
@@ -14,7 +14,7 @@ use Rattle.format.specs.laws.Family.{never-written}
 use Rattle.format.specs.Promises.{readRecord, Writes}
 use Rattle.distress_reading.specs.laws.Demands.{family, long}
 use Rattle.distress_reading.specs.Report.{reports, valuesOf, reportOf, answerOf}
-use Rattle.pattern.specs.Pattern.{Front, opening, summedUp, sentence, addressGood, hexPart, aroundSo, aroundOf}
+use Rattle.pattern.specs.Pattern.{Laid, opening, summedUp, sentence, addressGood, hexPart, aroundSo, aroundOf}
 use Rattle.spelling.specs.Spelling.{allDigits, decimal, unhexed}
 use Rattle.sentence.specs.Sentence.{readSentence, writeSentence, roomFor, heardOf, sentOf, laidOver, Sends}
 use Rattle.pattern.specs.laws.Parts.{summed-long}
@@ -121,7 +121,7 @@ module _ (s : List ℕ) (a : ℕ) (r : Report) where
       unfolding writeSentence
       wrote = rw (good, made) refl
 
-      pub no-room : length s < length (sentence a bs) → Sends s a r (Unsent 6) s
+      no-room : length s < length (sentence a bs) → Sends s a r (Unsent 6) s
       no-room h = sends s a r (refused 6 0) (ap (roomFor s) wrote ∙ rw (lt-leb (length (sentence a bs)) (length s) h) refl)
 
       pub all-sent : length (sentence a bs) ≤ length s → roomFor s (writeSentence a r) ≡ accepted (sentence a bs)
@@ -131,11 +131,22 @@ module _ (s : List ℕ) (a : ℕ) (r : Report) where
       unfolding sentence
       sentence-size = summed-long (decimal 7 a) bs (bytewise (valuesOf r) bs made .long)
 
-      pub sent-laid : (ds t : List ℕ) (n : ℕ) → ds ≡ decimal 7 a → n ≡ 53 + length (decimal 7 a) → n ≤ length s → Front (summedUp (opening ds bs)) s t
-          → Sends s a r (Written n) t
-      unfolding sentence
-      sent-laid ds t n q k h f =
-          let e = all-sent (omega (arith, sentence-size)) in (
-            ap Written (k ∙ sym sentence-size) ∙ ap sentOf (sym e),
-            f ∙ ap (λ d. let w = summedUp (opening d bs) in w ++ drop (length w) s) q ∙ ap (λ o. laidOver o s) (sym e),
-          )
+      -- what laying it down says, with the digits ds
+      module _ (ds t : List ℕ) (b : Bool) (q : ds ≡ decimal 7 a) (laid : Laid (summedUp (opening ds bs)) s b t) where
+        is : summedUp (opening ds bs) ≡ sentence a bs
+        unfolding sentence
+        is = ap (λ d. summedUp (opening d bs)) q
+
+        pub all-laid : (n : ℕ) → n ≡ 53 + length (decimal 7 a) → b ≡ true → Sends s a r (Written n) t
+        all-laid n k e =
+            let room = leb-true (length (summedUp (opening ds bs))) (length s) (sym (laid .0) ∙ e) in
+            let x = all-sent (omega (arith, room, ap length is)) in (
+              ap Written (k ∙ sym sentence-size) ∙ ap sentOf (sym x),
+              laid .1 ∙ ap (λ b. cond b (summedUp (opening ds bs) ++ drop (length (summedUp (opening ds bs))) s) s) e ∙ ap (λ w. w ++ drop (length w) s) is ∙ ap (λ o. laidOver o s) (sym x),
+            )
+
+        pub none-laid : b ≡ false → Sends s a r (Unsent 6) t
+        none-laid e =
+            let room = leb-false (length (summedUp (opening ds bs))) (length s) (sym (laid .0) ∙ e) in
+            let x = no-room (omega (arith, room, ap length is)) in
+            (x .0, laid .1 ∙ ap (λ b. cond b (summedUp (opening ds bs) ++ drop (length (summedUp (opening ds bs))) s) s) e ∙ x .1)

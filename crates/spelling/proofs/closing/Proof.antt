@@ -4,6 +4,9 @@ use Rattle.spelling.specs.Spelling.{closingOf}
 use Rattle.spelling.proofs.closing.Statement.{statement}
 use Rattle.spelling.proofs.closing.Tie as tie
 
+high-requires : tie.Need-high-requires
+high-requires c κs = search needs
+
 figure-requires : tie.Need-figure-requires
 figure-requires c κs = search needs
 
@@ -12,7 +15,7 @@ figure-requires-2 c κs = search needs
 
 returns : tie.Need-returns
 unfolding closingOf
-returns c = cc
+returns c = let e = c .before .before .high .ensures .0 in cc
 
 pub closing-spec : {M : Type 1} → statement M
-closing-spec = tie.close (tie.spec figure-requires figure-requires-2 returns)
+closing-spec = tie.close (tie.spec high-requires figure-requires figure-requires-2 returns)

@@ -19,11 +19,14 @@ abbrev μ-loop : tie.MeasureT-loop
 loop-holds : tie.Need-loop-holds Inv-loop μ-loop
 loop-holds c = (omega arith, refl, refl)
 
-shared-slice-read-b : tie.Need-shared-slice-read-b Inv-loop μ-loop
-shared-slice-read-b c = search needs
+array-read-b : tie.Need-array-read-b Inv-loop μ-loop
+array-read-b c = search needs
+
+high-requires : tie.Need-high-requires Inv-loop μ-loop
+high-requires c κs = search needs
 
 figure-requires : tie.Need-figure-requires Inv-loop μ-loop
-figure-requires c κs = let l = c .before .before in omega (arith, c .shared-slice-known2 .given (l .loop .i))
+figure-requires c κs = search needs
 
 mul-out : tie.Need-mul-out Inv-loop μ-loop
 mul-out c = search needs
@@ -32,7 +35,7 @@ array-write-out : tie.Need-array-write-out Inv-loop μ-loop
 array-write-out c = search needs
 
 figure-requires-2 : tie.Need-figure-requires-2 Inv-loop μ-loop
-figure-requires-2 c κs = omega arith
+figure-requires-2 c κs = search needs
 
 mul-out-2 : tie.Need-mul-out-2 Inv-loop μ-loop
 mul-out-2 c = search needs
@@ -41,7 +44,7 @@ add-out : tie.Need-add-out Inv-loop μ-loop
 add-out c = search needs
 
 array-write-out-2 : tie.Need-array-write-out-2 Inv-loop μ-loop
-array-write-out-2 c = omega arith
+array-write-out-2 c = search needs
 
 add-i : tie.Need-add-i Inv-loop μ-loop
 add-i c = search needs
@@ -52,8 +55,10 @@ loop-less c = search needs
 loop-again : tie.Need-loop-again Inv-loop μ-loop
 loop-again c =
     let f = c .before in
-    let l = f .before .before .before in
-    let s = l .before .before .args .bytes .now in
+    let h = f .before in
+    let l = h .before .before in
+    let s = l .before .args .t1 in
+    let n : length s ≡ 17 = l .before .good .0 .1 .0 .1 in
     let out = l .loop .out in
     let i = l .loop .i in
     let b = getD s i 0 in
@@ -62,13 +67,14 @@ loop-again c =
     let one = store-turn out (2 * i) (lower (b / 16)) (lower (b % 16) ∷ rest) (hexOf s) (omega arith) e in
     let two = store-turn (set out (2 * i) (lower (b / 16))) (2 * i + 1) (lower (b % 16)) rest (hexOf s) (simp length-set (omega arith)) one in
     let q : 2 * (i + 1) ≡ 2 * i + 1 + 1 = omega arith in
-    (omega arith, simp (length-set, length-set) (l .loop .inv .1), rw (q, f .figure .ensures, c .figure2 .ensures) two)
+    (omega arith, simp (length-set, length-set) (l .loop .inv .1), rw (q, f .figure .ensures, c .figure2 .ensures, h .high .ensures .0) two)
 
 returns : tie.Need-returns Inv-loop μ-loop
 unfolding hexOf
 returns c =
     let l = c .before in
-    let s = l .before .before .args .bytes .now in
+    let s = l .before .args .t1 in
+    let n : length s ≡ 17 = l .before .good .0 .1 .0 .1 in
     store-end (l .loop .out) (2 * l .loop .i) (hexOf (drop (l .loop .i) s)) (hexOf s) (omega arith) (ap hexOf (drop-of-length-le s {i = l .loop .i} (omega arith))) (l .loop .inv .2)
 
 pub hex-spec : {M : Type 1} → statement M
@@ -78,7 +84,8 @@ hex-spec =
     Inv-loop
     μ-loop
     loop-holds
-    shared-slice-read-b
+    array-read-b
+    high-requires
     figure-requires
     mul-out
     array-write-out

@@ -2,11 +2,11 @@
 use borrow.Author.Needs.{needs}
 use mathlib.Core.Path.{_≡_, refl, sym, ap, _∙_}
 use mathlib.Core.List.{_++_}
-use Prim.Native.Nat.{_≤_, _<_, _-_, _*_, _+_}
+use Prim.Native.Nat.{_≤_, _-_, _*_, _+_, _%_}
 use native.Mathlib.Omega.{arith}
 use lib.ListN.{length, take, drop, getD, length-set, drop-of-length-le}
 use Rattle.spelling.specs.Spelling.{digitValue, unhexed}
-use Rattle.spelling.specs.laws.Digits.{digit-at}
+use borrow.Author.Tests.{eq-eqb, ne-eqb}
 use Rattle.spelling.specs.laws.Turns.{unhexed-turn, store-turn, store-end}
 use Rattle.spelling.proofs.unhex.Statement.{statement}
 use Rattle.spelling.proofs.unhex.Tie as tie
@@ -17,17 +17,8 @@ Inv-loop part bytes₀ i₀ bytes i = (i ≤ 17) × (length bytes ≡ 17) × (ta
 abbrev μ-loop : tie.MeasureT-loop
 μ-loop part bytes₀ i₀ bytes i = 17 - i
 
--- both digits are below 16
-small : (c : tie.After-digit-value2 Inv-loop μ-loop) → (c .before .before .digit-value .result < 16) × (c .digit-value2 .result < 16)
-small c =
-    let d = c .before .before in
-    let l = d .before .before .before in
-    let a = l .before .before in
-    let s = a .args .part .now in
-    let i = l .loop .i in (
-      omega (arith, d .digit-value .ensures, digit-at 16 s (2 * i) (a .pre .1) (omega arith)),
-      omega (arith, c .digit-value2 .ensures, digit-at 16 s (2 * i + 1) (a .pre .1) (omega arith)),
-    )
+returns : tie.Need-returns Inv-loop μ-loop
+returns c = rw (ne-eqb (length (c .before .before .args .part .now)) 34 (c .if1 .taken))
 
 loop-holds : tie.Need-loop-holds Inv-loop μ-loop
 loop-holds c = (omega arith, refl, refl)
@@ -54,10 +45,10 @@ digit-value-requires-2 : tie.Need-digit-value-requires-2 Inv-loop μ-loop
 digit-value-requires-2 c κs = search needs
 
 mul-bytes : tie.Need-mul-bytes Inv-loop μ-loop
-mul-bytes c = omega (arith, small c)
+mul-bytes c = search needs
 
 add-bytes : tie.Need-add-bytes Inv-loop μ-loop
-add-bytes c = omega (arith, small c)
+add-bytes c = search needs
 
 array-write-bytes : tie.Need-array-write-bytes Inv-loop μ-loop
 array-write-bytes c = search needs
@@ -72,19 +63,21 @@ loop-again : tie.Need-loop-again Inv-loop μ-loop
 loop-again c =
     let d = c .before .before in
     let l = d .before .before .before in
-    let s = l .before .before .args .part .now in
+    let s = l .before .before .before .args .part .now in
     let i = l .loop .i in
-    let v = digitValue (getD s (2 * i) 0) * 16 + digitValue (getD s (2 * i + 1) 0) in
+    let v = digitValue (getD s (2 * i) 0) % 16 * 16 + digitValue (getD s (2 * i + 1) 0) % 16 in
     let e = ap (λ x. take i (l .loop .bytes) ++ x) (sym (unhexed-turn s i (omega arith))) ∙ l .loop .inv .2 in
     let t = store-turn (l .loop .bytes) i v (unhexed (drop (2 * (i + 1)) s)) (unhexed s) (omega arith) e in
     (omega arith, simp length-set (l .loop .inv .1), rw (d .digit-value .ensures, c .digit-value2 .ensures) t)
 
-returns : tie.Need-returns Inv-loop μ-loop
+returns-2 : tie.Need-returns-2 Inv-loop μ-loop
 unfolding unhexed
-returns c =
+returns-2 c =
     let l = c .before in
-    let s = l .before .before .args .part .now in
-    store-end (l .loop .bytes) (l .loop .i) (unhexed (drop (2 * l .loop .i) s)) (unhexed s) (omega arith) (ap unhexed (drop-of-length-le s {i = 2 * l .loop .i} (omega arith))) (l .loop .inv .2)
+    let s = l .before .before .before .args .part .now in
+    let n : length s ≡ 34 = omega arith in
+    rw (eq-eqb (length s) 34 n)
+    (store-end (l .loop .bytes) (l .loop .i) (unhexed (drop (2 * l .loop .i) s)) (unhexed s) (omega arith) (ap unhexed (drop-of-length-le s {i = 2 * l .loop .i} (omega arith))) (l .loop .inv .2))
 
 pub unhex-spec : {M : Type 1} → statement M
 unhex-spec =
@@ -92,6 +85,7 @@ unhex-spec =
     (tie.spec
     Inv-loop
     μ-loop
+    returns
     loop-holds
     mul-digit-value
     shared-slice-read-digit-value
@@ -106,4 +100,4 @@ unhex-spec =
     add-i
     loop-less
     loop-again
-    returns)
+    returns-2)

@@ -3,13 +3,13 @@ use mathlib.Core.Bool.{Bool, true, false, false≢true, _&&_, and-assoc}
 use mathlib.Core.List.{List, [], _∷_, _++_}
 use mathlib.Core.Path.{_≡_, refl, sym, ap, _∙_}
 use Prim.Native.Nat.{ℕ, zero, suc, _+_, _*_, _-_, _/_, _%_, _^_, _≤_, _<_}
-use native.Mathlib.Nat.{pow-suc}
+use native.Mathlib.Nat.{pow-suc, suc-add}
 use native.Mathlib.Omega.{arith}
 use lib.Dec.{leb, ltb}
-use lib.ListN.{length, take, getD, length-append, List·getD-append}
-use lib.Seq.{take-suc, take-all, length-take-le}
+use lib.ListN.{length, take, drop, getD, replicate, length-append, length-replicate, List·getD-append}
+use lib.Seq.{drop-at, take-suc, take-all, length-take-le}
 use borrow.Author.Tests.{lt-ltb, le-ltb, le-leb, lt-leb, ltb-true, ltb-false, leb-true, ne-eqb}
-use Rattle.spelling.specs.Spelling.{figureOf, lower, digitValue, allDigits, decimal, spelt}
+use Rattle.spelling.specs.Spelling.{figureOf, lower, digitValue, allDigits, decimal, Spells, spelt}
 
 -- ---- one digit
 
@@ -169,6 +169,21 @@ decimal-digits zero n = rw decimal-zero refl
 decimal-digits (suc k) zero = rw decimal-none refl
 decimal-digits (suc k) (suc n) =
     rw (decimal-next k (suc n) (omega arith), all-append 10 (decimal k (suc n / 10)) (lower (suc n % 10) ∷ []), decimal-digits k (suc n / 10), digit-small (suc n), lt-ltb (suc n % 10) 10 (omega arith))
+
+-- more places than a number has digits make no difference
+pub decimal-wide : (j k n : ℕ) → n < 10 ^ k → decimal (k + j) n ≡ decimal k n
+decimal-wide j zero n h = let e : n ≡ 0 = omega arith in rw (e, decimal-none, decimal-none)
+decimal-wide j (suc k) zero h = rw (decimal-none, decimal-none)
+decimal-wide j (suc k) (suc n) h =
+    rw (suc-add k j, decimal-next (k + j) (suc n) (omega arith), decimal-next k (suc n) (omega arith), decimal-wide j k (suc n / 10) (tenth-small k (suc n) h))
+
+-- where the digits stand among ten places
+module _ {n from : ℕ} {places : List ℕ} (s : Spells n from places) where
+  pub spells-from : from + length (decimal 10 n) ≡ 10
+  spells-from = omega (arith, s .long, ap length (s .figures), length-append (replicate from 0) (decimal 10 n), length-replicate {A = ℕ} from 0)
+
+  pub spells-digits : drop from places ≡ decimal 10 n
+  spells-digits = ap (drop from) (s .figures) ∙ drop-at (replicate from 0) (decimal 10 n) from (length-replicate from 0)
 
 -- what digits with no zero in front spell is at least 1
 pub spelt-some : (s : List ℕ) → 0 < length s → allDigits 10 s ≡ true → (getD s 0 0 ≡ 48 → ⊥) → 0 < spelt 0 s

@@ -28,7 +28,7 @@ unfolding hexOf unhexed
 unhexed-hex [] h = refl
 unhexed-hex (b ∷ s) h =
     let k = h 0 in
-    let e : b / 16 * 16 + b % 16 ≡ b = omega arith in
+    let e : b / 16 % 16 * 16 + b % 16 % 16 ≡ b = omega arith in
     rw (value-figure (b / 16) (omega arith), value-figure (b % 16) (omega arith), e, unhexed-hex s (λ i. h (suc i)))
 
 -- what an even count of digits spells: so many bytes, of which they are the digits
@@ -54,7 +54,7 @@ hex-unhexed (suc n) (c ∷ d ∷ s) l a =
   where
     pair : digitValue c < 16 → digitValue d < 16 → Unhexed s n → Unhexed (c ∷ d ∷ s) (suc n)
     pair h l u =
-        let v = digitValue c * 16 + digitValue d in
+        let v = digitValue c % 16 * 16 + digitValue d % 16 in
         let p : v / 16 ≡ digitValue c = omega arith in
         let q : v % 16 ≡ digitValue d = omega arith in
         record {

@@ -6,8 +6,8 @@ use Prim.Native.Nat.{ℕ, zero, suc, _+_, _*_, _-_, _/_, _%_, _^_, _≤_, _<_}
 use native.Mathlib.Numerals.{add-one}
 use native.Mathlib.Omega.{arith}
 use lib.Dec.{ltb}
-use lib.ListN.{length, take, drop, getD, set}
-use lib.Seq.{drop-cons, drop-at, take-suc-set, set-split, length-take-le, append-snoc, take-all}
+use lib.ListN.{length, take, drop, getD, set, replicate}
+use lib.Seq.{drop-cons, drop-at, take-suc-set, take-set-le, set-split, length-take-le, append-snoc, take-all}
 use Rattle.spelling.specs.Spelling.{allDigits, digitValue, decimal, spelt, unhexed, lower, hexOf}
 use Rattle.spelling.specs.laws.Digits.{decimal-next, tenth-small}
 
@@ -25,7 +25,7 @@ unfolding hexOf
 hex-turn s i h = rw (add-one i, drop-cons s i 0 h)
 
 pub unhexed-turn : (s : List ℕ) (i : ℕ) → 2 * i + 1 < length s
-    → unhexed (drop (2 * i) s) ≡ (digitValue (getD s (2 * i) 0) * 16 + digitValue (getD s (2 * i + 1) 0)) ∷ unhexed (drop (2 * (i + 1)) s)
+    → unhexed (drop (2 * i) s) ≡ (digitValue (getD s (2 * i) 0) % 16 * 16 + digitValue (getD s (2 * i + 1) 0) % 16) ∷ unhexed (drop (2 * (i + 1)) s)
 unfolding unhexed
 unhexed-turn s i h =
     let e : 2 * (i + 1) ≡ suc (suc (2 * i)) = omega arith in
@@ -54,3 +54,19 @@ decimal-turn (suc j) rest places all some small h e =
       rw (q, set-split places j v (omega arith), drop-at (take j places) (v ∷ drop (suc j) places) j (length-take-le j places (omega arith)))
           (sym (append-snoc (decimal j (rest / 10)) v (drop (suc j) places)) ∙ ap (λ x. x ++ drop (suc j) places) (sym (decimal-next j rest some)) ∙ e),
     )
+
+-- the places before them stay 0
+shorter : (j : ℕ) (l : List ℕ) → take (suc j) l ≡ replicate (suc j) 0 → take j l ≡ replicate j 0
+shorter zero l e = refl
+shorter (suc j) [] e = let z : _≡_ {A = ℕ} 0 1 = cc in absurd (omega arith)
+shorter (suc j) (x ∷ l) e =
+    let h : x ≡ 0 = cc in
+    let t : take (suc j) l ≡ replicate (suc j) 0 = cc in
+    let r = shorter j l t in
+    cc
+
+pub blank-turn : (from : ℕ) (places : List ℕ) (v : ℕ) → take from places ≡ replicate from 0 → take (from - 1) (set places (from - 1) v) ≡ replicate (from - 1) 0
+blank-turn zero places v e = refl
+blank-turn (suc j) places v e =
+    let q : suc j - 1 ≡ j = omega arith in
+    rw (q, take-set-le j places j v (omega arith)) (shorter j places e)

@@ -12,16 +12,31 @@ use Rattle.text.proofs.is_chinese.Statement.{statement}
 use Rattle.text.proofs.is_chinese.Tie as tie
 
 abbrev Inv-loop : tie.InvT-loop
-Inv-loop s at n i₀ i = (i ≤ n) × (chinese (bytesAt s at n) ≡ chinese (left s at n i))
+Inv-loop s at n high low i₀ i = (i ≤ n) × (chinese (bytesAt s at n) ≡ chinese (left s at n i))
 
 abbrev μ-loop : tie.MeasureT-loop
-μ-loop s at n i₀ i = n - i
+μ-loop s at n high low i₀ i = n - i
+
+bytes-to-requires : tie.Need-bytes-to-requires Inv-loop μ-loop
+bytes-to-requires c κs = search needs
 
 loop-holds : tie.Need-loop-holds Inv-loop μ-loop
-loop-holds c = let a = c .before .args in (omega arith, ap chinese (sym (left-all (a .s .now) (a .at) (a .n))))
+loop-holds c = let a = c .before .before .args in (omega arith, ap chinese (sym (left-all (a .s .now) (a .at) (a .n))))
 
-byte-requires : tie.Need-byte-requires Inv-loop μ-loop
-byte-requires c κs = search needs
+add-across : tie.Need-add-across Inv-loop μ-loop
+add-across c = search needs
+
+shared-slice-read-across : tie.Need-shared-slice-read-across Inv-loop μ-loop
+shared-slice-read-across c = search needs
+
+add-across-2 : tie.Need-add-across-2 Inv-loop μ-loop
+add-across-2 c = search needs
+
+shared-slice-read-across-2 : tie.Need-shared-slice-read-across-2 Inv-loop μ-loop
+shared-slice-read-across-2 c = search needs
+
+across-requires : tie.Need-across-requires Inv-loop μ-loop
+across-requires c κs = search needs
 
 add-i : tie.Need-add-i Inv-loop μ-loop
 add-i c = search needs
@@ -30,29 +45,38 @@ is-plain-requires : tie.Need-is-plain-requires Inv-loop μ-loop
 is-plain-requires c κs = search needs
 
 -- what is left, with the byte that was read in front
-one-more : (c : tie.After-byte Inv-loop μ-loop)
-    → let l = c .before .before in let a = l .before .before .args in
-    chinese (bytesAt (a .s .now) (a .at) (a .n)) ≡ chinese (c .byte .result ∷ left (a .s .now) (a .at) (a .n) (l .loop .i + 1))
+one-more : (c : tie.After-across Inv-loop μ-loop)
+    → let l = c .before .before .before .before in let a = l .before .before .before .args in
+    chinese (bytesAt (a .s .now) (a .at) (a .n)) ≡ chinese (c .across .result ∷ left (a .s .now) (a .at) (a .n) (l .loop .i + 1))
 one-more c =
-    let l = c .before .before in
-    let a = l .before .before .args in
-    l .loop .inv .1 ∙ ap chinese (left-next (a .s .now) (a .at) (a .n) (l .loop .i) (omega arith) (c .byte .ensures))
+    let l = c .before .before .before .before in
+    let t = l .before in
+    let a = t .before .before .args in
+    l .loop .inv .1
+    ∙ ap chinese
+    (left-next (a .s .now) (a .at) (a .n) (λ j. t .before .shared-slice-known .given j .fits) (omega arith) (t .bytes-to .result) (t .bytes-to .ensures) (l .loop .i) (omega arith)
+    (c .across .ensures))
 
 -- the first byte is not plain, and a second was read
 two-more : (c : tie.After-is-level-one Inv-loop μ-loop)
-    → let b = c .before .before .before .before .before in let l = b .before .before in let a = l .before .before .args in
+    → let b = c .before .before .before .before .before .before .before in let l = b .before .before .before .before in let a = l .before .before .before .args in
     chinese (bytesAt (a .s .now) (a .at) (a .n)) ≡ (c .is-level-one .result && chinese (left (a .s .now) (a .at) (a .n) (l .loop .i + 1 + 1)))
 two-more c =
     let y = c .before in
-    let p = y .before .before .before in
+    let f = y .before .before .before .before in
+    let p = f .before in
     let b = p .before in
-    let l = b .before .before in
-    let a = l .before .before .args in
+    let l = b .before .before .before .before in
+    let t = l .before in
+    let a = t .before .before .args in
     let i = l .loop .i + 1 in
-    let next = left-next (a .s .now) (a .at) (a .n) i (omega arith) (y .byte2 .ensures) in
+    let next =
+    left-next (a .s .now) (a .at) (a .n) (λ j. t .before .shared-slice-known .given j .fits) (omega arith) (t .bytes-to .result) (t .bytes-to .ensures) i (omega arith)
+    (y .across2 .ensures)
+    in
     one-more b
     ∙ rw (next, c .is-level-one .ensures)
-    (chinese-pair (b .byte .result) (y .byte2 .result) (left (a .s .now) (a .at) (a .n) (i + 1)) (sym (p .is-plain .ensures) ∙ y .before .before .if1 .left))
+    (chinese-pair (b .across .result) (y .across2 .result) (left (a .s .now) (a .at) (a .n) (i + 1)) (sym (p .is-plain .ensures) ∙ f .if1 .left))
 
 loop-less : tie.Need-loop-less Inv-loop μ-loop
 loop-less c = search needs
@@ -61,20 +85,32 @@ loop-again : tie.Need-loop-again Inv-loop μ-loop
 loop-again c =
     let p = c .before in
     let b = p .before in
-    let l = b .before .before in
-    let a = l .before .before .args in
-    (omega arith, one-more b ∙ chinese-plain (b .byte .result) (left (a .s .now) (a .at) (a .n) (l .loop .i + 1)) (sym (p .is-plain .ensures) ∙ c .if1 .taken))
+    let l = b .before .before .before .before in
+    let a = l .before .before .before .args in
+    (omega arith, one-more b ∙ chinese-plain (b .across .result) (left (a .s .now) (a .at) (a .n) (l .loop .i + 1)) (sym (p .is-plain .ensures) ∙ c .if1 .taken))
 
 returns : tie.Need-returns Inv-loop μ-loop
 returns c =
     let p = c .before .before in
     let b = p .before in
-    let l = b .before .before in
-    let a = l .before .before .args in
-    sym (one-more b ∙ rw (left-none (a .s .now) (a .at) (a .n) (l .loop .i + 1) (omega arith)) (chinese-half (b .byte .result) (sym (p .is-plain .ensures) ∙ c .before .if1 .left)))
+    let l = b .before .before .before .before in
+    let a = l .before .before .before .args in
+    sym (one-more b ∙ rw (left-none (a .s .now) (a .at) (a .n) (l .loop .i + 1) (omega arith)) (chinese-half (b .across .result) (sym (p .is-plain .ensures) ∙ c .before .if1 .left)))
 
-byte-requires-2 : tie.Need-byte-requires-2 Inv-loop μ-loop
-byte-requires-2 c κs = search needs
+add-across-3 : tie.Need-add-across-3 Inv-loop μ-loop
+add-across-3 c = search needs
+
+shared-slice-read-across-3 : tie.Need-shared-slice-read-across-3 Inv-loop μ-loop
+shared-slice-read-across-3 c = search needs
+
+add-across-4 : tie.Need-add-across-4 Inv-loop μ-loop
+add-across-4 c = search needs
+
+shared-slice-read-across-4 : tie.Need-shared-slice-read-across-4 Inv-loop μ-loop
+shared-slice-read-across-4 c = search needs
+
+across-requires-2 : tie.Need-across-requires-2 Inv-loop μ-loop
+across-requires-2 c κs = search needs
 
 is-level-one-requires : tie.Need-is-level-one-requires Inv-loop μ-loop
 is-level-one-requires c κs = search needs
@@ -94,7 +130,7 @@ returns-2 c = sym (two-more (c .before) ∙ rw (c .if3 .left))
 returns-3 : tie.Need-returns-3 Inv-loop μ-loop
 returns-3 c =
     let l = c .before in
-    let a = l .before .before .args in
+    let a = l .before .before .before .args in
     sym (l .loop .inv .1 ∙ rw (left-none (a .s .now) (a .at) (a .n) (l .loop .i) (omega arith)) chinese-none)
 
 pub is-chinese-spec : {M : Type 1} → statement M
@@ -103,14 +139,23 @@ is-chinese-spec =
     (tie.spec
     Inv-loop
     μ-loop
+    bytes-to-requires
     loop-holds
-    byte-requires
+    add-across
+    shared-slice-read-across
+    add-across-2
+    shared-slice-read-across-2
+    across-requires
     add-i
     is-plain-requires
     loop-less
     loop-again
     returns
-    byte-requires-2
+    add-across-3
+    shared-slice-read-across-3
+    add-across-4
+    shared-slice-read-across-4
+    across-requires-2
     is-level-one-requires
     add-i-2
     loop-less-2

@@ -10,6 +10,7 @@ use Rattle.bits.specs.Bits.{Bytes, valueOf, bitsOf, fieldAt}
 use Rattle.bits.specs.laws.Fields.{field-byte}
 use Rattle.bits.specs.laws.Loops.{value-none, value-next}
 use Rattle.bits.specs.laws.Window.{field-window}
+use Rattle.runs.specs.Across.{acrossOf}
 
 value-pair : (s : List ℕ) (k : ℕ) → Bytes s → k + 1 < length s → valueOf (bitsOf (take 2 (drop k s))) ≡ getD s k 0 * 256 + getD s (k + 1) 0
 value-pair s k bytes h =
@@ -24,9 +25,10 @@ byte-pair s k (suc j) bytes h fits =
     let e : (suc j + 7) / 8 ≡ 1 = omega arith in
     rw (e, ← value-pair s k bytes (omega arith)) (field-window s k 2 (suc j) 8 (8 - suc j) (omega arith) (omega arith))
 
--- in the code's terms
-pub byte-across : (s : List ℕ) (at i : ℕ) → Bytes s → at + (i + 1) * 8 ≤ length s * 8
-    → (getD s (at / 8 + i) 0 * 256 + getD s (at / 8 + i + (at % 8 + 7) / 8) 0) / 2 ^ (8 - at % 8) % 256 ≡ fieldAt s (at + i * 8) 8
-byte-across s at i bytes fits =
+-- the byte i of the run that starts at bit `at`, whose byte 0 ends in the byte `low`
+pub byte-across : (s : List ℕ) (at i low : ℕ) → Bytes s → low ≡ (at + 7) / 8 → at + (i + 1) * 8 ≤ length s * 8
+    → acrossOf (getD s (at / 8 + i) 0) (getD s (low + i) 0) at ≡ fieldAt s (at + i * 8) 8
+byte-across s at i low bytes e fits =
     let place : at + i * 8 ≡ (at / 8 + i) * 8 + at % 8 = omega arith in
-    rw (← byte-pair s (at / 8 + i) (at % 8) bytes (omega arith) (omega arith), place)
+    let end : low + i ≡ at / 8 + i + (at % 8 + 7) / 8 = omega arith in
+    rw (end, ← byte-pair s (at / 8 + i) (at % 8) bytes (omega arith) (omega arith), place)

@@ -1,0 +1,2 @@
+-- What is proved of the definition.
+pub mod Pairs
