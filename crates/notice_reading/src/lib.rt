@@ -131,8 +131,8 @@ pub fn read(s: &[u8], english: bool, areas: &mut [u32], text: &mut [u8]) -> Answ
 pub fn refusal(s: &[u8], english: bool) -> u8
     ensures { λ r. ⌜ r ≡ codeOf (readMessage (notices english) (now (s .entry))) ⌝ }
 {
-    let f = fields(s, 0, english);
-    let walk = f.walk;
+    let course = fields(s, 0, english);
+    let walk = course.walk;
     walk.code
 }
 
