@@ -1,12 +1,17 @@
 // Writing a notice's areas from a row of numbers (paper 01, "Notice and packet"): judged in bit order, then put.
 ghost use mathlib.Core.Path.{_≡_};
-ghost use Prim.Native.Nat.{_+_, _*_, _≤_};
+ghost use Prim.Native.Nat.{_^_, _≤_, _<_};
 ghost use lib.ListN.{getD};
 ghost use Rattle.areas_making.specs.Making.{PointsJudged, AreaJudged, AreasJudged, PointsPut, AreaPut, AreasPut};
-ghost use Rattle.notice_areas.specs.Row.{Few, Fews};
+ghost use Rattle.notice_areas.specs.Standing.{front};
+ghost use Rattle.notice_parts.specs.Steps.{bare};
 use layout::walk::Walk;
 use notice_areas::CIRCLE;
+use notice_areas::FRONT;
 use notice_areas::SEA;
+use notice_parts::LATITUDE;
+use notice_parts::LONGITUDE;
+use notice_parts::POINT;
 
 // The walk behind an area or behind all of them, and which number of the row comes next.
 pub struct Stepped {
@@ -29,13 +34,21 @@ fn entry(row: &[u32], k: usize) -> u64
 
 // ---- judging
 
-// The numbers of `count` areas; a refused count of points is not walked.
-pub fn judge(from: Walk, row: &[u32], count: u8) -> Stepped
-    requires { ⌜ (count ≤ 15) × (from .at ≤ 1_000) ⌝ }
-    ensures { λ r. ⌜ AreasJudged (now (row .entry)) count from r ⌝ }
+// The numbers of a notice's first `count` areas, where nothing was refused in front of them; a refused count of points is not walked.
+pub fn judge(row: &[u32], count: u8) -> Stepped
+    ensures { λ r. ⌜ AreasJudged (now (row .entry)) count (bare front 0 0) r ⌝ }
 {
     let most = count as usize;
-    let mut w = from;
+    let mut w = Walk {
+        at: FRONT as usize,
+        code: 0,
+        place: 0,
+        v: 0,
+        seek: false,
+        left: 0,
+        spot: 0,
+        width: 0,
+    };
     let mut k: usize = 0;
     let mut i: usize = 0;
     while i < most {
@@ -52,7 +65,7 @@ pub fn judge(from: Walk, row: &[u32], count: u8) -> Stepped
 
 // The area whose numbers begin with k.
 fn judge_area(from: Walk, row: &[u32], k: usize) -> Stepped
-    requires { ⌜ (k ≤ 1_000) × (from .at ≤ 20_000) ⌝ }
+    requires { ⌜ (k ≤ 10_000) × (from .at ≤ 200_000) ⌝ }
     ensures { λ r. ⌜ AreaJudged (now (row .entry)) k from r ⌝ }
 {
     let kind = entry(row, k);
@@ -81,7 +94,7 @@ fn judge_area(from: Walk, row: &[u32], k: usize) -> Stepped
 
 // Latitude and longitude of n points.
 fn judge_points(from: Walk, row: &[u32], k: usize, n: usize) -> Walk
-    requires { ⌜ (n ≤ 15) × (k ≤ 2_000) × (from .at ≤ 30_000) ⌝ }
+    requires { ⌜ (n ≤ 15) × (k ≤ 20_000) × (from .at ≤ 300_000) ⌝ }
     ensures { λ r. ⌜ PointsJudged (now (row .entry)) k n from r ⌝ }
 {
     let mut w = from;
@@ -96,13 +109,12 @@ fn judge_points(from: Walk, row: &[u32], k: usize, n: usize) -> Walk
 
 // ---- putting what was judged
 
-// The numbers of `count` areas, from bit `from` on: the bit behind them.
-pub fn put(buf: &mut [u8], from: usize, row: &[u32], count: u8) -> usize
-    requires { ⌜ (count ≤ 15) × (from ≤ 1_000) × Fews (now row) count ⌝ }
-    ensures { λ r. ⌜ AreasPut (now (row .entry)) count from (now (buf .entry)) r (now (buf .exit)) ⌝ }
+// The numbers of a notice's first `count` areas: the bit behind them.
+pub fn put(buf: &mut [u8], row: &[u32], count: u8) -> usize
+    ensures { λ r. ⌜ AreasPut (now (row .entry)) count front (now (buf .entry)) r (now (buf .exit)) ⌝ }
 {
     let most = count as usize;
-    let mut at = from;
+    let mut at = FRONT as usize;
     let mut k: usize = 0;
     let mut i: usize = 0;
     while i < most {
@@ -116,7 +128,7 @@ pub fn put(buf: &mut [u8], from: usize, row: &[u32], count: u8) -> usize
 
 // The area whose numbers begin with k.
 fn put_area(buf: &mut [u8], at: usize, row: &[u32], k: usize) -> Laid
-    requires { ⌜ (k ≤ 1_000) × (at ≤ 20_000) × Few (now row) k ⌝ }
+    requires { ⌜ (k ≤ 2 ^ 50) × (at ≤ 2 ^ 50) ⌝ }
     ensures { λ r. ⌜ AreaPut (now (row .entry)) k at (now (buf .entry)) r (now (buf .exit)) ⌝ }
 {
     let kind = entry(row, k);
@@ -130,10 +142,10 @@ fn put_area(buf: &mut [u8], at: usize, row: &[u32], k: usize) -> Laid
     }
     if kind == CIRCLE {
         put_points(buf, at + 3, row, k + 1, 1);
-        bits::put(buf, at + 46, 10, entry(row, k + 3));
-        bits::put(buf, at + 56, 2, entry(row, k + 4));
+        bits::put(buf, at + 3 + POINT, 10, entry(row, k + 3));
+        bits::put(buf, at + 3 + POINT + 10, 2, entry(row, k + 4));
         return Laid {
-            at: at + 58,
+            at: at + 3 + POINT + 12,
             next: k + 5,
         };
     }
@@ -141,20 +153,25 @@ fn put_area(buf: &mut [u8], at: usize, row: &[u32], k: usize) -> Laid
     bits::put(buf, at + 3, 4, n);
     put_points(buf, at + 7, row, k + 2, n as usize);
     Laid {
-        at: at + 7 + n as usize * 43,
+        at: at + 7 + n as usize * POINT,
         next: k + 2 + n as usize * 2,
     }
 }
 
 // Latitude and longitude of n points.
 fn put_points(buf: &mut [u8], at: usize, row: &[u32], k: usize, n: usize)
-    requires { ⌜ (n ≤ 15) × (k ≤ 2_000) × (at ≤ 30_000) ⌝ }
+    requires { ⌜ (n < 2 ^ 32) × (k ≤ 2 ^ 51) × (at ≤ 2 ^ 51) ⌝ }
     ensures { λ _. ⌜ PointsPut (now (row .entry)) k n at (now (buf .entry)) (now (buf .exit)) ⌝ }
 {
     let mut j: usize = 0;
     while j < n {
-        bits::put(buf, at + j * 43, 21, entry(row, k + j * 2));
-        bits::put(buf, at + j * 43 + 21, 22, entry(row, k + j * 2 + 1));
+        bits::put(buf, at + j * POINT, LATITUDE, entry(row, k + j * 2));
+        bits::put(
+            buf,
+            at + j * POINT + LATITUDE,
+            LONGITUDE,
+            entry(row, k + j * 2 + 1),
+        );
         j += 1;
     }
 }

@@ -8,19 +8,19 @@ use Rattle.bits.specs.Bits.{Bytes}
 use Rattle.format.specs.Fmt.{accepted, write}
 use Rattle.format.specs.laws.Putting.{Putting, Puts}
 use Rattle.layout.specs.Judging.{beyond}
-use Rattle.layout.specs.laws.Judging.{Judged}
-use Rattle.layout.specs.laws.Loops.{Going}
+use Rattle.layout.specs.laws.Judging.{Judging, Judged}
 use Rattle.layout.specs.declared.walk.Walk.{Walk}
 use Rattle.areas_making.specs.declared.Stepped.{Stepped}
 use Rattle.notice_areas.specs.Row.{areasLong}
+use Rattle.notice_areas.specs.Standing.{front}
 use Rattle.notice_reading.specs.Notice.{rest, notice}
 use Rattle.notice_reading.specs.Record.{headed, valuesOf}
 use Rattle.notice_reading.specs.declared.Notice.{Notice}
 
 -- judging stands at the areas, whatever values follow
 pub record HeadJudged (r : Notice) (w : Walk) : Type 0 where
-  pub going : (english : Bool) (vs : List ℕ) → Going (write (notice english) [] 0 (headed r vs)) (rest english (r .count)) vs w
-  pub near : w .at ≤ 63
+  pub past : List ℕ
+  pub is : (english : Bool) (vs : List ℕ) → Judging (write (notice english) [] 0 (headed r vs)) (rest english (r .count)) past front vs w
   pub few : w .code ≡ 0 → r .count ≤ 15
 
 -- all of it is judged; the text is gone past as whole bytes
@@ -31,7 +31,7 @@ pub record NoticeJudged (english : Bool) (r : Notice) (areas text : List ℕ) (s
 -- putting stands at the areas
 abbrev pub HeadPut : Notice → List ℕ → List ℕ → Type 0
 HeadPut r s t = (english : Bool) (vs : List ℕ) (b : List Bool) → Bytes s → write (notice english) [] 0 (headed r vs) ≡ accepted b → length b ≤ length s * 8
-    → Putting s b (rest english (r .count)) 63 vs t
+    → Putting s b (rest english (r .count)) front vs t
 
 abbrev pub NoticePut : Notice → List ℕ → List ℕ → List ℕ → List ℕ → Type 0
 NoticePut r areas text s t = (english : Bool) → Puts (notice english) (valuesOf (r, (areas, text))) s t

@@ -1,7 +1,7 @@
 // Writing a notice, step by step: its values judged, then put.
 ghost use Prim.Native.Nat.{_≤_};
 ghost use lib.ListN.{length};
-ghost use Rattle.notice_areas.specs.Row.{Fews};
+ghost use Rattle.packet_reading.specs.Packet.{joined};
 ghost use Rattle.notice.specs.Making.{HeadJudged, NoticeJudged, HeadPut, NoticePut};
 use areas_making::Stepped;
 use layout::walk::Walk;
@@ -19,7 +19,7 @@ pub(crate) fn judged(r: Notice, areas: &[u32], text: &[u8], english: bool) -> St
             next: 0,
         };
     }
-    let all = areas_making::judge(head, areas, r.count);
+    let all = areas_making::judge(areas, r.count);
     let next = all.next;
     let behind = all.walk;
     let fault = choose(text::spoken(text, 0, text.len(), english), 0, format::RANGE);
@@ -48,11 +48,11 @@ fn judged_head(r: Notice) -> Walk
 }
 
 pub(crate) fn put(buf: &mut [u8], r: Notice, areas: &[u32], text: &[u8])
-    requires { ⌜ (r .count ≤ 15) × Fews (now areas) (r .count) × (length (now text) ≤ 12_978) ⌝ }
+    requires { ⌜ (r .count ≤ 15) × (length (now text) ≤ joined) ⌝ }
     ensures { λ _. ⌜ NoticePut r (now (areas .entry)) (now (text .entry)) (now (buf .entry)) (now (buf .exit)) ⌝ }
 {
     put_head(buf, r);
-    let at = areas_making::put(buf, Notice::BITS, areas, r.count);
+    let at = areas_making::put(buf, areas, r.count);
     runs::put_bytes(buf, at, text);
     change::putting::fill(buf, at + text.len() * 8);
 }

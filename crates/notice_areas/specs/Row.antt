@@ -1,5 +1,5 @@
 -- Areas told by a row of numbers, one behind another, each its kind and what it holds: how many numbers n areas have. Assumes nothing.
-use Prim.Native.Nat.{ℕ, zero, suc, _+_, _*_, _≤_}
+use Prim.Native.Nat.{ℕ, zero, suc, _+_, _*_}
 use mathlib.Core.List.{List, [], _∷_}
 use lib.ListN.{drop, getD}
 use Rattle.notice_areas.specs.Areas.{Kind, sea, circle, several, kindOf}
@@ -25,22 +25,3 @@ areasLong (suc n) row = areaLong row + areasLong n (drop (areaLong row) row)
 -- the numbers of n areas
 abbrev pub areasTold : ℕ → List ℕ → List ℕ
 areasTold n row = first (areasLong n row) row
-
--- ---- as few as a count of four bits can say
-
--- counted points are no more than 15
-abbrev pub few : Kind → ℕ → Type 0
-few sea c = Unit
-few circle c = Unit
-few (several l) c = c ≤ 15
-
-abbrev pub Few : List ℕ → ℕ → Type 0
-Few row k = few (kindOf (getD row k 0)) (getD row (k + 1) 0)
-
--- in each of n areas
-unfoldable pub fews : ℕ → List ℕ → Type 0
-fews zero row = Unit
-fews (suc n) row = Few row 0 × fews n (drop (areaLong row) row)
-
-abbrev pub Fews : List ℕ → ℕ → Type 0
-Fews row n = fews n row

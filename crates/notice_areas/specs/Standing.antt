@@ -2,24 +2,29 @@
 use Prim.Native.Nat.{ℕ, zero, suc, _+_, _*_}
 use mathlib.Core.List.{List, [], _∷_, _++_}
 use Rattle.bits.specs.Answers.{got}
+use Rattle.notice_parts.specs.Parts.{latitudeBits, longitudeBits, pointBits}
 use Rattle.notice_areas.specs.Areas.{Kind, sea, circle, several, kindOf}
+
+-- the bit where a notice's first area begins
+abbrev pub front : ℕ
+front = 63
 
 -- n points
 unfoldable pub pointsAt : List ℕ → ℕ → ℕ → List ℕ
 pointsAt s zero at = []
-pointsAt s (suc n) at = got s at 21 ∷ got s (at + 21) 22 ∷ pointsAt s n (at + 43)
+pointsAt s (suc n) at = got s at latitudeBits ∷ got s (at + latitudeBits) longitudeBits ∷ pointsAt s n (at + pointBits)
 
 -- behind the number of a kind
 abbrev pub insideAt : Kind → List ℕ → ℕ → List ℕ
 insideAt sea s at = got s at 8 ∷ []
-insideAt circle s at = pointsAt s 1 at ++ (got s (at + 43) 10 ∷ got s (at + 53) 2 ∷ [])
+insideAt circle s at = pointsAt s 1 at ++ (got s (at + pointBits) 10 ∷ got s (at + pointBits + 10) 2 ∷ [])
 insideAt (several least) s at = got s at 4 ∷ pointsAt s (got s at 4) (at + 4)
 
 -- how many bits these have
 abbrev pub insideWide : Kind → List ℕ → ℕ → ℕ
 insideWide sea s at = 8
-insideWide circle s at = 55
-insideWide (several least) s at = 4 + got s at 4 * 43
+insideWide circle s at = pointBits + 12
+insideWide (several least) s at = 4 + got s at 4 * pointBits
 
 -- an area
 abbrev pub areaAt : List ℕ → ℕ → List ℕ

@@ -10,6 +10,9 @@ pub const SEA: u64 = 0;
 
 pub const CIRCLE: u64 = 3;
 
+// The bit where a notice's first area begins.
+pub const FRONT: u32 = 63;
+
 // The walk in front of an area's points, and how many they are.
 pub struct Opened {
     pub walk: Walk,

@@ -2,16 +2,11 @@
 ghost use Rattle.format.specs.Promises.{Corrects};
 ghost use Rattle.notice_reading.specs.Notice.{notices};
 use notice_reading::fields;
-use notice_reading::lead;
 
 // Makes field number `field` of the notice be `value`, or leaves every byte. The walk finds where the field stands.
 pub fn correct(buf: &mut [u8], english: bool, field: usize, value: u64) -> u8
     ensures { λ code. ⌜ Corrects (notices english) (now (buf .entry)) field value code (now (buf .exit)) ⌝ }
 {
-    let size = lead(buf);
-    if size != 0 {
-        return size;
-    }
     let was = fields(buf, field, english);
     let walk = was.walk;
     let at = walk.spot;

@@ -1,15 +1,20 @@
 -- What the bits of areas say of how they are told: how many points and numbers, and where they stand. Assumes nothing.
 use Prim.Native.Nat.{ℕ, zero, suc, _+_, _*_}
+use mathlib.Core.Bool.{cond}
 use mathlib.Core.List.{List}
+use lib.Dec.{leb}
+use lib.ListN.{length}
+use lib.Seq.{sets}
 use Rattle.bits.specs.Answers.{got}
 use Rattle.notice_areas.specs.Areas.{Kind, sea, circle, several, kindOf}
+use Rattle.notice_parts.specs.Parts.{pointBits}
 use Rattle.notice_numbers.specs.declared.Shape.{Shape}
 use Rattle.notice_numbers.specs.declared.Extent.{Extent}
 
 abbrev pub shapeAs : Kind → List ℕ → ℕ → Shape
 shapeAs sea s at = record { points = 0; first = at + 11; next = at + 11; numbers = 2 }
-shapeAs circle s at = record { points = 1; first = at + 3; next = at + 58; numbers = 5 }
-shapeAs (several least) s at = let n = got s (at + 3) 4 in record { points = n; first = at + 7; next = at + 7 + n * 43; numbers = 2 + n * 2 }
+shapeAs circle s at = record { points = 1; first = at + 3; next = at + 3 + pointBits + 12; numbers = 5 }
+shapeAs (several least) s at = let n = got s (at + 3) 4 in record { points = n; first = at + 7; next = at + 7 + n * pointBits; numbers = 2 + n * 2 }
 
 -- the area at a bit
 unfoldable pub shapeAt : List ℕ → ℕ → Shape
@@ -26,3 +31,7 @@ pointsIn s (suc n) at = let a = shapeAt s at in a .points + pointsIn s n (a .nex
 
 abbrev pub extentAt : List ℕ → ℕ → ℕ → Extent
 extentAt s n at = record { numbers = numbersIn s n at; points = pointsIn s n at }
+
+-- numbers in front of a row that has room for them; one that has not stays
+abbrev pub filled : List ℕ → List ℕ → List ℕ
+filled xs row = cond (leb (length xs) (length row)) (sets row 0 xs) row

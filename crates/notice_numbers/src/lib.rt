@@ -1,13 +1,16 @@
 // The numbers that stand in a notice's areas, taken into a lent row: the areas one behind another, each its kind and what it holds.
 ghost use mathlib.Core.Path.{_≡_};
-ghost use Prim.Native.Nat.{_+_, _*_, _≤_};
+ghost use Prim.Native.Nat.{_+_, _*_, _^_, _≤_, _<_};
 ghost use lib.ListN.{length};
 ghost use lib.Seq.{sets};
-ghost use Rattle.notice_areas.specs.Areas.{kindOf};
-ghost use Rattle.notice_areas.specs.Standing.{pointsAt, areaAt, areasAt};
-ghost use Rattle.notice_numbers.specs.Shapes.{shapeAt, extentAt};
+ghost use Rattle.notice_areas.specs.Standing.{front, pointsAt, areaAt, areasAt};
+ghost use Rattle.notice_numbers.specs.Shapes.{shapeAt, extentAt, filled};
 use notice_areas::CIRCLE;
+use notice_areas::FRONT;
 use notice_areas::SEA;
+use notice_parts::LATITUDE;
+use notice_parts::LONGITUDE;
+use notice_parts::POINT;
 
 // An area by its bits: how many points it has and where the first stands, where the next area does, and how many numbers it is told by.
 pub struct Shape {
@@ -24,10 +27,10 @@ pub struct Extent {
 }
 
 // The area at bit `at`.
-pub fn area_at(s: &[u8], at: usize) -> Shape
-    requires { ⌜ at ≤ 20_000 ⌝ }
+pub fn area_at(s: &[u8], at: u32) -> Shape
     ensures { λ r. ⌜ r ≡ shapeAt (now (s .entry)) at ⌝ }
 {
+    let at = at as usize;
     let kind = bits::get(s, at, 3);
     if kind == SEA {
         return Shape {
@@ -41,7 +44,7 @@ pub fn area_at(s: &[u8], at: usize) -> Shape
         return Shape {
             points: 1,
             first: at + 3,
-            next: at + 58,
+            next: at + 3 + POINT + 12,
             numbers: 5,
         };
     }
@@ -49,52 +52,64 @@ pub fn area_at(s: &[u8], at: usize) -> Shape
     Shape {
         points,
         first: at + 7,
-        next: at + 7 + points * 43,
+        next: at + 7 + points * POINT,
         numbers: 2 + points * 2,
     }
 }
 
-// What `count` areas from bit `from` on have.
-pub fn measure(s: &[u8], from: usize, count: u8) -> Extent
-    requires { ⌜ (from ≤ 1_000) × (count ≤ 15) ⌝ }
-    ensures { λ r. ⌜ r ≡ extentAt (now (s .entry)) count from ⌝ }
+// What the first `count` areas of a notice have.
+pub fn measure(s: &[u8], count: u8) -> Extent
+    ensures { λ r. ⌜ r ≡ extentAt (now (s .entry)) count front ⌝ }
 {
     let most = count as usize;
     let mut numbers: usize = 0;
     let mut points: usize = 0;
-    let mut at = from;
+    let mut at = FRONT;
     let mut i: usize = 0;
     while i < most {
         let area = area_at(s, at);
         numbers += area.numbers;
         points += area.points;
-        at = area.next;
+        at = area.next as u32;
         i += 1;
     }
     Extent { numbers, points }
 }
 
-// The numbers of `count` areas from bit `from` on, into the front of the row.
-pub fn fill(s: &[u8], from: usize, count: u8, row: &mut [u32])
-    requires { ⌜ (from ≤ 1_000) × (count ≤ 15) × (length (areasAt (now s) count from) ≤ length (now row)) ⌝ }
-    ensures { λ _. ⌜ now (row .exit) ≡ sets (now (row .entry)) 0 (areasAt (now (s .entry)) count from) ⌝ }
+// The numbers of a notice's first `count` areas, into the front of the row where it has room for all: how many they are.
+pub fn fill(s: &[u8], count: u8, row: &mut [u32]) -> usize
+    ensures { λ r. ⌜ (r ≡ length (areasAt (now (s .entry)) count front)) × (now (row .exit) ≡ filled (areasAt (now (s .entry)) count front) (now (row .entry))) ⌝ }
+{
+    let extent = measure(s, count);
+    let numbers = extent.numbers;
+    if row.len() < numbers {
+        return numbers;
+    }
+    store(s, count, row);
+    numbers
+}
+
+// The same, where there is room.
+fn store(s: &[u8], count: u8, row: &mut [u32])
+    requires { ⌜ length (areasAt (now s) count front) ≤ length (now row) ⌝ }
+    ensures { λ _. ⌜ now (row .exit) ≡ sets (now (row .entry)) 0 (areasAt (now (s .entry)) count front) ⌝ }
 {
     let most = count as usize;
     let mut k: usize = 0;
-    let mut at = from;
+    let mut at = FRONT;
     let mut i: usize = 0;
     while i < most {
         let area = area_at(s, at);
-        fill_area(s, at, row, k);
+        fill_area(s, at as usize, row, k);
         k += area.numbers;
-        at = area.next;
+        at = area.next as u32;
         i += 1;
     }
 }
 
 // An area's numbers, from row entry k on.
 fn fill_area(s: &[u8], at: usize, row: &mut [u32], k: usize)
-    requires { ⌜ (at ≤ 20_000) × (k + length (areaAt (now s) at) ≤ length (now row)) ⌝ }
+    requires { ⌜ (at < 2 ^ 32) × (k + length (areaAt (now s) at) ≤ length (now row)) ⌝ }
     ensures { λ _. ⌜ now (row .exit) ≡ sets (now (row .entry)) k (areaAt (now (s .entry)) at) ⌝ }
 {
     let kind = bits::get(s, at, 3);
@@ -105,8 +120,8 @@ fn fill_area(s: &[u8], at: usize, row: &mut [u32], k: usize)
     }
     if kind == CIRCLE {
         fill_points(s, at + 3, 1, row, k + 1);
-        row[k + 3] = bits::get(s, at + 46, 10) as u32;
-        row[k + 4] = bits::get(s, at + 56, 2) as u32;
+        row[k + 3] = bits::get(s, at + 3 + POINT, 10) as u32;
+        row[k + 4] = bits::get(s, at + 3 + POINT + 10, 2) as u32;
         return;
     }
     let points = bits::get(s, at + 3, 4);
@@ -116,13 +131,13 @@ fn fill_area(s: &[u8], at: usize, row: &mut [u32], k: usize)
 
 // The latitudes and longitudes of n points, from row entry k on.
 fn fill_points(s: &[u8], at: usize, n: usize, row: &mut [u32], k: usize)
-    requires { ⌜ (at ≤ 30_000) × (n ≤ 15) × (k + n * 2 ≤ length (now row)) ⌝ }
+    requires { ⌜ (at ≤ 2 ^ 33) × (n ≤ 15) × (k + n * 2 ≤ length (now row)) ⌝ }
     ensures { λ _. ⌜ now (row .exit) ≡ sets (now (row .entry)) k (pointsAt (now (s .entry)) n at) ⌝ }
 {
     let mut j: usize = 0;
     while j < n {
-        row[k + j * 2] = bits::get(s, at + j * 43, 21) as u32;
-        row[k + j * 2 + 1] = bits::get(s, at + j * 43 + 21, 22) as u32;
+        row[k + j * 2] = bits::get(s, at + j * POINT, LATITUDE) as u32;
+        row[k + j * 2 + 1] = bits::get(s, at + j * POINT + LATITUDE, LONGITUDE) as u32;
         j += 1;
     }
 }

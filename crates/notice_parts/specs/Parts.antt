@@ -1,5 +1,5 @@
 -- The notice's fields that have several parts, and its subtype (paper 01, "Notice and packet"; 000, 5.2.2). Assumes nothing.
-use Prim.Native.Nat.{ℕ}
+use Prim.Native.Nat.{ℕ, _+_}
 use mathlib.Core.Bool.{false, _||_, cond}
 use mathlib.Core.List.{List, [], _∷_}
 use lib.Dec.{eqb}
@@ -22,6 +22,16 @@ moment = part 1 4 (0 ‥ 1) ∷ part 4 4 (1 ‥ 12) ∷ part 5 4 (1 ‥ 31) ∷ 
 -- all 21 bits zero: not known, and good
 abbrev pub expiry : Fmt → Fmt
 expiry = field 21 (orZero 21 (walk moment 0)) free
+
+-- the bits of a latitude, of a longitude, and of a point: one behind the other
+abbrev pub latitudeBits : ℕ
+latitudeBits = 21
+
+abbrev pub longitudeBits : ℕ
+longitudeBits = 22
+
+abbrev pub pointBits : ℕ
+pointBits = latitudeBits + longitudeBits
 
 -- south or west, degrees of d bits, minutes, hundredths
 abbrev pub angle : ℕ → ℕ → List Part

@@ -8,6 +8,7 @@ use Rattle.pieces.specs.Pieces.{unpieced, pieced, unlessZero}
 use Rattle.layout.specs.Reading.{parted, judgedAs, partwise}
 use Rattle.pieces.specs.declared.Pieces.{Pieces}
 use Rattle.layout.specs.declared.walk.Walk.{Walk}
+use Rattle.notice_parts.specs.Parts.{latitudeBits, longitudeBits}
 
 -- the subtypes of the type t: from the least to the most
 unfoldable pub mostSubtype : ℕ → ℕ
@@ -50,13 +51,13 @@ abbrev pub angleRead : List ℕ → ℕ → ℕ → ℕ → Walk → Walk
 angleRead s n d most r = partwise s n (anglePieced n d most (got s (r .at) n)) (angleParted s d most (bare (r .at) (r .code) (r .place))) r
 
 abbrev pub latitudeRead : List ℕ → Walk → Walk
-latitudeRead s r = angleRead s 21 7 90 r
+latitudeRead s r = angleRead s latitudeBits 7 90 r
 
 abbrev pub longitudeRead : List ℕ → Walk → Walk
-longitudeRead s r = angleRead s 22 8 180 r
+longitudeRead s r = angleRead s longitudeBits 8 180 r
 
 abbrev pub latitudeJudged : ℕ → Walk → Walk
-latitudeJudged v r = angleJudged 21 7 90 v r
+latitudeJudged v r = angleJudged latitudeBits 7 90 v r
 
 abbrev pub longitudeJudged : ℕ → Walk → Walk
-longitudeJudged v r = angleJudged 22 8 180 v r
+longitudeJudged v r = angleJudged longitudeBits 8 180 v r

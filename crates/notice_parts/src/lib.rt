@@ -1,6 +1,7 @@
 // The notice's fields that have several parts, and the limits of its subtype (paper 01, "Notice and packet"): read, and judged.
 ghost use mathlib.Core.Path.{_≡_};
 ghost use Prim.Native.Nat.{_^_, _<_};
+ghost use Rattle.notice_parts.specs.Parts.{latitudeBits, longitudeBits};
 ghost use Rattle.notice_parts.specs.Steps.{leastSubtype, mostSubtype, momentRead, expiryRead, bare, angleParted, latitudeRead, longitudeRead, expiryJudged, angleJudged, latitudeJudged, longitudeJudged};
 use layout::walk::Walk;
 use pieces::Pieces;
@@ -11,6 +12,9 @@ pub const EXPIRY: usize = 21;
 pub const LATITUDE: usize = 21;
 
 pub const LONGITUDE: usize = 22;
+
+// A point: its latitude, then its longitude.
+pub const POINT: usize = LATITUDE + LONGITUDE;
 
 // An angle's last minute and its last hundredth.
 const MINUTES: u64 = 60;
@@ -65,7 +69,7 @@ fn moment(s: &[u8], w: Walk) -> Walk
 }
 
 pub fn latitude(s: &[u8], w: Walk) -> Walk
-    ensures { λ r. ⌜ (r ≡ latitudeRead (now (s .entry)) w) × (r .v < 2 ^ 21) ⌝ }
+    ensures { λ r. ⌜ (r ≡ latitudeRead (now (s .entry)) w) × (r .v < 2 ^ latitudeBits) ⌝ }
 {
     let at = w.at;
     if bits::holds(s.len(), at, LATITUDE) {
@@ -76,7 +80,7 @@ pub fn latitude(s: &[u8], w: Walk) -> Walk
 }
 
 pub fn longitude(s: &[u8], w: Walk) -> Walk
-    ensures { λ r. ⌜ (r ≡ longitudeRead (now (s .entry)) w) × (r .v < 2 ^ 22) ⌝ }
+    ensures { λ r. ⌜ (r ≡ longitudeRead (now (s .entry)) w) × (r .v < 2 ^ longitudeBits) ⌝ }
 {
     let at = w.at;
     if bits::holds(s.len(), at, LONGITUDE) {

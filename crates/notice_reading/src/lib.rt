@@ -5,7 +5,8 @@ ghost use lib.ListN.{length};
 ghost use Rattle.format.specs.Message.{codeOf, readMessage};
 ghost use Rattle.notice_reading.specs.Notice.{notices, sizes};
 ghost use Rattle.notice_reading.specs.Promises.{Reads, numberOf};
-ghost use Rattle.notice_reading.specs.Steps.{Heads, ClosedIs, FieldsAre};
+ghost use Rattle.notice_reading.specs.Steps.{Heads, ClosedIs, unreadBy, FieldsAre};
+ghost use Rattle.packet_reading.specs.Packet.{joined};
 use layout::walk::Walk;
 use number::choosing::choose;
 
@@ -54,9 +55,6 @@ impl Answer {
 }
 
 impl Notice {
-    // The bits in front of the areas.
-    pub const BITS: usize = 63;
-
     pub const LEAST: usize = 8;
 
     // What the packets of a notice can carry.
@@ -105,10 +103,6 @@ pub struct Course {
 pub fn read(s: &[u8], english: bool, areas: &mut [u32], text: &mut [u8]) -> Answer
     ensures { λ r. ⌜ Reads english (now (s .entry)) (now (areas .entry)) (now (text .entry)) r (now (areas .exit)) (now (text .exit)) ⌝ }
 {
-    let size = lead(s);
-    if size != 0 {
-        return Answer::Refused(size);
-    }
     let f = fields(s, 0, english);
     let walk = f.walk;
     let code = walk.code;
@@ -117,15 +111,14 @@ pub fn read(s: &[u8], english: bool, areas: &mut [u32], text: &mut [u8]) -> Answ
     }
     let notice = f.notice;
     let n = f.text;
-    let extent = notice_numbers::measure(s, Notice::BITS, notice.count);
-    let numbers = extent.numbers;
-    if areas.len() < numbers {
-        return Answer::Refused(format::ROOM);
-    }
     if text.len() < n {
         return Answer::Refused(format::ROOM);
     }
-    notice_numbers::fill(s, Notice::BITS, notice.count, areas);
+    // A row that is too short stays as it was.
+    let numbers = notice_numbers::fill(s, notice.count, areas);
+    if areas.len() < numbers {
+        return Answer::Refused(format::ROOM);
+    }
     runs::get_bytes(s, f.at, n, text);
     Answer::Good(Told {
         notice,
@@ -138,33 +131,19 @@ pub fn read(s: &[u8], english: bool, areas: &mut [u32], text: &mut [u8]) -> Answ
 pub fn refusal(s: &[u8], english: bool) -> u8
     ensures { λ r. ⌜ r ≡ codeOf (readMessage (notices english) (now (s .entry))) ⌝ }
 {
-    let code = lead(s);
-    if code != 0 {
-        return code;
-    }
-    let f = fields(s, 0, english);
-    let walk = f.walk;
+    let course = fields(s, 0, english);
+    let walk = course.walk;
     walk.code
 }
 
-// The first test: the size.
-pub fn lead(s: &[u8]) -> u8
-    ensures { λ r. ⌜ r ≡ sizes (now (s .entry)) ⌝ }
-{
-    if s.len() < Notice::LEAST {
-        return format::SIZE;
-    }
-    if Notice::GREATEST < s.len() {
-        return format::SIZE;
-    }
-    0
-}
-
-// The fields in bit order, behind the first test; on the way, field number `want` is found.
+// The size, then the fields in bit order; on the way, field number `want` is found. Of another size nothing is walked.
 pub fn fields(s: &[u8], want: usize, english: bool) -> Course
-    requires { ⌜ length (now s) ≤ 12_978 ⌝ }
     ensures { λ r. ⌜ FieldsAre english want (now (s .entry)) r ⌝ }
 {
+    let size = lead(s);
+    if size != 0 {
+        return unread(size);
+    }
     let head = head(s, want);
     let notice = head.notice;
     let front = head.walk;
@@ -176,6 +155,42 @@ pub fn fields(s: &[u8], want: usize, english: bool) -> Course
         notice,
         at: areas.at,
         text: ending.text,
+    }
+}
+
+// The first test: the size.
+fn lead(s: &[u8]) -> u8
+    ensures { λ r. ⌜ r ≡ sizes (now (s .entry)) ⌝ }
+{
+    if s.len() < Notice::LEAST {
+        return format::SIZE;
+    }
+    if Notice::GREATEST < s.len() {
+        return format::SIZE;
+    }
+    0
+}
+
+// No walk, no record: what the first test refused by `code`.
+fn unread(code: u8) -> Course
+    ensures { λ r. ⌜ r ≡ unreadBy code ⌝ }
+{
+    let walk = Walk::begin(code, 0);
+    let notice = Notice {
+        source: 0,
+        station: 0,
+        serial: 0,
+        year: 0,
+        kind: 0,
+        subtype: 0,
+        expiry: 0,
+        count: 0,
+    };
+    Course {
+        walk,
+        notice,
+        at: 0,
+        text: 0,
     }
 }
 
@@ -219,7 +234,7 @@ fn head(s: &[u8], want: usize) -> Opening
 
 // Behind the areas: the text, all whole bytes that are left, and the fill.
 fn close(s: &[u8], w: Walk, english: bool) -> Ending
-    requires { ⌜ length (now s) ≤ 12_978 ⌝ }
+    requires { ⌜ length (now s) ≤ joined ⌝ }
     ensures { λ r. ⌜ ClosedIs english (now (s .entry)) w r ⌝ }
 {
     if w.code != 0 {

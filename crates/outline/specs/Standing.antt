@@ -5,11 +5,12 @@ use lib.IntN.{ℤ}
 use Rattle.bits.specs.Answers.{got}
 use Rattle.notice_numbers.specs.Shapes.{shapeAt}
 use Rattle.angles.specs.Angles.{northing, easting}
+use Rattle.notice_parts.specs.Parts.{latitudeBits, longitudeBits, pointBits}
 
 -- n points
 unfoldable pub pointsDrawn : List ℕ → ℕ → ℕ → List ℤ
 pointsDrawn s zero at = []
-pointsDrawn s (suc n) at = northing (got s at 21) ∷ easting (got s (at + 21) 22) ∷ pointsDrawn s n (at + 43)
+pointsDrawn s (suc n) at = northing (got s at latitudeBits) ∷ easting (got s (at + latitudeBits) longitudeBits) ∷ pointsDrawn s n (at + pointBits)
 
 -- an area
 abbrev pub areaDrawn : List ℕ → ℕ → List ℤ

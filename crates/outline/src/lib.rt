@@ -1,15 +1,17 @@
 // The chart outline of a notice (paper 01, "Notice and packet"): its points in a lent row, in hundredths of a minute.
 ghost use mathlib.Core.Path.{_≡_};
-ghost use Prim.Native.Nat.{_+_, _*_, _≤_, _<_};
+ghost use Prim.Native.Nat.{_+_, _*_, _^_, _≤_};
 ghost use lib.ListN.{length};
 ghost use lib.Seq.{sets};
+ghost use Rattle.notice_areas.specs.Standing.{front};
 ghost use Rattle.outline.specs.Promises.{Outlines};
 ghost use Rattle.outline.specs.Standing.{pointsDrawn, outlineAt};
 pub use angles::latitude_of;
 pub use angles::longitude_of;
+use notice_areas::FRONT;
 use notice_parts::LATITUDE;
 use notice_parts::LONGITUDE;
-use notice_reading::Notice;
+use notice_parts::POINT;
 
 // How many points, or the refusal.
 pub enum Answer {
@@ -21,10 +23,6 @@ pub enum Answer {
 pub fn outline(s: &[u8], english: bool, row: &mut [i32]) -> Answer
     ensures { λ r. ⌜ Outlines english (now (s .entry)) (now (row .entry)) r (now (row .exit)) ⌝ }
 {
-    let size = notice_reading::lead(s);
-    if size != 0 {
-        return Answer::Refused(size);
-    }
     let f = notice_reading::fields(s, 0, english);
     let walk = f.walk;
     let code = walk.code;
@@ -32,41 +30,41 @@ pub fn outline(s: &[u8], english: bool, row: &mut [i32]) -> Answer
         return Answer::Refused(code);
     }
     let notice = f.notice;
-    let extent = notice_numbers::measure(s, Notice::BITS, notice.count);
+    let extent = notice_numbers::measure(s, notice.count);
     let points = extent.points;
     if row.len() < points * 2 {
         return Answer::Refused(format::ROOM);
     }
-    draw(s, Notice::BITS, notice.count, row);
+    draw(s, notice.count, row);
     Answer::Good(points)
 }
 
-// The points of `count` areas from bit `from` on, into the front of the row.
-fn draw(s: &[u8], from: usize, count: u8, row: &mut [i32])
-    requires { ⌜ (from ≤ 1_000) × (count ≤ 15) × (length (outlineAt (now s) count from) ≤ length (now row)) ⌝ }
-    ensures { λ _. ⌜ now (row .exit) ≡ sets (now (row .entry)) 0 (outlineAt (now (s .entry)) count from) ⌝ }
+// The points of a notice's first `count` areas, into the front of the row.
+fn draw(s: &[u8], count: u8, row: &mut [i32])
+    requires { ⌜ length (outlineAt (now s) count front) ≤ length (now row) ⌝ }
+    ensures { λ _. ⌜ now (row .exit) ≡ sets (now (row .entry)) 0 (outlineAt (now (s .entry)) count front) ⌝ }
 {
     let most = count as usize;
     let mut k: usize = 0;
-    let mut at = from;
+    let mut at = FRONT;
     let mut i: usize = 0;
     while i < most {
         let area = notice_numbers::area_at(s, at);
         draw_points(s, area.first, area.points, row, k);
         k += area.points * 2;
-        at = area.next;
+        at = area.next as u32;
         i += 1;
     }
 }
 
 // n points from bit `at` on, from row entry k on.
 fn draw_points(s: &[u8], at: usize, n: usize, row: &mut [i32], k: usize)
-    requires { ⌜ (at ≤ 30_000) × (n ≤ 15) × (k + n * 2 ≤ length (now row)) ⌝ }
+    requires { ⌜ (at ≤ 2 ^ 33) × (n ≤ 15) × (k + n * 2 ≤ length (now row)) ⌝ }
     ensures { λ _. ⌜ now (row .exit) ≡ sets (now (row .entry)) k (pointsDrawn (now (s .entry)) n at) ⌝ }
 {
     let mut j: usize = 0;
     while j < n {
-        let here = at + j * 43;
+        let here = at + j * POINT;
         let latitude = bits::get(s, here, LATITUDE);
         let longitude = bits::get(s, here + LATITUDE, LONGITUDE);
         row[k + j * 2] = latitude_of(latitude);

@@ -2,6 +2,8 @@
 use Prim.Native.Nat.{_+_, _-_, _≤_}
 use mathlib.Core.Path.{_≡_, refl, subst}
 use native.Mathlib.Omega.{arith}
+use Rattle.notice_areas.specs.Standing.{front}
+use Rattle.notice_parts.specs.Steps.{bare}
 use Rattle.areas_making.specs.laws.Judging.{Passed, no-areas, one-area, broken, all-areas}
 use Rattle.areas_making.proofs.judge.Statement.{statement}
 use Rattle.areas_making.proofs.judge.Tie as tie
@@ -11,6 +13,9 @@ Inv-loop row count most w₀ k₀ i₀ w k i = (i ≤ count) × Passed row count
 
 abbrev μ-loop : tie.MeasureT-loop
 μ-loop row count most w₀ k₀ i₀ w k i = count - i
+
+cast-t8 : tie.Need-cast-t8 Inv-loop μ-loop
+cast-t8 c = omega arith
 
 loop-holds : tie.Need-loop-holds Inv-loop μ-loop
 loop-holds c = let a = c .before .args in (omega arith, no-areas (a .row .now) (a .count))
@@ -39,7 +44,7 @@ returns c =
     let l = c .before in
     let a = l .before .before .args in
     let all : l .loop .i ≡ a .count = omega arith in
-    all-areas (a .row .now) (a .count) (subst (λ i. Passed (a .row .now) (a .count) i (a .from) (l .loop .w) (l .loop .k)) all (l .loop .inv .1))
+    all-areas (a .row .now) (a .count) (subst (λ i. Passed (a .row .now) (a .count) i (bare front 0 0) (l .loop .w) (l .loop .k)) all (l .loop .inv .1))
 
 returns-2 : tie.Need-returns-2 Inv-loop μ-loop
 returns-2 c =
@@ -54,6 +59,7 @@ judge-spec =
     (tie.spec
     Inv-loop
     μ-loop
+    cast-t8
     loop-holds
     judge-area-requires
     add-i

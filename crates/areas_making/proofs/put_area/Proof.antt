@@ -3,9 +3,10 @@ use Prim.Native.Nat.{_+_, _-_}
 use native.Mathlib.Omega.{arith}
 use borrow.Author.Needs.{needs}
 use Rattle.format.specs.Correcting.{put-in}
+use Rattle.notice_parts.specs.Parts.{pointBits}
 use Rattle.notice_areas.specs.Areas.{leastOf}
 use Rattle.notice_areas.specs.laws.Kinds.{kind-sea, kind-circle, kind-several}
-use Rattle.areas_making.specs.laws.Putting.{sea-put, circle-put, several-put, few-several}
+use Rattle.areas_making.specs.laws.Putting.{sea-put, circle-put, several-put}
 use Rattle.areas_making.proofs.put_area.Statement.{statement}
 use Rattle.areas_making.proofs.put_area.Tie as tie
 
@@ -59,6 +60,9 @@ put-points-requires c κs = search needs
 add-put-2 : tie.Need-add-put-2
 add-put-2 c = search needs
 
+add-put-3 : tie.Need-add-put-3
+add-put-3 c = search needs
+
 add-entry-2 : tie.Need-add-entry-2
 add-entry-2 c = search needs
 
@@ -68,8 +72,14 @@ entry-requires-3 c κs = search needs
 put-requires-3 : tie.Need-put-requires-3
 put-requires-3 c κs = search needs
 
-add-put-3 : tie.Need-add-put-3
-add-put-3 c = search needs
+add-put-4 : tie.Need-add-put-4
+add-put-4 c = search needs
+
+add-put-5 : tie.Need-add-put-5
+add-put-5 c = search needs
+
+add-put-6 : tie.Need-add-put-6
+add-put-6 c = search needs
 
 add-entry-3 : tie.Need-add-entry-3
 add-entry-3 c = search needs
@@ -80,11 +90,17 @@ entry-requires-4 c κs = search needs
 put-requires-4 : tie.Need-put-requires-4
 put-requires-4 c κs = search needs
 
-add-t20 : tie.Need-add-t20
-add-t20 c = search needs
+add-t25 : tie.Need-add-t25
+add-t25 c = search needs
+
+add-t28 : tie.Need-add-t28
+add-t28 c = search needs
 
 add-t19 : tie.Need-add-t19
 add-t19 c = search needs
+
+add-t20 : tie.Need-add-t20
+add-t20 c = search needs
 
 same-length-2 : tie.Need-same-length-2
 same-length-2 c = search needs
@@ -101,7 +117,7 @@ returns-2 c =
     let e = p1 .before .before in
     let a = e .before .before .before .args in
     circle-put (a .row .now) (a .k) (a .at) (a .buf .now) (e .entry .ensures) (put-in (a .buf .now) (a .at) 3 (e .entry .result) (p1 .put .ensures)) (kind-circle (i .if2 .taken)) (ps .put-points .ensures) (e3 .entry3 .ensures) (e4 .entry4 .ensures)
-    (put-in _ (a .at + 46) 10 (e3 .entry3 .result) (p3 .put3 .ensures)) (put-in _ (a .at + 56) 2 (e4 .entry4 .result) (p4 .put4 .ensures))
+    (put-in _ (a .at + 3 + pointBits) 10 (e3 .entry3 .result) (p3 .put3 .ensures)) (put-in _ (a .at + 3 + pointBits + 10) 2 (e4 .entry4 .result) (p4 .put4 .ensures))
 
 add-entry-4 : tie.Need-add-entry-4
 add-entry-4 c = search needs
@@ -109,8 +125,8 @@ add-entry-4 c = search needs
 entry-requires-5 : tie.Need-entry-requires-5
 entry-requires-5 c κs = search needs
 
-add-put-4 : tie.Need-add-put-4
-add-put-4 c = search needs
+add-put-7 : tie.Need-add-put-7
+add-put-7 c = search needs
 
 put-requires-5 : tie.Need-put-requires-5
 put-requires-5 c κs = search needs
@@ -122,60 +138,41 @@ add-put-points-4 : tie.Need-add-put-points-4
 add-put-points-4 c = search needs
 
 put-points-requires-2 : tie.Need-put-points-requires-2
-put-points-requires-2 c κs =
-    let e5 = c .before .before .before .before .before in
-    let i = e5 .before in
-    let e = i .before .before .before .before .before .before in
-    let st = e .before .before .before in
-    let a = st .args in
-    let few = few-several (a .row .now) (a .k) (leastOf (e .entry .result)) (st .pre .2) (e .entry .ensures) (kind-several (i .before .if1 .left) (i .if2 .left)) (e5 .entry5 .ensures) in
-    (few, omega (arith, st .pre), omega (arith, st .pre))
+put-points-requires-2 c κs = let e5 = c .before .before .before .before .before in
+    let known = e5 .before .before .before .before .before .before .before .before in
+    let few = known .shared-slice-known .given (known .before .before .args .k + 1) .fits in
+    let st = known .before .before in
+    (omega (arith, few, e5 .entry5 .ensures), omega (arith, st .pre), omega (arith, st .pre))
 
-add-t27 : tie.Need-add-t27
-add-t27 c = search needs
+add-t29 : tie.Need-add-t29
+add-t29 c = search needs
 
-mul-t33 : tie.Need-mul-t33
-mul-t33 c =
-    let e5 = c .before .before .before .before .before .before .before .before in
-    let i = e5 .before in
-    let e = i .before .before .before .before .before .before in
-    let st = e .before .before .before in
-    let a = st .args in
-    let few = few-several (a .row .now) (a .k) (leastOf (e .entry .result)) (st .pre .2) (e .entry .ensures) (kind-several (i .before .if1 .left) (i .if2 .left)) (e5 .entry5 .ensures) in
-    omega (arith, few, st .pre .0, st .pre .1)
+mul-t35 : tie.Need-mul-t35
+mul-t35 c = let e5 = c .before .before .before .before .before .before .before .before in
+    let known = e5 .before .before .before .before .before .before .before .before in
+    let few = known .shared-slice-known .given (known .before .before .args .k + 1) .fits in
+    omega (arith, few, e5 .entry5 .ensures, known .before .before .pre)
 
-add-t35 : tie.Need-add-t35
-add-t35 c =
-    let e5 = c .before .before .before .before .before .before .before .before in
-    let i = e5 .before in
-    let e = i .before .before .before .before .before .before in
-    let st = e .before .before .before in
-    let a = st .args in
-    let few = few-several (a .row .now) (a .k) (leastOf (e .entry .result)) (st .pre .2) (e .entry .ensures) (kind-several (i .before .if1 .left) (i .if2 .left)) (e5 .entry5 .ensures) in
-    omega (arith, few, st .pre .0, st .pre .1)
+add-t37 : tie.Need-add-t37
+add-t37 c = let e5 = c .before .before .before .before .before .before .before .before in
+    let known = e5 .before .before .before .before .before .before .before .before in
+    let few = known .shared-slice-known .given (known .before .before .args .k + 1) .fits in
+    omega (arith, few, e5 .entry5 .ensures, known .before .before .pre)
 
-add-t36 : tie.Need-add-t36
-add-t36 c = search needs
+add-t38 : tie.Need-add-t38
+add-t38 c = search needs
 
-mul-t38 : tie.Need-mul-t38
-mul-t38 c =
-    let e5 = c .before .before .before .before .before .before .before .before in
-    let i = e5 .before in
-    let e = i .before .before .before .before .before .before in
-    let st = e .before .before .before in
-    let a = st .args in
-    let few = few-several (a .row .now) (a .k) (leastOf (e .entry .result)) (st .pre .2) (e .entry .ensures) (kind-several (i .before .if1 .left) (i .if2 .left)) (e5 .entry5 .ensures) in
-    omega (arith, few, st .pre .0, st .pre .1)
+mul-t40 : tie.Need-mul-t40
+mul-t40 c = let e5 = c .before .before .before .before .before .before .before .before in
+    let known = e5 .before .before .before .before .before .before .before .before in
+    let few = known .shared-slice-known .given (known .before .before .args .k + 1) .fits in
+    omega (arith, few, e5 .entry5 .ensures, known .before .before .pre)
 
-add-t39 : tie.Need-add-t39
-add-t39 c =
-    let e5 = c .before .before .before .before .before .before .before .before in
-    let i = e5 .before in
-    let e = i .before .before .before .before .before .before in
-    let st = e .before .before .before in
-    let a = st .args in
-    let few = few-several (a .row .now) (a .k) (leastOf (e .entry .result)) (st .pre .2) (e .entry .ensures) (kind-several (i .before .if1 .left) (i .if2 .left)) (e5 .entry5 .ensures) in
-    omega (arith, few, st .pre .0, st .pre .1)
+add-t41 : tie.Need-add-t41
+add-t41 c = let e5 = c .before .before .before .before .before .before .before .before in
+    let known = e5 .before .before .before .before .before .before .before .before in
+    let few = known .shared-slice-known .given (known .before .before .args .k + 1) .fits in
+    omega (arith, few, e5 .entry5 .ensures, known .before .before .pre)
 
 same-length-3 : tie.Need-same-length-3
 same-length-3 c = search needs
@@ -191,8 +188,8 @@ returns-3 c =
     let st = e .before .before .before in
     let a = st .args in
     let several = kind-several (i .before .if1 .left) (i .if2 .left) in
-    let few = few-several (a .row .now) (a .k) (leastOf (e .entry .result)) (st .pre .2) (e .entry .ensures) several (e5 .entry5 .ensures) in
-    several-put (a .row .now) (a .k) (a .at) (a .buf .now) (e .entry .ensures) (put-in (a .buf .now) (a .at) 3 (e .entry .result) (p1 .put .ensures)) (leastOf (e .entry .result)) few several (e5 .entry5 .ensures)
+    let few = e .before .shared-slice-known .given (a .k + 1) .fits in
+    several-put (a .row .now) (a .k) (a .at) (a .buf .now) (e .entry .ensures) (put-in (a .buf .now) (a .at) 3 (e .entry .result) (p1 .put .ensures)) (leastOf (e .entry .result)) (omega (arith, few, e5 .entry5 .ensures)) several (e5 .entry5 .ensures)
     (put-in _ (a .at + 3) 4 (e5 .entry5 .result) (p5 .put5 .ensures)) (ps .put-points2 .ensures)
 
 pub put-area-spec : {M : Type 1} → statement M
@@ -213,29 +210,34 @@ put-area-spec =
     add-put-points-2
     put-points-requires
     add-put-2
+    add-put-3
     add-entry-2
     entry-requires-3
     put-requires-3
-    add-put-3
+    add-put-4
+    add-put-5
+    add-put-6
     add-entry-3
     entry-requires-4
     put-requires-4
-    add-t20
+    add-t25
+    add-t28
     add-t19
+    add-t20
     same-length-2
     returns-2
     add-entry-4
     entry-requires-5
-    add-put-4
+    add-put-7
     put-requires-5
     add-put-points-3
     add-put-points-4
     put-points-requires-2
-    add-t27
-    mul-t33
-    add-t35
-    add-t36
-    mul-t38
-    add-t39
+    add-t29
+    mul-t35
+    add-t37
+    add-t38
+    mul-t40
+    add-t41
     same-length-3
     returns-3)

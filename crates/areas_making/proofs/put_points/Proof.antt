@@ -5,6 +5,7 @@ use native.Mathlib.Omega.{arith}
 use lib.ListN.{length}
 use borrow.Author.Needs.{needs}
 use Rattle.format.specs.Correcting.{put-in}
+use Rattle.notice_parts.specs.Parts.{latitudeBits, longitudeBits, pointBits}
 use Rattle.areas_making.specs.laws.Putting.{Some, no-points, one-point, all-points}
 use Rattle.areas_making.proofs.put_points.Statement.{statement}
 use Rattle.areas_making.proofs.put_points.Tie as tie
@@ -78,7 +79,7 @@ loop-again c =
       omega arith,
       p2 .put2 .kept .0 ∙ p1 .put .kept .0 ∙ l .loop .inv .1,
       one-point (a .row .now) (a .k) (a .n) j (j + 1) (a .at) refl (omega arith) (l .loop .inv .2) (e1 .entry .ensures) (e2 .entry2 .ensures)
-          (put-in (l .loop .buf) (a .at + j * 43) 21 (e1 .entry .result) (p1 .put .ensures)) (put-in _ (a .at + j * 43 + 21) 22 (e2 .entry2 .result) (p2 .put2 .ensures)),
+          (put-in (l .loop .buf) (a .at + j * pointBits) latitudeBits (e1 .entry .result) (p1 .put .ensures)) (put-in _ (a .at + j * pointBits + latitudeBits) longitudeBits (e2 .entry2 .result) (p2 .put2 .ensures)),
     )
 
 same-length : tie.Need-same-length Inv-loop μ-loop

@@ -19,6 +19,7 @@ use Rattle.notice_parts.specs.laws.Walking.{latitude-judged, longitude-judged}
 use Rattle.notice_areas.specs.Areas.{Kind, sea, circle, several, kindOf, points, inside, areas}
 use Rattle.notice_areas.specs.Row.{first, areaLong, areasLong, areasTold}
 use Rattle.notice_areas.specs.laws.Row.{points-from, sea-from, circle-from, several-from, sea-long, circle-long, several-long, told-add, long-more, told-more}
+use Rattle.notice_parts.specs.Parts.{latitudeBits, longitudeBits, pointBits}
 use Rattle.areas_making.specs.Making.{areaFrom, PointsJudged, AreaJudged, AreasJudged}
 use Rattle.areas_making.specs.declared.Stepped.{Stepped}
 
@@ -40,24 +41,24 @@ told-as {g} {g′} {r} {r′} e a = subst (λ l. JudgesAlong g g′ r l r′) e 
 
 -- ---- points
 
-point-near : (r : Walk) {p q : Walk} (a b : ℕ) → p ≡ latitudeJudged a r → q ≡ longitudeJudged b p → q .at ≤ r .at + 43
+point-near : (r : Walk) {p q : Walk} (a b : ℕ) → p ≡ latitudeJudged a r → q ≡ longitudeJudged b p → q .at ≤ r .at + pointBits
 unfolding pieced
-point-near r {p} {q} a b d e = let x : p .at ≤ r .at + 21 = step-near r 21 true a _ _ d in let y : q .at ≤ p .at + 22 = step-near p 22 true b _ _ e in omega (arith, x, y)
+point-near r {p} {q} a b d e = let x : p .at ≤ r .at + latitudeBits = step-near r latitudeBits true a _ _ d in let y : q .at ≤ p .at + longitudeBits = step-near p longitudeBits true b _ _ e in omega (arith, x, y)
 
-point-judged : (m : ℕ) {r p q : Walk} (a b : ℕ) → r .at + 43 < 2 ^ 64 → p ≡ latitudeJudged a r → q ≡ longitudeJudged b p → JudgesAlong (points (suc m)) (points m) r (a ∷ b ∷ []) q
+point-judged : (m : ℕ) {r p q : Walk} (a b : ℕ) → r .at + pointBits < 2 ^ 64 → p ≡ latitudeJudged a r → q ≡ longitudeJudged b p → JudgesAlong (points (suc m)) (points m) r (a ∷ b ∷ []) q
 unfolding points
 point-judged m {r} a b reach d e = record { on = λ x. going (longitude-judged (omega arith) (latitude-judged (omega arith) (x .is) d) e) }
 
 -- j of n points
 pub record Some (row : List ℕ) (k n j : ℕ) (r₀ r : Walk) : Type 0 where
   pub along : JudgesAlong (points n) (points (n - j)) r₀ (first (j * 2) (drop k row)) r
-  pub near : r .at ≤ r₀ .at + j * 43
+  pub near : r .at ≤ r₀ .at + j * pointBits
 
 pub no-points : (row : List ℕ) (k n : ℕ) {r : Walk} → Some row k n 0 r r
 unfolding first
 no-points row k n {r} = record { along = let e : n ≡ n - 0 = omega arith in subst (λ m. JudgesAlong (points n) (points m) r [] r) e judges-stay; near = omega arith }
 
-pub one-point : (row : List ℕ) (k n j i : ℕ) {r₀ r p q : Walk} {a b : ℕ} → i ≡ j + 1 → j < n → r₀ .at ≤ 30_000 → n ≤ 15 → Some row k n j r₀ r → a ≡ getD row (k + j * 2) 0 → b ≡ getD row (k + j * 2 + 1) 0
+pub one-point : (row : List ℕ) (k n j i : ℕ) {r₀ r p q : Walk} {a b : ℕ} → i ≡ j + 1 → j < n → r₀ .at ≤ 300_000 → n ≤ 15 → Some row k n j r₀ r → a ≡ getD row (k + j * 2) 0 → b ≡ getD row (k + j * 2 + 1) 0
     → p ≡ latitudeJudged a r → q ≡ longitudeJudged b p → Some row k n i r₀ q
 one-point row k n j i {r₀} {r} {p} {q} {a} {b} is l low few x ea eb d e =
     let less : suc (n - suc j) ≡ n - j = omega arith in
@@ -77,7 +78,7 @@ all-points row k n {r₀} {r} x =
 -- ---- one area, by its kind
 
 -- past the kind, then what it holds
-held : (m : ℕ) (is : Kind) {r w q : Walk} (kind : ℕ) {us : List ℕ} → r .at ≤ 20_000 → kindOf kind ≡ is → w ≡ valued 3 kind 0 4 r → JudgesAlong (inside is) (λ f. f) w us q
+held : (m : ℕ) (is : Kind) {r w q : Walk} (kind : ℕ) {us : List ℕ} → r .at ≤ 200_000 → kindOf kind ≡ is → w ≡ valued 3 kind 0 4 r → JudgesAlong (inside is) (λ f. f) w us q
     → JudgesAlong (areas (suc m)) (areas m) r (kind ∷ us) q
 unfolding areas
 held m is {r} {w} {q} kind {us} low e d x =
@@ -86,7 +87,7 @@ held m is {r} {w} {q} kind {us} low e d x =
     let a = judges-then y (judges-under (areas m) z) in
     record { on = λ v. a .on v }
 
-module _ (row : List ℕ) (k : ℕ) (r : Walk) {w : Walk} {kind : ℕ} (low : r .at ≤ 20_000) (is : kind ≡ getD row k 0) (d : w ≡ valued 3 kind 0 4 r) where
+module _ (row : List ℕ) (k : ℕ) (r : Walk) {w : Walk} {kind : ℕ} (low : r .at ≤ 200_000) (is : kind ≡ getD row k 0) (d : w ≡ valued 3 kind 0 4 r) where
   first-near : w .at ≤ r .at + 3
   first-near = valued-near r 3 kind 0 4 d
 

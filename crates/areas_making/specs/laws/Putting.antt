@@ -1,12 +1,11 @@
 -- Areas put: one number, one point, what an area holds by its kind, one area more; each is a stretch of putting, and the stretches are joined. Assumes nothing.
-use Prim.Native.Nat.{ℕ, suc, _+_, _-_, _*_, _≤_, _<_}
+use Prim.Native.Nat.{ℕ, suc, _+_, _-_, _*_, _^_, _≤_, _<_}
 use mathlib.Core.Path.{_≡_, refl, sym, ap, ap₂, _∙_, subst, subst⁻¹}
 use mathlib.Core.List.{List, [], _∷_, _++_}
 use native.Mathlib.Omega.{arith}
 use native.Mathlib.Numerals.{add-one}
 use lib.Dec.{lit≤}
 use lib.ListN.{drop, getD}
-use lib.Seq.{drop-drop}
 use Rattle.format.specs.Correcting.{putIn}
 use Rattle.format.specs.Fmt.{Fmt}
 use Rattle.format.specs.Words.{Test, _▹_, _‥_, num, deciding, wide}
@@ -14,8 +13,9 @@ use Rattle.format.specs.laws.Extent.{opens-field, opens-choice}
 use Rattle.format.specs.laws.Putting.{put-number}
 use Rattle.layout.specs.laws.Loops.{PutsAlong, puts-stay, puts-then, puts-under}
 use Rattle.notice_areas.specs.Areas.{Kind, sea, circle, several, kindOf, points, inside, areas}
-use Rattle.notice_areas.specs.Row.{first, areaLong, areasLong, areasTold, few, Few, fews}
-use Rattle.notice_areas.specs.laws.Row.{points-from, kind-at, next-at, sea-from, circle-from, several-from, sea-long, circle-long, several-long, long-more, told-more}
+use Rattle.notice_areas.specs.Row.{first, areaLong, areasLong, areasTold}
+use Rattle.notice_areas.specs.laws.Row.{points-from, sea-from, circle-from, several-from, sea-long, circle-long, several-long, long-more, told-more}
+use Rattle.notice_parts.specs.Parts.{latitudeBits, longitudeBits, pointBits}
 use Rattle.areas_making.specs.Making.{areaFrom, PointsPut, AreaPut, AreasPut}
 use Rattle.areas_making.specs.declared.Laid.{Laid}
 
@@ -34,34 +34,34 @@ told-as {g} {g′} {at} {us} {vs} {t} {u} {a} {b} e p x = subst (λ l. PutsAlong
 
 -- ---- points
 
-point-put : (m at : ℕ) (t : List ℕ) (a b : ℕ) {p q : List ℕ} → p ≡ putIn t at 21 a → q ≡ putIn p (at + 21) 22 b → PutsAlong (points (suc m)) (points m) at (a ∷ b ∷ []) t (at + 43) q
+point-put : (m at : ℕ) (t : List ℕ) (a b : ℕ) {p q : List ℕ} → p ≡ putIn t at latitudeBits a → q ≡ putIn p (at + latitudeBits) longitudeBits b → PutsAlong (points (suc m)) (points m) at (a ∷ b ∷ []) t (at + pointBits) q
 unfolding points wide
 point-put m at t a b {p} {q} d e =
-    let y : PutsAlong (points (suc m)) (points m) at (a ∷ b ∷ []) t (at + 21 + 22) q = record { on = λ x. put-number 22 (lit≤ tt) opens-field (put-number 21 (lit≤ tt) opens-field x d) e } in
+    let y : PutsAlong (points (suc m)) (points m) at (a ∷ b ∷ []) t (at + latitudeBits + longitudeBits) q = record { on = λ x. put-number longitudeBits (lit≤ tt) opens-field (put-number latitudeBits (lit≤ tt) opens-field x d) e } in
     told-as refl (omega arith) y
 
 -- j of n points
 abbrev pub Some : List ℕ → ℕ → ℕ → ℕ → ℕ → List ℕ → List ℕ → Type 0
-Some row k n j at t u = PutsAlong (points n) (points (n - j)) at (first (j * 2) (drop k row)) t (at + j * 43) u
+Some row k n j at t u = PutsAlong (points n) (points (n - j)) at (first (j * 2) (drop k row)) t (at + j * pointBits) u
 
 pub no-points : (row : List ℕ) (k n at : ℕ) {t : List ℕ} → Some row k n 0 at t t
 unfolding first
-no-points row k n at {t} = let e : n ≡ n - 0 = omega arith in let p : at ≡ at + 0 * 43 = omega arith in subst (λ m. PutsAlong (points n) (points m) at [] t (at + 0 * 43) t) e (told-as refl p puts-stay)
+no-points row k n at {t} = let e : n ≡ n - 0 = omega arith in let p : at ≡ at + 0 * pointBits = omega arith in subst (λ m. PutsAlong (points n) (points m) at [] t (at + 0 * pointBits) t) e (told-as refl p puts-stay)
 
 pub one-point : (row : List ℕ) (k n j i at : ℕ) {t u p q : List ℕ} {a b : ℕ} → i ≡ j + 1 → j < n → Some row k n j at t u → a ≡ getD row (k + j * 2) 0 → b ≡ getD row (k + j * 2 + 1) 0
-    → p ≡ putIn u (at + j * 43) 21 a → q ≡ putIn p (at + j * 43 + 21) 22 b → Some row k n i at t q
+    → p ≡ putIn u (at + j * pointBits) latitudeBits a → q ≡ putIn p (at + j * pointBits + latitudeBits) longitudeBits b → Some row k n i at t q
 one-point row k n j i at {t} {u} {p} {q} {a} {b} is l x ea eb d e =
     let less : suc (n - suc j) ≡ n - j = omega arith in
-    let next : at + j * 43 + 43 ≡ at + suc j * 43 = omega arith in
+    let next : at + j * pointBits + pointBits ≡ at + suc j * pointBits = omega arith in
     subst (λ i. Some row k n i at t q) (sym (is ∙ add-one j))
     (told-as (ap₂ (λ a b. first (j * 2) (drop k row) ++ (a ∷ b ∷ [])) ea eb ∙ sym (points-from row k j)) next
-    (puts-then x (subst (λ m. PutsAlong (points m) (points (n - suc j)) (at + j * 43) (a ∷ b ∷ []) u (at + j * 43 + 43) q) less (point-put (n - suc j) (at + j * 43) u a b d e))))
+    (puts-then x (subst (λ m. PutsAlong (points m) (points (n - suc j)) (at + j * pointBits) (a ∷ b ∷ []) u (at + j * pointBits + pointBits) q) less (point-put (n - suc j) (at + j * pointBits) u a b d e))))
 
 pub all-points : (row : List ℕ) (k n at : ℕ) {t u : List ℕ} → Some row k n n at t u → PointsPut row k n at t u
 unfolding points
 all-points row k n at {t} {u} x =
     let e : n - n ≡ 0 = omega arith in
-    let y = subst (λ m. PutsAlong (points n) (points m) at (first (n * 2) (drop k row)) t (at + n * 43) u) e x in
+    let y = subst (λ m. PutsAlong (points n) (points m) at (first (n * 2) (drop k row)) t (at + n * pointBits) u) e x in
     record { on = λ z. y .on z }
 
 -- ---- one area, by its kind
@@ -88,38 +88,31 @@ module _ (row : List ℕ) (k at : ℕ) (t : List ℕ) {p : List ℕ} {kind : ℕ
   }
 
   pub circle-put : {q a b : List ℕ} {x y : ℕ} → kindOf kind ≡ circle → PointsPut row (k + 1) 1 (at + 3) p q → x ≡ getD row (k + 3) 0 → y ≡ getD row (k + 4) 0
-      → a ≡ putIn q (at + 46) 10 x → b ≡ putIn a (at + 56) 2 y → AreaPut row k at t (record { at = at + 58; next = k + 5 }) b
+      → a ≡ putIn q (at + 3 + pointBits) 10 x → b ≡ putIn a (at + 3 + pointBits + 10) 2 y → AreaPut row k at t (record { at = at + 3 + pointBits + 12; next = k + 5 }) b
   circle-put {q} {a} {b} {x} {y} e ps ex ey da db =
-      let radius : at + 46 ≡ at + 3 + 1 * 43 = omega arith in
-      let unit : at + 56 ≡ at + 3 + 1 * 43 + 10 = omega arith in
+      let radius : at + 3 + pointBits ≡ at + 3 + 1 * pointBits = omega arith in
+      let unit : at + 3 + pointBits + 10 ≡ at + 3 + 1 * pointBits + 10 = omega arith in
       let da′ = da ∙ ap (λ n. putIn q n 10 x) radius in
       let db′ = db ∙ ap (λ n. putIn a n 2 y) unit in
       record {
         along = λ m. told-as (ap (λ c. c ∷ (first (1 * 2) (drop (k + 1) row) ++ (x ∷ y ∷ []))) is ∙ ap₂ (λ x y. getD row k 0 ∷ (first (1 * 2) (drop (k + 1) row) ++ (x ∷ y ∷ []))) ex ey ∙ sym (circle-from row k (at-kind e))) (omega arith)
-            (held m circle at kind (at + 3 + 1 * 43 + 10 + 2) t e d (puts-then (puts-under (λ f. num 10 (0 ‥ 1_023) ▹ num 2 (0 ‥ 3) ▹ f) ps)
-            (puts-then (puts-under (num 2 (0 ‥ 3)) (puts-num q (at + 3 + 1 * 43) 10 (lit≤ tt) x da′ (0 ‥ 1_023))) (puts-num a (at + 3 + 1 * 43 + 10) 2 (lit≤ tt) y db′ (0 ‥ 3)))));
+            (held m circle at kind (at + 3 + 1 * pointBits + 10 + 2) t e d (puts-then (puts-under (λ f. num 10 (0 ‥ 1_023) ▹ num 2 (0 ‥ 3) ▹ f) ps)
+            (puts-then (puts-under (num 2 (0 ‥ 3)) (puts-num q (at + 3 + 1 * pointBits) 10 (lit≤ tt) x da′ (0 ‥ 1_023))) (puts-num a (at + 3 + 1 * pointBits + 10) 2 (lit≤ tt) y db′ (0 ‥ 3)))));
         next = ap (k +_) (sym (circle-long row k (at-kind e)));
         near = (omega arith, omega arith);
       }
 
-  pub several-put : (l : ℕ) {q u : List ℕ} {n : ℕ} → n ≤ 15 → kindOf kind ≡ several l → n ≡ getD row (k + 1) 0 → q ≡ putIn p (at + 3) 4 n → PointsPut row (k + 2) n (at + 7) q u
-      → AreaPut row k at t (record { at = at + 7 + n * 43; next = k + 2 + n * 2 }) u
+  pub several-put : (l : ℕ) {q u : List ℕ} {n : ℕ} → n < 2 ^ 32 → kindOf kind ≡ several l → n ≡ getD row (k + 1) 0 → q ≡ putIn p (at + 3) 4 n → PointsPut row (k + 2) n (at + 7) q u
+      → AreaPut row k at t (record { at = at + 7 + n * pointBits; next = k + 2 + n * 2 }) u
   several-put l {q} {u} {n} few e x y ps =
       let seven : at + 7 ≡ at + 3 + 4 = omega arith in
-      let ps′ = subst (λ a. PutsAlong (points n) (λ f. f) a (first (n * 2) (drop (k + 2) row)) q (at + 7 + n * 43) u) seven ps in
+      let ps′ = subst (λ a. PutsAlong (points n) (λ f. f) a (first (n * 2) (drop (k + 2) row)) q (at + 7 + n * pointBits) u) seven ps in
       record {
         along = λ m. told-as (ap₂ (λ a n. a ∷ n ∷ first (n * 2) (drop (k + 2) row)) is x ∙ sym (several-from row k l (at-kind e))) refl
-            (held m (several l) at kind (at + 7 + n * 43) t e d (puts-then (puts-decide p (at + 3) 4 (lit≤ tt) n y (l ‥ 15) points) ps′));
+            (held m (several l) at kind (at + 7 + n * pointBits) t e d (puts-then (puts-decide p (at + 3) 4 (lit≤ tt) n y (l ‥ 15) points) ps′));
         next = omega (arith, several-long row k l (at-kind e), x);
         near = (omega arith, omega arith);
       }
-
--- counted points of the area at k are few
-pub few-at : (row : List ℕ) (k : ℕ) → Few (drop k row) 0 → Few row k
-few-at row k x = subst (λ a. few (kindOf a) (getD row (k + 1) 0)) (kind-at row k) (subst (λ c. few (kindOf (getD (drop k row) 0 0)) c) (next-at row k) x)
-
-pub few-several : (row : List ℕ) (k l : ℕ) {kind n : ℕ} → Few row k → kind ≡ getD row k 0 → kindOf kind ≡ several l → n ≡ getD row (k + 1) 0 → n ≤ 15
-few-several row k l {kind} {n} x is e y = subst⁻¹ (λ n. n ≤ 15) y (subst (λ j. few j (getD row (k + 1) 0)) (ap kindOf (sym is) ∙ e) x)
 
 -- ---- areas
 
@@ -127,22 +120,11 @@ few-several row k l {kind} {n} x is e y = subst⁻¹ (λ n. n ≤ 15) y (subst (
 pub record Passed (row : List ℕ) (n i at₀ : ℕ) (t u : List ℕ) (at k : ℕ) : Type 0 where
   pub along : PutsAlong (areas n) (areas (n - i)) at₀ (areasTold i row) t at u
   pub next : k ≡ areasLong i row
-  pub near : (at ≤ at₀ + i * 700) × (k ≤ i * 32)
-  pub left : fews (n - i) (drop k row)
+  pub near : (at ≤ at₀ + i * 2 ^ 40) × (k ≤ i * 2 ^ 40)
 
-pub no-areas : (row : List ℕ) (n at : ℕ) {t : List ℕ} → fews n row → Passed row n 0 at t t at 0
+pub no-areas : (row : List ℕ) (n at : ℕ) {t : List ℕ} → Passed row n 0 at t t at 0
 unfolding first areasLong
-no-areas row n at {t} x =
-    let e : n ≡ n - 0 = omega arith in
-    record { along = subst (λ m. PutsAlong (areas n) (areas m) at [] t at t) e puts-stay; next = refl; near = (omega arith, omega arith); left = subst (λ m. fews m row) e x }
-
--- the next area's points are few, and those of the areas behind it
-pub passed-few : (row : List ℕ) (n i at₀ : ℕ) {t u : List ℕ} {at k : ℕ} → i < n → Passed row n i at₀ t u at k → Few row k × fews (n - suc i) (drop (areaLong (drop k row)) (drop k row))
-unfolding fews
-passed-few row n i at₀ {k = k} l x =
-    let less : n - i ≡ suc (n - suc i) = omega arith in
-    let y = subst (λ m. fews m (drop k row)) less (x .left) in
-    (few-at row k (y .0), y .1)
+no-areas row n at {t} = let e : n ≡ n - 0 = omega arith in record { along = subst (λ m. PutsAlong (areas n) (areas m) at [] t at t) e puts-stay; next = refl; near = (omega arith, omega arith) }
 
 pub one-area : (row : List ℕ) (n i j at₀ : ℕ) {t u v : List ℕ} {at k : ℕ} {a : Laid} → j ≡ i + 1 → i < n → Passed row n i at₀ t u at k → AreaPut row k at u a v → Passed row n j at₀ t v (a .at) (a .next)
 one-area row n i j at₀ {t} {u} {v} {at} {k} {a} is l x y =
@@ -152,7 +134,6 @@ one-area row n i j at₀ {t} {u} {v} {at} {k} {a} is l x y =
           (puts-then (x .along) (subst (λ m. PutsAlong (areas m) (areas (n - suc i)) at (areaFrom row k) u (a .at) v) less (y .along (n - suc i))));
       next = y .next ∙ ap (λ k. k + areaLong (drop k row)) (x .next) ∙ sym (long-more i row);
       near = (omega (arith, x .near, y .near), omega (arith, x .near, y .near));
-      left = subst (fews (n - suc i)) (drop-drop (areaLong (drop k row)) k row ∙ ap (λ n. drop n row) (sym (y .next))) (passed-few row n i at₀ l x .1);
     })
 
 pub all-areas : (row : List ℕ) (n at₀ : ℕ) {t u : List ℕ} {at k : ℕ} → Passed row n n at₀ t u at k → AreasPut row n at₀ t at u

@@ -3,11 +3,9 @@ use Prim.Native.Nat.{_-_}
 use mathlib.Core.List.{[]}
 use native.Mathlib.Omega.{arith}
 use borrow.Author.Needs.{needs}
-use Rattle.format.specs.Fmt.{end}
 use Rattle.format.specs.laws.Held.{held}
-use Rattle.notice_areas.specs.laws.Past.{held-fews}
-use Rattle.notice_reading.specs.Notice.{notice as Notice·notice, text as Notice·text}
-use Rattle.notice_reading.specs.Record.{texted, valuesOf}
+use Rattle.notice_reading.specs.Notice.{notice as Notice·notice}
+use Rattle.notice_reading.specs.Record.{valuesOf}
 use Rattle.notice.specs.laws.Writing.{notice-refused, notice-laid, text-small, notice-stands}
 use Rattle.notice.proofs.write.Statement.{statement}
 use Rattle.notice.proofs.write.Tie as tie
@@ -42,7 +40,6 @@ put-requires c κs =
     let h = held (Notice·notice (a .english)) [] 0 (valuesOf (r, (a .areas .now, a .text .now))) _ laid in
     let count = h .2 .2 .2 .2 .2 .2 .2 in (
       omega (arith, count .0),
-      held-fews (r .count) (Notice·text (a .english) end) _ (a .areas .now) (texted (a .text .now)) (count .2),
       text-small (a .english) (a .buf .now) r (a .areas .now) (a .text .now) (j .judged .result) (j .judged .ensures) (m .room .ensures) (k .closes-before .ensures) (i .if1 .left),
     )
 

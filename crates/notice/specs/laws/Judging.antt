@@ -19,11 +19,13 @@ use Rattle.format.specs.laws.Extent.{opens-field}
 use Rattle.format.specs.laws.Tells.{blamed, wrong}
 use Rattle.layout.specs.Judging.{beyond}
 use Rattle.layout.specs.Walk.{onward}
-use Rattle.layout.specs.laws.Judging.{Judged, judge-bytes, judge-beyond, judge-end}
+use Rattle.layout.specs.laws.Judging.{Judging, Judged, judge-bytes, judge-beyond, judge-end}
 use Rattle.layout.specs.laws.Loops.{Going}
-use Rattle.layout.specs.laws.Step.{stuck}
+use Rattle.layout.specs.laws.Step.{clear, stuck}
 use Rattle.layout.specs.declared.walk.Walk.{Walk}
 use Rattle.text.specs.Text.{inLanguage}
+use Rattle.notice_parts.specs.Steps.{bare}
+use Rattle.notice_areas.specs.Standing.{front}
 use Rattle.notice_reading.specs.Notice.{text}
 use Rattle.notice_reading.specs.Record.{texted}
 
@@ -75,6 +77,10 @@ text-judged {o} english t c {r} {q} fine small is d x =
     let y = judge-bytes (omega arith) (x .is) in
     let z = judge-beyond c opens-field (text-wrong english t fine ∙ ap (λ c. blamed c 0) (sym is)) y in
     subst⁻¹ (λ q. Judged o (beyond (n * 8) 0 q)) d (same-judged (n * 8) c r small (judge-end z))
+
+-- nothing was refused in front of the areas: they are judged by a walk of their own
+pub from-front : {o : Out (List Bool)} {f : Fmt} {h vs : List ℕ} {w : Walk} → w .code ≡ 0 → Judging o f h front vs w → Going o f vs (bare front 0 0)
+from-front {h = h} {w = w} z x = record { before = h; is = record { k = x .k; so = x .so ∙ clear w _ z; here = λ _. refl; long = λ _. x .long z } }
 
 -- after a refusal nothing more is judged
 pub refused-judged : {o : Out (List Bool)} (w : ℕ) {f : Fmt} {vs : List ℕ} {r : Walk} → (r .code ≡ 0 → ⊥) → Going o f vs r → Judged o (beyond w 0 r)

@@ -14,6 +14,7 @@ use Rattle.layout.specs.laws.Making.{write-refused, write-bare}
 use Rattle.layout.specs.laws.Step.{clear}
 use Rattle.layout.specs.declared.walk.Walk.{Walk}
 use Rattle.notice_areas.specs.Row.{areasLong}
+use Rattle.packet_reading.specs.Packet.{joined}
 use Rattle.notice_reading.specs.Notice.{notice, notices}
 use Rattle.notice_reading.specs.Record.{valuesOf}
 use Rattle.notice_reading.specs.declared.Notice.{Notice}
@@ -25,24 +26,24 @@ use Rattle.notice.specs.Promises.{roomFor, enough, NoticeWrites}
 pub record Closes (room : ℕ) (r : Walk) : Type 0 where
   pub clean : r .code ≡ 0
   pub least : 8 ≤ bytesTo (r .at)
-  pub most : bytesTo (r .at) ≤ 12_978
+  pub most : bytesTo (r .at) ≤ joined
   pub fits : bytesTo (r .at) ≤ room
 
-pub closes : (room : ℕ) (r : Walk) → closing false 8 12_978 room r ≡ 0 → Closes room r
-closes room r = go (eqb (r .code) 0) (leb 8 n) (leb n 12_978) (leb n room) refl refl refl refl
+pub closes : (room : ℕ) (r : Walk) → closing false 8 joined room r ≡ 0 → Closes room r
+closes room r = go (eqb (r .code) 0) (leb 8 n) (leb n joined) (leb n room) refl refl refl refl
   where
     n : ℕ
     n = bytesTo (r .at)
 
-    go : (x y u z : Bool) → eqb (r .code) 0 ≡ x → leb 8 n ≡ y → leb n 12_978 ≡ u → leb n room ≡ z → cond x (cond (y && u) (cond z 0 6) 1) (r .code) ≡ 0 → Closes room r
-    go true true true true ex ey eu ez k = record { clean = eqb-true (r .code) 0 ex; least = leb-true 8 n ey; most = leb-true n 12_978 eu; fits = leb-true n room ez }
+    go : (x y u z : Bool) → eqb (r .code) 0 ≡ x → leb 8 n ≡ y → leb n joined ≡ u → leb n room ≡ z → cond x (cond (y && u) (cond z 0 6) 1) (r .code) ≡ 0 → Closes room r
+    go true true true true ex ey eu ez k = record { clean = eqb-true (r .code) 0 ex; least = leb-true 8 n ey; most = leb-true n joined eu; fits = leb-true n room ez }
     go true true true false ex ey eu ez k = absurd (omega (arith, k))
     go true true false z ex ey eu ez k = absurd (omega (arith, k))
     go true false u z ex ey eu ez k = absurd (omega (arith, k))
     go false y u z ex ey eu ez k = absurd (eqb-false (r .code) 0 ex k)
 
 -- after a refusal room is not looked at
-any-room : (a b : ℕ) (r : Walk) → (r .code ≡ 0 → ⊥) → closing false 8 12_978 a r ≡ closing false 8 12_978 b r
+any-room : (a b : ℕ) (r : Walk) → (r .code ≡ 0 → ⊥) → closing false 8 joined a r ≡ closing false 8 joined b r
 any-room a b r n = rw (ne-eqb (r .code) 0 n) refl
 
 -- no refusal behind the text is none before it
@@ -55,7 +56,7 @@ before-text w r = go (eqb (r .code) 0) refl
     go false e z = z
 
 module _ (english : Bool) (s : List ℕ) (r : Notice) (areas text : List ℕ) (st : Stepped) (x : NoticeJudged english r areas text st) {room code : ℕ}
-    (is : room ≡ roomFor (length areas) (st .next) (length s)) (e : code ≡ closing false 8 12_978 room (beyond (length text * 8) 0 (st .walk))) where
+    (is : room ≡ roomFor (length areas) (st .next) (length s)) (e : code ≡ closing false 8 joined room (beyond (length text * 8) 0 (st .walk))) where
   abbrev pub all : Walk
   all = beyond (length text * 8) 0 (st .walk)
 
@@ -67,11 +68,11 @@ module _ (english : Bool) (s : List ℕ) (r : Notice) (areas text : List ℕ) (s
   room-is z true y = let n = x .asked (before-text (length text * 8) (st .walk) z) in let l = leb-true (areasLong (r .count) areas) (length areas) y in is ∙ rw (le-ltb (length areas) (st .next) (omega (arith, n, l))) refl
   room-is z false y = let n = x .asked (before-text (length text * 8) (st .walk) z) in let l = leb-false (areasLong (r .count) areas) (length areas) y in is ∙ rw (lt-ltb (length areas) (st .next) (omega (arith, n, l))) refl
 
-  closed-as : (b : Bool) → enough r areas ≡ b → code ≡ closing false 8 12_978 (cond b (length s) 0) all
+  closed-as : (b : Bool) → enough r areas ≡ b → code ≡ closing false 8 joined (cond b (length s) 0) all
   closed-as b y = go (eqb (all .code) 0) refl
     where
-      go : (t : Bool) → eqb (all .code) 0 ≡ t → code ≡ closing false 8 12_978 (cond b (length s) 0) all
-      go true t = e ∙ ap (λ n. closing false 8 12_978 n all) (room-is (eqb-true (all .code) 0 t) b y)
+      go : (t : Bool) → eqb (all .code) 0 ≡ t → code ≡ closing false 8 joined (cond b (length s) 0) all
+      go true t = e ∙ ap (λ n. closing false 8 joined n all) (room-is (eqb-true (all .code) 0 t) b y)
       go false t = e ∙ any-room room (cond b (length s) 0) all (eqb-false (all .code) 0 t)
 
   pub notice-refused : (code ≡ 0 → ⊥) → NoticeWrites english s r areas text code s
@@ -89,7 +90,7 @@ module _ (english : Bool) (s : List ℕ) (r : Notice) (areas text : List ℕ) (s
   pub notice-laid : code ≡ 0 → write (notice english) [] 0 values ≡ accepted (x .judged .laid)
   notice-laid z = x .judged .so ∙ clear all (accepted (x .judged .laid)) (notice-fits z .clean)
 
-  pub text-small : code ≡ 0 → length text ≤ 12_978
+  pub text-small : code ≡ 0 → length text ≤ joined
   unfolding beyond
   text-small z = omega (arith, notice-fits z .most)
 

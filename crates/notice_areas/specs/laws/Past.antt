@@ -1,16 +1,15 @@
 -- Past the numbers of n areas stands what follows them, and whatever has as many values as fields begins with them: by the areas, what each holds by its kind, and along its points. Assumes nothing.
 use Prim.Native.Nat.{ℕ, zero, suc, _*_, _≤_}
-use mathlib.Core.Path.{_≡_, refl, sym, subst, subst⁻¹}
-use mathlib.Core.List.{List, [], _∷_, _++_}
+use mathlib.Core.Path.{_≡_, refl, subst, subst⁻¹}
+use mathlib.Core.List.{List, [], _∷_}
 use native.Mathlib.Omega.{arith}
 use lib.ListN.{length, drop, getD, length-drop}
 use lib.Seq.{getD-drop, drop-drop}
 use Rattle.format.specs.Fmt.{Fmt}
-use Rattle.format.specs.laws.Held.{Held}
-use Rattle.format.specs.laws.Past.{Past, Filled, past-then, past-held}
+use Rattle.format.specs.laws.Past.{Past, Filled, past-then}
 use Rattle.notice_areas.specs.Areas.{Kind, sea, circle, several, kindOf, points, inside, areas}
-use Rattle.notice_areas.specs.Row.{first, insideLong, areaLong, areasLong, areasTold, few, fews}
-use Rattle.notice_areas.specs.laws.Row.{first-add, told-next}
+use Rattle.notice_areas.specs.Row.{first, insideLong, areaLong, areasLong, areasTold}
+use Rattle.notice_areas.specs.laws.Row.{first-add}
 
 points-past : (n : ℕ) (row : List ℕ) (f : Fmt) → Past (points n f) (first (n * 2) row) f
 unfolding points first
@@ -40,27 +39,6 @@ areas-past (suc n) row f =
     let a = areaLong row in
     subst⁻¹ (λ l. Past (areas (suc n) f) l f) (first-add a (areasLong n (drop a row)) row)
     (past-then (areas (suc n) f) (areas n f) f (first a row) (areasTold n (drop a row)) (area-past n row f) (areas-past n (drop a row) f))
-
--- ---- counts that are accepted are few
-
-inside-few : (k : Kind) (f : Fmt) (h row vs : List ℕ) → Held (inside k f) h (first (insideLong k (getD row 0 0)) row ++ vs) → few k (getD row 0 0)
-unfolding first
-inside-few sea f h row vs x = tt
-inside-few circle f h row vs x = tt
-inside-few (several l) f h row vs x = omega (arith, x .0)
-
-pub held-fews : (n : ℕ) (f : Fmt) (h row vs : List ℕ) → Held (areas n f) h (areasTold n row ++ vs) → fews n row
-unfolding fews areas first
-held-fews zero f h row vs x = tt
-held-fews (suc n) f h row vs x =
-    let a = areaLong row in
-    let k = kindOf (getD row 0 0) in
-    let us = areasTold n (drop a row) ++ vs in
-    let y = subst (Held (areas (suc n) f) h) (told-next n row vs) x in
-    let c = getD-drop 1 row 0 0 in
-    let z = subst (λ c. Held (inside k (areas n f)) (getD row 0 0 ∷ h) (first (insideLong k c) (drop 1 row) ++ us)) (sym c) (y .2) in
-    let (h′, rest) = past-held (areas (suc n) f) (areas n f) h (first a row) us (area-past n row f) y in
-    (subst (few k) c (inside-few k (areas n f) (getD row 0 0 ∷ h) (drop 1 row) us z), held-fews n f h′ (drop a row) vs rest)
 
 -- ---- a list with as many values as fields has the numbers of its areas in front
 

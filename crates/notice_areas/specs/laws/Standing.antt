@@ -4,14 +4,15 @@ use mathlib.Core.Path.{_≡_, refl, sym, ap, _∙_}
 use mathlib.Core.List.{List, [], _∷_, _++_, append-assoc, append-nil}
 use native.Mathlib.Omega.{arith}
 use Rattle.bits.specs.Answers.{got}
+use Rattle.notice_parts.specs.Parts.{latitudeBits, longitudeBits, pointBits}
 use Rattle.notice_areas.specs.Standing.{pointsAt, areaAt, areaWide, areasAt, areasEnd}
 
-pub points-more : (s : List ℕ) (n at : ℕ) → pointsAt s (suc n) at ≡ pointsAt s n at ++ (got s (at + n * 43) 21 ∷ got s (at + n * 43 + 21) 22 ∷ [])
+pub points-more : (s : List ℕ) (n at : ℕ) → pointsAt s (suc n) at ≡ pointsAt s n at ++ (got s (at + n * pointBits) latitudeBits ∷ got s (at + n * pointBits + latitudeBits) longitudeBits ∷ [])
 unfolding pointsAt
-points-more s zero at = let e : at ≡ at + 0 * 43 = omega arith in ap (λ a. got s a 21 ∷ got s (a + 21) 22 ∷ []) e
+points-more s zero at = let e : at ≡ at + 0 * pointBits = omega arith in ap (λ a. got s a latitudeBits ∷ got s (a + latitudeBits) longitudeBits ∷ []) e
 points-more s (suc n) at =
-    let e : at + 43 + n * 43 ≡ at + suc n * 43 = omega arith in
-    ap (λ l. got s at 21 ∷ got s (at + 21) 22 ∷ l) (points-more s n (at + 43) ∙ ap (λ a. pointsAt s n (at + 43) ++ (got s a 21 ∷ got s (a + 21) 22 ∷ [])) e)
+    let e : at + pointBits + n * pointBits ≡ at + suc n * pointBits = omega arith in
+    ap (λ l. got s at latitudeBits ∷ got s (at + latitudeBits) longitudeBits ∷ l) (points-more s n (at + pointBits) ∙ ap (λ a. pointsAt s n (at + pointBits) ++ (got s a latitudeBits ∷ got s (a + latitudeBits) longitudeBits ∷ [])) e)
 
 pub areas-more : (s : List ℕ) (n at : ℕ) → areasAt s (suc n) at ≡ areasAt s n at ++ areaAt s (areasEnd s n at)
 unfolding areasAt areasEnd

@@ -16,6 +16,7 @@ use Rattle.layout.specs.laws.Reading.{got-lt}
 use Rattle.layout.specs.declared.walk.Walk.{Walk}
 use Rattle.notice_parts.specs.Steps.{latitudeRead, longitudeRead}
 use Rattle.notice_parts.specs.laws.Walking.{latitude-read, longitude-read, latitude-v, latitude-at, longitude-v, longitude-at}
+use Rattle.notice_parts.specs.Parts.{latitudeBits, longitudeBits, pointBits}
 use Rattle.notice_areas.specs.Areas.{Kind, sea, circle, several, kindOf, points, inside, areas}
 use Rattle.notice_areas.specs.Standing.{pointsAt, insideAt, insideWide, areaAt, areaWide, areasAt, areasEnd}
 use Rattle.notice_areas.specs.Steps.{openedAs, closedAs}
@@ -28,38 +29,38 @@ use Rattle.notice_areas.specs.declared.Opened.{Opened}
 -- j of n points are passed, from r₀ to r
 pub record Passed (s : List ℕ) (n j : ℕ) (r₀ r : Walk) : Type 0 where
   pub along : Along s (points n) (points (n - j)) r₀ (pointsAt s j (r₀ .at)) r
-  pub here : r .at ≡ r₀ .at + j * 43
+  pub here : r .at ≡ r₀ .at + j * pointBits
 
 -- the values told in another way
 pub valued : {s : List ℕ} {g g′ : Fmt → Fmt} {r r′ : Walk} {vs ws : List ℕ} → vs ≡ ws → Along s g g′ r vs r′ → Along s g g′ r ws r′
 valued {s} {g} {g′} {r} {r′} e a = subst (λ l. Along s g g′ r l r′) e a
 
-pub point-along : (s : List ℕ) (m : ℕ) {r q p : Walk} → r .at + 43 < 2 ^ 64 → q ≡ latitudeRead s r → p ≡ longitudeRead s q
-    → Along s (points (suc m)) (points m) r (got s (r .at) 21 ∷ got s (r .at + 21) 22 ∷ []) p
+pub point-along : (s : List ℕ) (m : ℕ) {r q p : Walk} → r .at + pointBits < 2 ^ 64 → q ≡ latitudeRead s r → p ≡ longitudeRead s q
+    → Along s (points (suc m)) (points m) r (got s (r .at) latitudeBits ∷ got s (r .at + latitudeBits) longitudeBits ∷ []) p
 unfolding points
 point-along s m {r} {q} {p} reach d e =
-    let at : q .at ≡ r .at + 21 = latitude-at s r d ∙ mod-eq-of-lt (omega arith) in
-    let one : q .v ≡ got s (r .at) 21 = latitude-v s r d in
-    let two : p .v ≡ got s (r .at + 21) 22 = longitude-v s q e ∙ ap (λ a. got s a 22) at in
+    let at : q .at ≡ r .at + latitudeBits = latitude-at s r d ∙ mod-eq-of-lt (omega arith) in
+    let one : q .v ≡ got s (r .at) latitudeBits = latitude-v s r d in
+    let two : p .v ≡ got s (r .at + latitudeBits) longitudeBits = longitude-v s q e ∙ ap (λ a. got s a longitudeBits) at in
     valued (ap₂ (λ a b. a ∷ b ∷ []) one two)
     (then (record { on = λ {o} {all} {i} {f} {us} x. go us (q .v) x (λ h y. latitude-read (omega arith) y d) })
     (record { on = λ {o} {all} {i} {f} {us} x. go us (p .v) x (λ h y. longitude-read (omega (arith, at)) y e) }))
 
 -- the place does not hang on refusals
-point-here : (s : List ℕ) (r : Walk) {q p : Walk} → r .at + 43 < 2 ^ 64 → q ≡ latitudeRead s r → p ≡ longitudeRead s q → p .at ≡ r .at + 43
+point-here : (s : List ℕ) (r : Walk) {q p : Walk} → r .at + pointBits < 2 ^ 64 → q ≡ latitudeRead s r → p ≡ longitudeRead s q → p .at ≡ r .at + pointBits
 point-here s r {q} {p} reach d e =
-    let at : q .at ≡ r .at + 21 = latitude-at s r d ∙ mod-eq-of-lt (omega arith) in
+    let at : q .at ≡ r .at + latitudeBits = latitude-at s r d ∙ mod-eq-of-lt (omega arith) in
     longitude-at s q e ∙ mod-eq-of-lt (omega (arith, at)) ∙ omega (arith, at)
 
 pub no-points : (s : List ℕ) (n : ℕ) {r : Walk} → Passed s n 0 r r
 unfolding pointsAt
 no-points s n {r} = record { along = let e : n ≡ n - 0 = omega arith in subst (λ m. Along s (points n) (points m) r [] r) e stay; here = omega arith }
 
-pub one-point : (s : List ℕ) (n j i : ℕ) {r₀ r q p : Walk} → i ≡ j + 1 → j < n → r .at + 43 < 2 ^ 64 → Passed s n j r₀ r → q ≡ latitudeRead s r → p ≡ longitudeRead s q → Passed s n i r₀ p
+pub one-point : (s : List ℕ) (n j i : ℕ) {r₀ r q p : Walk} → i ≡ j + 1 → j < n → r .at + pointBits < 2 ^ 64 → Passed s n j r₀ r → q ≡ latitudeRead s r → p ≡ longitudeRead s q → Passed s n i r₀ p
 one-point s n j i {r₀} {r} {q} {p} is l reach x d e = record {
   along = subst (λ i. Along s (points n) (points (n - i)) r₀ (pointsAt s i (r₀ .at)) p) (sym (is ∙ add-one j))
-      (valued (ap (λ a. pointsAt s j (r₀ .at) ++ (got s a 21 ∷ got s (a + 21) 22 ∷ [])) (x .here) ∙ sym (points-more s j (r₀ .at)))
-      (then (x .along) (subst (λ m. Along s (points m) (points (n - suc j)) r (got s (r .at) 21 ∷ got s (r .at + 21) 22 ∷ []) p) less (point-along s (n - suc j) reach d e))));
+      (valued (ap (λ a. pointsAt s j (r₀ .at) ++ (got s a latitudeBits ∷ got s (a + latitudeBits) longitudeBits ∷ [])) (x .here) ∙ sym (points-more s j (r₀ .at)))
+      (then (x .along) (subst (λ m. Along s (points m) (points (n - suc j)) r (got s (r .at) latitudeBits ∷ got s (r .at + latitudeBits) longitudeBits ∷ []) p) less (point-along s (n - suc j) reach d e))));
   here = point-here s r reach d e ∙ omega (arith, x .here, is);
 }
   where
@@ -93,11 +94,11 @@ module _ (s : List ℕ) {r w : Walk} (reach : r .at + 1_000 < 2 ^ 64) where
   circle-held x =
       let a = ranged s 10 true 0 1_023 4 w in
       let b = ranged s 2 true 0 3 4 a in
-      let here : w .at ≡ r .at + 43 = x .here in
+      let here : w .at ≡ r .at + pointBits = x .here in
       let next : a .at ≡ w .at + 10 = ranged-at s w 10 true 0 1_023 4 refl (omega (arith, here)) in
-      let radius : a .v ≡ got s (r .at + 43) 10 = ranged-v s w 10 true 0 1_023 4 refl ∙ ap (λ p. got s p 10) here in
-      let place : a .at ≡ r .at + 53 = omega (arith, here, next) in
-      let unit : b .v ≡ got s (r .at + 53) 2 = ranged-v s a 2 true 0 3 4 refl ∙ ap (λ p. got s p 2) place in
+      let radius : a .v ≡ got s (r .at + pointBits) 10 = ranged-v s w 10 true 0 1_023 4 refl ∙ ap (λ p. got s p 10) here in
+      let place : a .at ≡ r .at + pointBits + 10 = omega (arith, here, next) in
+      let unit : b .v ≡ got s (r .at + pointBits + 10) 2 = ranged-v s a 2 true 0 3 4 refl ∙ ap (λ p. got s p 2) place in
       record {
         along = valued (ap₂ (λ a b. pointsAt s 1 (r .at) ++ (a ∷ b ∷ [])) radius unit)
             (then (under (λ f. num 10 (0 ‥ 1_023) ▹ num 2 (0 ‥ 3) ▹ f) (finished s 1 x))
@@ -200,10 +201,10 @@ broken s n i j p {r₀} {r} {q} {w} {a} {b} l few reach x d o y inner e f bad =
     let (most, far) = opened-small s (kindOf (q .v)) q (omega (arith, x .near, at)) o in
     let less : suc (n - suc i) ≡ n - i = omega arith in
     let more : suc (p .points - suc j) ≡ p .points - j = omega arith in
-    let near : w .at + 43 < 2 ^ 64 = omega (arith, y .here, far, most, at, x .near) in
+    let near : w .at + pointBits < 2 ^ 64 = omega (arith, y .here, far, most, at, x .near) in
     let (vs, front) = opened-along s (kindOf (q .v)) {r = q} (omega (arith, x .near, at)) in
     let front′ : Along s (inside (kindOf (q .v))) (λ f. points (p .points) (tail (kindOf (q .v)) f)) q vs (p .walk) = subst⁻¹ (λ (p : Opened). Along s (inside (kindOf (q .v))) (λ f. points (p .points) (tail (kindOf (q .v)) f)) q vs (p .walk)) o front in
-    let point = subst (λ m. Along s (points m) (points (p .points - suc j)) w (got s (w .at) 21 ∷ got s (w .at + 21) 22 ∷ []) b) more (point-along s (p .points - suc j) near e f) in
+    let point = subst (λ m. Along s (points m) (points (p .points - suc j)) w (got s (w .at) latitudeBits ∷ got s (w .at + latitudeBits) longitudeBits ∷ []) b) more (point-along s (p .points - suc j) near e f) in
     let area = then (kind-along s (n - suc i) (omega (arith, x .near)) d) (under (areas (n - suc i)) (then front′ (under (tail (kindOf (q .v))) (then (y .along) point)))) in
     record {
       along = dropped (λ f. f) (areasAt s n (r₀ .at)) bad (then (x .along) (recounted less area));

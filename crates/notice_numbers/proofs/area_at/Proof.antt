@@ -5,6 +5,7 @@ use native.Mathlib.Omega.{arith}
 use borrow.Author.Needs.{needs}
 use Rattle.layout.specs.laws.Reading.{got-lt}
 use Rattle.notice_areas.specs.laws.Kinds.{kind-sea, kind-circle, kind-several}
+use Rattle.notice_parts.specs.Parts.{pointBits}
 use Rattle.notice_numbers.specs.Shapes.{shapeAs, shapeAt}
 use Rattle.notice_numbers.proofs.area_at.Statement.{statement}
 use Rattle.notice_numbers.proofs.area_at.Tie as tie
@@ -12,11 +13,11 @@ use Rattle.notice_numbers.proofs.area_at.Tie as tie
 get-requires : tie.Need-get-requires
 get-requires c κs = search needs
 
-add-t6 : tie.Need-add-t6
-add-t6 c = search needs
-
 add-t7 : tie.Need-add-t7
 add-t7 c = search needs
+
+add-t8 : tie.Need-add-t8
+add-t8 c = search needs
 
 returns : tie.Need-returns
 unfolding shapeAt
@@ -25,11 +26,17 @@ returns c =
     let a = g .before .before .args in
     ap (λ k. shapeAs k (a .s .now) (a .at)) (sym (kind-sea (sym (g .get .ensures) ∙ c .if1 .taken)))
 
-add-t8 : tie.Need-add-t8
-add-t8 c = search needs
-
 add-t9 : tie.Need-add-t9
 add-t9 c = search needs
+
+add-t10 : tie.Need-add-t10
+add-t10 c = search needs
+
+add-t11 : tie.Need-add-t11
+add-t11 c = search needs
+
+add-t12 : tie.Need-add-t12
+add-t12 c = search needs
 
 returns-2 : tie.Need-returns-2
 unfolding shapeAt
@@ -44,23 +51,23 @@ add-get c = search needs
 get-requires-2 : tie.Need-get-requires-2
 get-requires-2 c κs = search needs
 
-add-t11 : tie.Need-add-t11
-add-t11 c = search needs
-
-add-t12 : tie.Need-add-t12
-add-t12 c = search needs
-
-mul-t13 : tie.Need-mul-t13
-mul-t13 c = let a = c .before .before .before .before .before .args in omega (arith, got-lt (a .s .now) (a .at + 3) 4 (c .get2 .ensures))
-
 add-t14 : tie.Need-add-t14
 add-t14 c = let a = c .before .before .before .before .before .args in omega (arith, got-lt (a .s .now) (a .at + 3) 4 (c .get2 .ensures))
 
-mul-t15 : tie.Need-mul-t15
-mul-t15 c = let a = c .before .before .before .before .before .args in omega (arith, got-lt (a .s .now) (a .at + 3) 4 (c .get2 .ensures))
+add-t15 : tie.Need-add-t15
+add-t15 c = search needs
 
-add-t16 : tie.Need-add-t16
-add-t16 c = let a = c .before .before .before .before .before .args in omega (arith, got-lt (a .s .now) (a .at + 3) 4 (c .get2 .ensures))
+mul-t16 : tie.Need-mul-t16
+mul-t16 c = let a = c .before .before .before .before .before .args in omega (arith, got-lt (a .s .now) (a .at + 3) 4 (c .get2 .ensures))
+
+add-t17 : tie.Need-add-t17
+add-t17 c = let a = c .before .before .before .before .before .args in omega (arith, got-lt (a .s .now) (a .at + 3) 4 (c .get2 .ensures))
+
+mul-t18 : tie.Need-mul-t18
+mul-t18 c = let a = c .before .before .before .before .before .args in omega (arith, got-lt (a .s .now) (a .at + 3) 4 (c .get2 .ensures))
+
+add-t19 : tie.Need-add-t19
+add-t19 c = let a = c .before .before .before .before .before .args in omega (arith, got-lt (a .s .now) (a .at + 3) 4 (c .get2 .ensures))
 
 returns-3 : tie.Need-returns-3
 unfolding shapeAt
@@ -68,7 +75,7 @@ returns-3 c =
     let i = c .before in
     let g = i .before .before in
     let a = g .before .before .args in
-    ap (λ n. record { points = n; first = a .at + 7; next = a .at + 7 + n * 43; numbers = 2 + n * 2 }) (c .get2 .ensures)
+    ap (λ n. record { points = n; first = a .at + 7; next = a .at + 7 + n * pointBits; numbers = 2 + n * 2 }) (c .get2 .ensures)
     ∙ ap (λ k. shapeAs k (a .s .now) (a .at)) (sym (kind-several (λ z. i .before .if1 .left (g .get .ensures ∙ z)) (λ z. i .if2 .left (g .get .ensures ∙ z))))
 
 pub area-at-spec : {M : Type 1} → statement M
@@ -76,18 +83,20 @@ area-at-spec =
     tie.close
     (tie.spec
     get-requires
-    add-t6
     add-t7
-    returns
     add-t8
+    returns
     add-t9
+    add-t10
+    add-t11
+    add-t12
     returns-2
     add-get
     get-requires-2
-    add-t11
-    add-t12
-    mul-t13
     add-t14
-    mul-t15
-    add-t16
+    add-t15
+    mul-t16
+    add-t17
+    mul-t18
+    add-t19
     returns-3)

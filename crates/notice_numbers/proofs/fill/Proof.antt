@@ -1,103 +1,42 @@
--- `fill` meets its contract: the numbers of the first i areas stand in the row.
-use Prim.Native.Nat.{_+_, _-_, _*_, _≤_}
-use mathlib.Core.Path.{_≡_, refl, sym, ap, ap₂, _∙_}
+-- `fill` measures the areas, and stores their numbers where the row has room for them.
+use Prim.Native.Nat.{_-_}
+use mathlib.Core.Path.{refl, ap, _∙_}
 use native.Mathlib.Omega.{arith}
-use native.Mathlib.Numerals.{add-one}
-use native.Mathlib.Nat.{zero-add}
 use lib.ListN.{length}
-use lib.Seq.{sets, length-sets}
-use Rattle.notice_areas.specs.Standing.{areaAt, areasAt, areasEnd}
-use Rattle.notice_numbers.specs.Shapes.{shapeAt, numbersIn}
-use Rattle.notice_numbers.specs.declared.Shape.{Shape}
-use Rattle.notice_numbers.specs.laws.Shapes.{area-small, area-within, numbers-in, numbers-more, next-more}
-use Rattle.notice_numbers.specs.laws.Rows.{areas-turn}
+use borrow.Author.Needs.{needs}
+use borrow.Author.Tests.{le-leb, lt-leb}
+use Rattle.notice_areas.specs.Standing.{front, areasAt}
+use Rattle.notice_numbers.specs.declared.Extent.{Extent}
+use Rattle.notice_numbers.specs.laws.Shapes.{numbers-in}
 use Rattle.notice_numbers.proofs.fill.Statement.{statement}
 use Rattle.notice_numbers.proofs.fill.Tie as tie
 
-abbrev Inv-loop : tie.InvT-loop
-Inv-loop s from count row₀ most k₀ at₀ i₀ row k at i = (i ≤ most) × (at ≡ areasEnd s i from) × (at ≤ from + i * 700) × (k ≡ length (areasAt s i from)) × (length row ≡ length row₀) × (row ≡ sets row₀ 0 (areasAt s i from))
+measure-requires : tie.Need-measure-requires
+measure-requires c κs = search needs
 
-abbrev μ-loop : tie.MeasureT-loop
-μ-loop s from count row₀ most k₀ at₀ i₀ row k at i = most - i
+returns : tie.Need-returns
+returns c = let m = c .before in
+    let a = m .before .before .before .args in
+    let xs = areasAt (a .s .now) (a .count) front in
+    let n = ap (λ (e : Extent). e .numbers) (m .measure .ensures) ∙ numbers-in (a .s .now) (a .count) front in
+    (n, rw (lt-leb (length xs) (length (a .row .now)) (omega (arith, n, c .if1 .taken))) refl)
 
-loop-holds : tie.Need-loop-holds Inv-loop μ-loop
-unfolding areasEnd areasAt
-loop-holds c = (omega arith, refl, omega arith, refl, refl, refl)
+store-requires : tie.Need-store-requires
+store-requires c κs = let m = c .before .before in
+    let a = m .before .before .before .args in
+    let xs = areasAt (a .s .now) (a .count) front in
+    let n = ap (λ (e : Extent). e .numbers) (m .measure .ensures) ∙ numbers-in (a .s .now) (a .count) front in
+    omega (arith, n, c .before .if1 .left)
 
-area-at-requires : tie.Need-area-at-requires Inv-loop μ-loop
-area-at-requires c κs = omega arith
+same-length : tie.Need-same-length
+same-length c = search needs
 
-fill-area-requires : tie.Need-fill-area-requires Inv-loop μ-loop
-fill-area-requires c κs =
-    let l = c .before .before .before in
-    let a = l .before .before .before .args in
-    let v = l .loop .inv in
-    let w = area-within (a .s .now) (l .loop .i) (a .count) (a .from) (omega arith) in
-    let here = ap (λ p. length (areaAt (a .s .now) p)) (v .1) in
-    (omega arith, omega (arith, w, here))
-
-add-k : tie.Need-add-k Inv-loop μ-loop
-add-k c =
-    let q = c .before .before .before .before .before in
-    let l = q .before .before in
-    let a = l .before .before .before .args in
-    let w = area-within (a .s .now) (l .loop .i) (a .count) (a .from) (omega arith) in
-    let (_, m, _) = area-small (a .s .now) (l .loop .at) in
-    let k = l .loop .inv .3 in
-    let all = numbers-in (a .s .now) (l .loop .i) (a .from) in
-    omega (arith, m, ap (λ (r : Shape). r .numbers) (q .area-at .ensures), w, k)
-
-add-i : tie.Need-add-i Inv-loop μ-loop
-add-i c = omega arith
-
-loop-less : tie.Need-loop-less Inv-loop μ-loop
-loop-less c = omega arith
-
-loop-again : tie.Need-loop-again Inv-loop μ-loop
-loop-again c =
-    let f = c .before .before .before in
-    let q = f .before .before in
-    let l = q .before .before in
-    let a = l .before .before .before .args in
-    let s = a .s .now in
-    let i = l .loop .i in
-    let v = l .loop .inv in
-    let x = q .area-at .ensures in
-    let next = ap (λ (r : Shape). r .next) x in
-    let numbers = ap (λ (r : Shape). r .numbers) x in
-    let (n, _, _) = area-small s (l .loop .at) in
-    let one = add-one i in
-    let here : l .loop .k ≡ 0 + length (areasAt s i (a .from)) = v .3 ∙ sym (zero-add (length (areasAt s i (a .from)))) in (
-      omega arith,
-      next ∙ ap (λ p. shapeAt s p .next) (v .1) ∙ next-more s i (a .from) ∙ ap (λ n. areasEnd s n (a .from)) (sym one),
-      omega (arith, n, next),
-      ap₂ _+_ (v .3 ∙ sym (numbers-in s i (a .from))) (numbers ∙ ap (λ p. shapeAt s p .numbers) (v .1)) ∙ sym (numbers-more s i (a .from)) ∙ ap (λ n. numbersIn s n (a .from)) (sym one) ∙ numbers-in s (i + 1) (a .from),
-      ap length (f .fill-area .ensures) ∙ length-sets (l .loop .row) (l .loop .k) (areaAt s (l .loop .at)) ∙ v .4,
-      areas-turn s (a .row .now) 0 (a .from) i (l .loop .k) refl here (v .5) (f .fill-area .ensures ∙ ap (λ p. sets (l .loop .row) (l .loop .k) (areaAt s p)) (v .1)),
-    )
-
-same-length : tie.Need-same-length Inv-loop μ-loop
-same-length c = c .before .loop .inv .4
-
-returns : tie.Need-returns Inv-loop μ-loop
-returns c =
-    let l = c .before in
-    let a = l .before .before .before .args in
-    let e : l .loop .i ≡ a .count = omega arith in
-    l .loop .inv .5 ∙ ap (λ n. sets (a .row .now) 0 (areasAt (a .s .now) n (a .from))) e
+returns-2 : tie.Need-returns-2
+returns-2 c = let m = c .before .before .before .before .before in
+    let a = m .before .before .before .args in
+    let xs = areasAt (a .s .now) (a .count) front in
+    let n = ap (λ (e : Extent). e .numbers) (m .measure .ensures) ∙ numbers-in (a .s .now) (a .count) front in
+    (n, c .before .before .store .ensures ∙ rw (le-leb (length xs) (length (a .row .now)) (omega (arith, n, c .before .before .before .before .if1 .left))) refl)
 
 pub fill-spec : {M : Type 1} → statement M
-fill-spec =
-    tie.close
-    (tie.spec
-    Inv-loop
-    μ-loop
-    loop-holds
-    area-at-requires
-    fill-area-requires
-    add-k
-    add-i
-    loop-less
-    loop-again
-    same-length
-    returns)
+fill-spec = tie.close (tie.spec measure-requires returns store-requires same-length returns-2)

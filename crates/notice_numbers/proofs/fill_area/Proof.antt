@@ -6,6 +6,7 @@ use borrow.Author.Needs.{needs}
 use lib.ListN.{length, set, length-set}
 use lib.Seq.{length-sets}
 use Rattle.layout.specs.laws.Reading.{got-lt}
+use Rattle.notice_parts.specs.Parts.{pointBits}
 use Rattle.notice_areas.specs.Standing.{pointsAt}
 use Rattle.notice_numbers.specs.laws.Rows.{sea-stored, circle-stored, sea-long, circle-long, several-long, several-stored}
 use Rattle.notice_numbers.proofs.fill_area.Statement.{statement}
@@ -79,13 +80,16 @@ fill-points-requires c κs =
 add-get-2 : tie.Need-add-get-2
 add-get-2 c = search needs
 
+add-get-3 : tie.Need-add-get-3
+add-get-3 c = search needs
+
 get-requires-3 : tie.Need-get-requires-3
 get-requires-3 c κs = search needs
 
 cast-row-3 : tie.Need-cast-row-3
 cast-row-3 c =
     let a = c .before .before .before .before .before .before .before .before .before .before .args in
-    omega (arith, got-lt (a .s .now) (a .at + 46) 10 (c .get3 .ensures))
+    omega (arith, got-lt (a .s .now) (a .at + 3 + pointBits) 10 (c .get3 .ensures))
 
 add-row-2 : tie.Need-add-row-2
 add-row-2 c = search needs
@@ -102,8 +106,14 @@ slice-write-row-3 c =
     let n = circle-long (a .s .now) (a .row .now) (a .k) (a .at) (g .get .ensures) (i .if2 .taken) in
     omega (arith, n, ap length (p .fill-points .ensures) ∙ length-sets (set (a .row .now) (a .k) (g .get .result)) (a .k + 1) (pointsAt (a .s .now) 1 (a .at + 3)), length-set (a .row .now) (a .k) (g .get .result))
 
-add-get-3 : tie.Need-add-get-3
-add-get-3 c = search needs
+add-get-4 : tie.Need-add-get-4
+add-get-4 c = search needs
+
+add-get-5 : tie.Need-add-get-5
+add-get-5 c = search needs
+
+add-get-6 : tie.Need-add-get-6
+add-get-6 c = search needs
 
 get-requires-4 : tie.Need-get-requires-4
 get-requires-4 c κs = search needs
@@ -111,7 +121,7 @@ get-requires-4 c κs = search needs
 cast-row-4 : tie.Need-cast-row-4
 cast-row-4 c =
     let a = c .before .before .before .before .before .before .before .before .before .before .before .args in
-    omega (arith, got-lt (a .s .now) (a .at + 56) 2 (c .get4 .ensures))
+    omega (arith, got-lt (a .s .now) (a .at + 3 + pointBits + 10) 2 (c .get4 .ensures))
 
 add-row-3 : tie.Need-add-row-3
 add-row-3 c = search needs
@@ -144,8 +154,8 @@ returns-2 c =
     let a = g .before .before .before .args in
     circle-stored (a .s .now) (a .row .now) (a .k) (a .at) (g .get .ensures) (i .if2 .taken) (p .fill-points .ensures) (g3 .get3 .ensures) (c .get4 .ensures)
 
-add-get-4 : tie.Need-add-get-4
-add-get-4 c = search needs
+add-get-7 : tie.Need-add-get-7
+add-get-7 c = search needs
 
 get-requires-5 : tie.Need-get-requires-5
 get-requires-5 c κs = search needs
@@ -221,12 +231,15 @@ fill-area-spec =
     add-fill-points-2
     fill-points-requires
     add-get-2
+    add-get-3
     get-requires-3
     cast-row-3
     add-row-2
     mul-row-3
     slice-write-row-3
-    add-get-3
+    add-get-4
+    add-get-5
+    add-get-6
     get-requires-4
     cast-row-4
     add-row-3
@@ -234,7 +247,7 @@ fill-area-spec =
     slice-write-row-4
     same-length-2
     returns-2
-    add-get-4
+    add-get-7
     get-requires-5
     cast-row-5
     add-row-4

@@ -7,6 +7,7 @@ use lib.ListN.{length, length-set}
 use lib.Seq.{sets}
 use Rattle.layout.specs.laws.Reading.{got-lt}
 use Rattle.notice_areas.specs.Standing.{pointsAt}
+use Rattle.notice_parts.specs.Parts.{latitudeBits, longitudeBits, pointBits}
 use Rattle.notice_numbers.specs.laws.Rows.{points-turn}
 use Rattle.notice_numbers.proofs.fill_points.Statement.{statement}
 use Rattle.notice_numbers.proofs.fill_points.Tie as tie
@@ -34,7 +35,7 @@ cast-row : tie.Need-cast-row Inv-loop μ-loop
 cast-row c =
     let l = c .before .before in
     let a = l .before .before .before .args in
-    omega (arith, got-lt (a .s .now) (a .at + l .loop .j * 43) 21 (c .get .ensures))
+    omega (arith, got-lt (a .s .now) (a .at + l .loop .j * pointBits) latitudeBits (c .get .ensures))
 
 mul-row : tie.Need-mul-row Inv-loop μ-loop
 mul-row c = omega arith
@@ -64,7 +65,7 @@ cast-row-2 : tie.Need-cast-row-2 Inv-loop μ-loop
 cast-row-2 c =
     let l = c .before .before .before in
     let a = l .before .before .before .args in
-    omega (arith, got-lt (a .s .now) (a .at + l .loop .j * 43 + 21) 22 (c .get2 .ensures))
+    omega (arith, got-lt (a .s .now) (a .at + l .loop .j * pointBits + latitudeBits) longitudeBits (c .get2 .ensures))
 
 mul-row-3 : tie.Need-mul-row-3 Inv-loop μ-loop
 mul-row-3 c = omega arith

@@ -3,7 +3,7 @@ use Prim.Native.Nat.{_+_, _-_, _*_, _≤_}
 use mathlib.Core.Path.{_≡_, refl, sym, ap, ap₂, _∙_}
 use native.Mathlib.Omega.{arith}
 use native.Mathlib.Numerals.{add-one}
-use Rattle.notice_areas.specs.Standing.{areasEnd}
+use Rattle.notice_areas.specs.Standing.{front, areasEnd}
 use Rattle.notice_numbers.specs.Shapes.{shapeAt, numbersIn, pointsIn}
 use Rattle.notice_numbers.specs.declared.Shape.{Shape}
 use Rattle.notice_numbers.specs.laws.Shapes.{area-small, numbers-more, points-more, next-more}
@@ -11,10 +11,10 @@ use Rattle.notice_numbers.proofs.measure.Statement.{statement}
 use Rattle.notice_numbers.proofs.measure.Tie as tie
 
 abbrev Inv-loop : tie.InvT-loop
-Inv-loop s from count most numbers₀ points₀ at₀ i₀ numbers points at i = (i ≤ most) × (numbers ≡ numbersIn s i from) × (points ≡ pointsIn s i from) × (at ≡ areasEnd s i from) × (at ≤ from + i * 700) × (numbers ≤ i * 32) × (points ≤ i * 15)
+Inv-loop s count most numbers₀ points₀ at₀ i₀ numbers points at i = (i ≤ most) × (numbers ≡ numbersIn s i front) × (points ≡ pointsIn s i front) × (at ≡ areasEnd s i front) × (at ≤ front + i * 700) × (numbers ≤ i * 32) × (points ≤ i * 15)
 
 abbrev μ-loop : tie.MeasureT-loop
-μ-loop s from count most numbers₀ points₀ at₀ i₀ numbers points at i = most - i
+μ-loop s count most numbers₀ points₀ at₀ i₀ numbers points at i = most - i
 
 loop-holds : tie.Need-loop-holds Inv-loop μ-loop
 unfolding areasEnd numbersIn pointsIn
@@ -39,6 +39,12 @@ add-points c =
     let (n, m, p) = area-small (a .s .now) (l .loop .at) in
     omega (arith, p, ap (λ (r : Shape). r .points) x)
 
+cast-at : tie.Need-cast-at Inv-loop μ-loop
+cast-at c = let l = c .before .before .before .before .before in
+    let x = c .before .before .before .area-at .ensures in
+    let (n, m, p) = area-small (l .before .before .args .s .now) (l .loop .at) in
+    omega (arith, n, ap (λ (r : Shape). r .next) x)
+
 add-i : tie.Need-add-i Inv-loop μ-loop
 add-i c = omega arith
 
@@ -47,9 +53,9 @@ loop-less c = omega arith
 
 loop-again : tie.Need-loop-again Inv-loop μ-loop
 loop-again c =
-    let l = c .before .before .before .before in
+    let l = c .before .before .before .before .before in
     let a = l .before .before .args in
-    let x = c .before .before .area-at .ensures in
+    let x = c .before .before .before .area-at .ensures in
     let s = a .s .now in
     let i = l .loop .i in
     let v = l .loop .inv in
@@ -59,9 +65,9 @@ loop-again c =
     let next = ap (λ (r : Shape). r .next) x in
     let one = add-one i in (
       omega arith,
-      ap₂ _+_ (v .1) (numbers ∙ ap (λ p. shapeAt s p .numbers) (v .3)) ∙ sym (numbers-more s i (a .from)) ∙ ap (λ n. numbersIn s n (a .from)) (sym one),
-      ap₂ _+_ (v .2) (points ∙ ap (λ p. shapeAt s p .points) (v .3)) ∙ sym (points-more s i (a .from)) ∙ ap (λ n. pointsIn s n (a .from)) (sym one),
-      next ∙ ap (λ p. shapeAt s p .next) (v .3) ∙ next-more s i (a .from) ∙ ap (λ n. areasEnd s n (a .from)) (sym one),
+      ap₂ _+_ (v .1) (numbers ∙ ap (λ p. shapeAt s p .numbers) (v .3)) ∙ sym (numbers-more s i front) ∙ ap (λ n. numbersIn s n front) (sym one),
+      ap₂ _+_ (v .2) (points ∙ ap (λ p. shapeAt s p .points) (v .3)) ∙ sym (points-more s i front) ∙ ap (λ n. pointsIn s n front) (sym one),
+      next ∙ ap (λ p. shapeAt s p .next) (v .3) ∙ next-more s i front ∙ ap (λ n. areasEnd s n front) (sym one),
       omega (arith, n, next),
       omega (arith, m, numbers),
       omega (arith, p, points),
@@ -73,7 +79,7 @@ returns c =
     let a = l .before .before .args in
     let e : l .loop .i ≡ a .count = omega arith in
     let v = l .loop .inv in
-    λ y. record { numbers = (v .1 ∙ ap (λ n. numbersIn (a .s .now) n (a .from)) e) y; points = (v .2 ∙ ap (λ n. pointsIn (a .s .now) n (a .from)) e) y }
+    λ y. record { numbers = (v .1 ∙ ap (λ n. numbersIn (a .s .now) n front) e) y; points = (v .2 ∙ ap (λ n. pointsIn (a .s .now) n front) e) y }
 
 pub measure-spec : {M : Type 1} → statement M
 measure-spec =
@@ -85,6 +91,7 @@ measure-spec =
     area-at-requires
     add-numbers
     add-points
+    cast-at
     add-i
     loop-less
     loop-again

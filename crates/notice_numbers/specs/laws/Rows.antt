@@ -11,6 +11,7 @@ use Rattle.notice_areas.specs.Areas.{Kind, sea, circle, several, leastOf, kindO
 use Rattle.notice_areas.specs.Standing.{pointsAt, insideAt, areaAt, areasAt, areasEnd}
 use Rattle.notice_areas.specs.laws.Kinds.{kind-sea, kind-circle, kind-several}
 use Rattle.notice_areas.specs.laws.Standing.{points-more, areas-more}
+use Rattle.notice_parts.specs.Parts.{latitudeBits, longitudeBits, pointBits}
 use Rattle.notice_numbers.specs.laws.Shapes.{points-long}
 
 module _ {A : Type 0} where
@@ -28,13 +29,13 @@ module _ {A : Type 0} where
 
 module _ (s row : List ℕ) {now : List ℕ} (k : ℕ) where
   -- one point more
-  pub points-turn : (at j : ℕ) {a b i : ℕ} → i ≡ j + 1 → a ≡ got s (at + j * 43) 21 → b ≡ got s (at + j * 43 + 21) 22 → now ≡ sets row k (pointsAt s j at)
+  pub points-turn : (at j : ℕ) {a b i : ℕ} → i ≡ j + 1 → a ≡ got s (at + j * pointBits) latitudeBits → b ≡ got s (at + j * pointBits + latitudeBits) longitudeBits → now ≡ sets row k (pointsAt s j at)
       → set (set now (k + j * 2) a) (k + j * 2 + 1) b ≡ sets row k (pointsAt s i at)
   points-turn at j {a} {b} is x y e =
       let us = pointsAt s j at in
       ap₂ (λ u w. set (set now (k + j * 2) u) w b) x (add-one (k + j * 2))
-      ∙ ap₂ (λ u l. set (set l (k + j * 2) (got s (at + j * 43) 21)) (suc (k + j * 2)) u) y e
-      ∙ sets-on row k us (got s (at + j * 43) 21 ∷ got s (at + j * 43 + 21) 22 ∷ []) (ap (k +_) (sym (points-long s j at)))
+      ∙ ap₂ (λ u l. set (set l (k + j * 2) (got s (at + j * pointBits) latitudeBits)) (suc (k + j * 2)) u) y e
+      ∙ sets-on row k us (got s (at + j * pointBits) latitudeBits ∷ got s (at + j * pointBits + latitudeBits) longitudeBits ∷ []) (ap (k +_) (sym (points-long s j at)))
       ∙ ap (sets row k) (sym (points-more s j at) ∙ ap (λ n. pointsAt s n at) (sym (add-one j) ∙ sym is))
 
   -- one area more, where i numbers stand
@@ -67,18 +68,16 @@ module _ (s row : List ℕ) (k at : ℕ) {a : ℕ} (kind : a ≡ got s at 3) whe
   pub sea-stored : {b : ℕ} → a ≡ 0 → b ≡ got s (at + 3) 8 → set (set row k a) (k + 1) b ≡ sets row k (areaAt s at)
   sea-stored e x = held sea (kind-sea e) (ap (set (set row k a) (k + 1)) x)
 
-  pub circle-stored : {t : List ℕ} {b c : ℕ} → a ≡ 3 → t ≡ sets (set row k a) (k + 1) (pointsAt s 1 (at + 3)) → b ≡ got s (at + 46) 10 → c ≡ got s (at + 56) 2
+  pub circle-stored : {t : List ℕ} {b c : ℕ} → a ≡ 3 → t ≡ sets (set row k a) (k + 1) (pointsAt s 1 (at + 3)) → b ≡ got s (at + 3 + pointBits) 10 → c ≡ got s (at + 3 + pointBits + 10) 2
       → set (set t (k + 3) b) (k + 4) c ≡ sets row k (areaAt s at)
   circle-stored {t} {b} {c} e d x y =
       let three : k + 3 ≡ k + 1 + length (pointsAt s 1 (at + 3)) = omega (arith, points-long s 1 (at + 3)) in
       let four : k + 4 ≡ suc (k + 3) = omega arith in
-      let first : at + 46 ≡ at + 3 + 43 = omega arith in
-      let second : at + 56 ≡ at + 3 + 53 = omega arith in
       held circle (kind-circle e)
       (ap (λ i. set (set t (k + 3) b) i c) four
       ∙ ap (λ l. sets l (k + 3) (b ∷ c ∷ [])) d
       ∙ sets-on (set row k a) (k + 1) (pointsAt s 1 (at + 3)) (b ∷ c ∷ []) three
-      ∙ ap₂ (λ b c. sets (set row k a) (k + 1) (pointsAt s 1 (at + 3) ++ (b ∷ c ∷ []))) (x ∙ ap (λ p. got s p 10) first) (y ∙ ap (λ p. got s p 2) second))
+      ∙ ap₂ (λ b c. sets (set row k a) (k + 1) (pointsAt s 1 (at + 3) ++ (b ∷ c ∷ []))) x y)
 
   pub several-stored : {t : List ℕ} {n : ℕ} → (a ≡ 0 → ⊥) → (a ≡ 3 → ⊥) → n ≡ got s (at + 3) 4 → t ≡ sets (set (set row k a) (k + 1) n) (k + 2) (pointsAt s n (at + 7)) → t ≡ sets row k (areaAt s at)
   several-stored {t} {n} z o x d =

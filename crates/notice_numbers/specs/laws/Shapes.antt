@@ -10,12 +10,13 @@ use Rattle.layout.specs.laws.Reading.{got-lt}
 use Rattle.notice_areas.specs.Areas.{Kind, sea, circle, several, kindOf}
 use Rattle.notice_areas.specs.Standing.{pointsAt, insideAt, insideWide, areaAt, areaWide, areasAt, areasEnd}
 use Rattle.notice_areas.specs.laws.Standing.{end-more}
+use Rattle.notice_parts.specs.Parts.{pointBits}
 use Rattle.notice_numbers.specs.Shapes.{shapeAs, shapeAt, numbersIn, pointsIn}
 
 pub points-long : (s : List ℕ) (n at : ℕ) → length (pointsAt s n at) ≡ n * 2
 unfolding pointsAt
 points-long s zero at = refl
-points-long s (suc n) at = let e = points-long s n (at + 43) in omega (arith, e)
+points-long s (suc n) at = let e = points-long s n (at + pointBits) in omega (arith, e)
 
 module _ (s : List ℕ) where
   pub area-next : (at : ℕ) → shapeAt s at .next ≡ at + areaWide s at
@@ -33,7 +34,7 @@ module _ (s : List ℕ) where
     where
       go : (k : Kind) → shapeAs k s at .numbers ≡ suc (length (insideAt k s (at + 3)))
       go sea = refl
-      go circle = let e = length-append (pointsAt s 1 (at + 3)) (got s (at + 3 + 43) 10 ∷ got s (at + 3 + 53) 2 ∷ []) in omega (arith, e, points-long s 1 (at + 3))
+      go circle = let e = length-append (pointsAt s 1 (at + 3)) (got s (at + 3 + pointBits) 10 ∷ got s (at + 3 + pointBits + 10) 2 ∷ []) in omega (arith, e, points-long s 1 (at + 3))
       go (several l) = omega (arith, points-long s (got s (at + 3) 4) (at + 3 + 4))
 
   -- an area is no longer than four bits can count

@@ -3,6 +3,7 @@ use mathlib.Core.Path.{sym, ap, _∙_}
 use Rattle.layout.specs.Reading.{grouped}
 use Rattle.layout.specs.laws.Parts.{by-number, by-parts}
 use Rattle.layout.specs.laws.Reading.{got-lt}
+use Rattle.notice_parts.specs.Parts.{latitudeBits}
 use Rattle.notice_parts.specs.Steps.{latitudeJudged}
 use Rattle.notice_parts.specs.laws.Walking.{latitude-v}
 use borrow.Author.Needs.{needs}
@@ -25,7 +26,7 @@ returns c =
     let holds = f .before in
     let a = holds .before .before .args in
     let e = by-number _ (sym (holds .holds .ensures) ∙ f .if1 .taken) (c .judged-latitude .ensures ∙ ap (λ v. latitudeJudged v (a .w)) (get .get .ensures)) in
-    (e, got-lt (a .s .now) (a .w .at) 21 (latitude-v (a .s .now) (a .w) e))
+    (e, got-lt (a .s .now) (a .w .at) latitudeBits (latitude-v (a .s .now) (a .w) e))
 
 cut-angle-requires : tie.Need-cut-angle-requires
 cut-angle-requires c κs = search needs
@@ -40,8 +41,8 @@ returns-2 c =
     let holds = f .before in
     let a = holds .before .before .args in
     let s = a .s .now in
-    let e = by-parts _ (sym (holds .holds .ensures) ∙ f .if1 .left) (c .group .ensures ∙ ap (λ p. grouped s 21 p (a .w)) (cut .cut-angle .ensures)) in
-    (e, got-lt s (a .w .at) 21 (latitude-v s (a .w) e))
+    let e = by-parts _ (sym (holds .holds .ensures) ∙ f .if1 .left) (c .group .ensures ∙ ap (λ p. grouped s latitudeBits p (a .w)) (cut .cut-angle .ensures)) in
+    (e, got-lt s (a .w .at) latitudeBits (latitude-v s (a .w) e))
 
 pub latitude-spec : {M : Type 1} → statement M
 latitude-spec =

@@ -18,7 +18,7 @@ use Rattle.layout.specs.laws.Parts.{zero-cut, step-parts, parts-v, parts-at}
 use Rattle.layout.specs.laws.Pieces.{Pieced, piece-start, piece-step, piece-end, piece-zero, judge-group}
 use Rattle.layout.specs.laws.Step.{Reading}
 use Rattle.layout.specs.declared.walk.Walk.{Walk}
-use Rattle.notice_parts.specs.Parts.{moment, expiry, angle, latitude, longitude}
+use Rattle.notice_parts.specs.Parts.{moment, expiry, angle, latitude, longitude, latitudeBits, longitudeBits}
 use Rattle.notice_parts.specs.Steps.{expiryPieced, expiryJudged, momentRead, expiryRead, anglePieced, angleJudged, angleParted, bare, angleRead, latitudeRead, longitudeRead, latitudeJudged, longitudeJudged}
 
 -- ---- the number's parts judged
@@ -49,13 +49,13 @@ module _ {o : Out (List Bool)} {f : Fmt} {h : List ℕ} {at v : ℕ} {vs : List 
       → Judging o f (v ∷ h) (at + n) vs p
   angle-judged n d most all reach e x = judge-group reach (angle-pieces n d most h v all) e x
 
-  pub latitude-judged : at + 21 < 2 ^ 64 → Judging o (latitude f) h at (v ∷ vs) r → p ≡ latitudeJudged v r → Judging o f (v ∷ h) (at + 21) vs p
+  pub latitude-judged : at + latitudeBits < 2 ^ 64 → Judging o (latitude f) h at (v ∷ vs) r → p ≡ latitudeJudged v r → Judging o f (v ∷ h) (at + latitudeBits) vs p
   unfolding wide
-  latitude-judged reach e d = angle-judged 21 7 90 refl reach e d
+  latitude-judged reach e d = angle-judged latitudeBits 7 90 refl reach e d
 
-  pub longitude-judged : at + 22 < 2 ^ 64 → Judging o (longitude f) h at (v ∷ vs) r → p ≡ longitudeJudged v r → Judging o f (v ∷ h) (at + 22) vs p
+  pub longitude-judged : at + longitudeBits < 2 ^ 64 → Judging o (longitude f) h at (v ∷ vs) r → p ≡ longitudeJudged v r → Judging o f (v ∷ h) (at + longitudeBits) vs p
   unfolding wide
-  longitude-judged reach e d = angle-judged 22 8 180 refl reach e d
+  longitude-judged reach e d = angle-judged longitudeBits 8 180 refl reach e d
 
 -- ---- read
 
@@ -90,13 +90,13 @@ module _ {o : Out (List ℕ)} {all : Fmt} {i : ℕ} {s : List ℕ} {h : List ℕ
       step-parts n (angle d most) (angleParted s d most (bare (r .at) (r .code) (r .place))) parts (omega (arith, long)) small reach (λ _. refl)
       (angle-passes n d most s h at r long some small reach (e .here)) (angle-pieces n d most h (got s (r .at) n) parts) e x
 
-  pub latitude-read : at + 21 < 2 ^ 64 → Reading o all i s (latitude f) h at k r → q ≡ latitudeRead s r → Reading o all i s f (q .v ∷ h) (at + 21) (λ vs. k (q .v ∷ vs)) q
+  pub latitude-read : at + latitudeBits < 2 ^ 64 → Reading o all i s (latitude f) h at k r → q ≡ latitudeRead s r → Reading o all i s f (q .v ∷ h) (at + latitudeBits) (λ vs. k (q .v ∷ vs)) q
   unfolding wide
-  latitude-read reach e d = angle-read 21 7 90 refl refl (lit< tt) (lit≤ tt) reach e d
+  latitude-read reach e d = angle-read latitudeBits 7 90 refl refl (lit< tt) (lit≤ tt) reach e d
 
-  pub longitude-read : at + 22 < 2 ^ 64 → Reading o all i s (longitude f) h at k r → q ≡ longitudeRead s r → Reading o all i s f (q .v ∷ h) (at + 22) (λ vs. k (q .v ∷ vs)) q
+  pub longitude-read : at + longitudeBits < 2 ^ 64 → Reading o all i s (longitude f) h at k r → q ≡ longitudeRead s r → Reading o all i s f (q .v ∷ h) (at + longitudeBits) (λ vs. k (q .v ∷ vs)) q
   unfolding wide
-  longitude-read reach e d = angle-read 22 8 180 refl refl (lit< tt) (lit≤ tt) reach e d
+  longitude-read reach e d = angle-read longitudeBits 8 180 refl refl (lit< tt) (lit≤ tt) reach e d
 
 -- ---- the value and the place behind it
 
@@ -117,17 +117,17 @@ module _ (s : List ℕ) (r : Walk) {q : Walk} where
   unfolding pieced
   angle-at n d most x = parts-at s n (anglePieced n d most (got s (r .at) n)) (angleParted s d most (bare (r .at) (r .code) (r .place))) r refl x
 
-  pub latitude-v : q ≡ latitudeRead s r → q .v ≡ got s (r .at) 21
-  latitude-v d = angle-v 21 7 90 d
+  pub latitude-v : q ≡ latitudeRead s r → q .v ≡ got s (r .at) latitudeBits
+  latitude-v d = angle-v latitudeBits 7 90 d
 
-  pub latitude-at : q ≡ latitudeRead s r → q .at ≡ (r .at + 21) % 2 ^ 64
-  latitude-at d = angle-at 21 7 90 d
+  pub latitude-at : q ≡ latitudeRead s r → q .at ≡ (r .at + latitudeBits) % 2 ^ 64
+  latitude-at d = angle-at latitudeBits 7 90 d
 
-  pub longitude-v : q ≡ longitudeRead s r → q .v ≡ got s (r .at) 22
-  longitude-v d = angle-v 22 8 180 d
+  pub longitude-v : q ≡ longitudeRead s r → q .v ≡ got s (r .at) longitudeBits
+  longitude-v d = angle-v longitudeBits 8 180 d
 
-  pub longitude-at : q ≡ longitudeRead s r → q .at ≡ (r .at + 22) % 2 ^ 64
-  longitude-at d = angle-at 22 8 180 d
+  pub longitude-at : q ≡ longitudeRead s r → q .at ≡ (r .at + longitudeBits) % 2 ^ 64
+  longitude-at d = angle-at longitudeBits 8 180 d
 
 -- ---- their refusals are numbers of the paper
 

@@ -4,6 +4,7 @@ use mathlib.Core.Path.{refl}
 use native.Mathlib.Omega.{arith}
 use lib.ListN.{length}
 use borrow.Author.Tests.{le-leb, lt-leb}
+use Rattle.packet_reading.specs.Packet.{joined}
 use Rattle.notice_reading.proofs.lead.Statement.{statement}
 use Rattle.notice_reading.proofs.lead.Tie as tie
 
@@ -13,12 +14,12 @@ returns c = rw (lt-leb 8 (length (c .before .args .s .now)) (c .if1 .taken)) ref
 returns-2 : tie.Need-returns-2
 returns-2 c =
     let s = c .before .before .args .s .now in
-    rw (le-leb 8 (length s) (omega arith), lt-leb (length s) 12_978 (c .if2 .taken)) refl
+    rw (le-leb 8 (length s) (omega arith), lt-leb (length s) joined (c .if2 .taken)) refl
 
 returns-3 : tie.Need-returns-3
 returns-3 c =
     let s = c .before .before .args .s .now in
-    rw (le-leb 8 (length s) (omega arith), le-leb (length s) 12_978 (omega arith)) refl
+    rw (le-leb 8 (length s) (omega arith), le-leb (length s) joined (omega arith)) refl
 
 pub lead-spec : {M : Type 1} → statement M
 lead-spec = tie.close (tie.spec returns returns-2 returns-3)

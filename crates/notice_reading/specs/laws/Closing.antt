@@ -21,6 +21,7 @@ use Rattle.layout.specs.laws.Reading.{step-rest}
 use Rattle.layout.specs.laws.Step.{Steps, Reading, stuck, step-late}
 use Rattle.layout.specs.laws.Walked.{finish, same-values}
 use Rattle.layout.specs.declared.walk.Walk.{Walk}
+use Rattle.packet_reading.specs.Packet.{joined}
 use Rattle.text.specs.Text.{inLanguage}
 use Rattle.notice_reading.specs.Notice.{text}
 use Rattle.notice_reading.specs.Steps.{ClosedIs}
@@ -32,7 +33,7 @@ front-bytes n b l =
     bits-same (bytesOf n (take (n * 8) b)) (bytesOf n b) (bytes-below n _) (bytes-below n b) (length-bytes n _ ∙ sym (length-bytes n b)) (bits-bytes n (take (n * 8) b) m ∙ sym (bits-pack n b l))
 
 -- text that lies within the message: its fault is the language's
-text-steps : (english : Bool) (s : List ℕ) (at n : ℕ) (h : List ℕ) (c : ℕ) → at + n * 8 ≤ length s * 8 → length s ≤ 12_978 → c ≡ cond (spanned (length s) at n && inLanguage english (bytesAt s at n)) 0 4
+text-steps : (english : Bool) (s : List ℕ) (at n : ℕ) (h : List ℕ) (c : ℕ) → at + n * 8 ≤ length s * 8 → length s ≤ joined → c ≡ cond (spanned (length s) at n && inLanguage english (bytesAt s at n)) 0 4
     → Steps s at (n * 8) (λ h b. unless (inLanguage english (bytesOf n b)) 4 0) h false (valueOf (bitsOf (bytesAt s at n))) c 0
 unfolding bytesAt fieldAt
 text-steps english s at n h c fits small is = record {
@@ -65,7 +66,7 @@ module _ (english : Bool) (s : List ℕ) (r : Walk) where
   }
 
   -- the rest is told, the text judged, the end reached
-  pub closed-text : (n c : ℕ) {g p q : Walk} → r .code ≡ 0 → length s ≤ 12_978 → n ≡ wholly s (r .at) → g ≡ onward 0 false (wholly s (r .at)) 0 0 r
+  pub closed-text : (n c : ℕ) {g p q : Walk} → r .code ≡ 0 → length s ≤ joined → n ≡ wholly s (r .at) → g ≡ onward 0 false (wholly s (r .at)) 0 0 r
       → c ≡ cond (spanned (length s) (r .at) n && inLanguage english (bytesAt s (r .at) n)) 0 4 → p ≡ onward (n * 8) false 0 c 0 g → q ≡ ended s p
       → ClosedIs english s r (record { walk = q; text = n })
   closed-text n c {g} {p} {q} clean small is d e f k = record {

@@ -1,30 +1,33 @@
 -- The record of a head's, areas' and text's values is these; and the three ways in which reading answers. Assumes nothing.
-use mathlib.Core.Path.{_≡_, refl, sym, ap, _∙_}
+use mathlib.Core.Path.{_≡_, refl, sym, ap, _∙_, subst⁻¹}
 use mathlib.Core.Bool.{Bool, true, false, cond, _&&_}
 use mathlib.Core.List.{List, [], _∷_, _++_}
 use Prim.Native.Nat.{ℕ, _+_, _-_, _*_, _≤_, _<_}
 use native.Mathlib.Omega.{arith}
 use lib.Dec.{leb, eqb}
 use lib.ListN.{length, take, drop, getD, length-append}
-use lib.Seq.{sets, sets-eq, take-at, getD-drop, getD-append-add}
+use lib.Seq.{sets-eq, take-at, getD-drop, getD-append-add}
 use native.Mathlib.Nat.{zero-add}
 use borrow.Author.Tests.{le-leb, lt-leb, leb-true, eqb-true, eqb-false}
 use Rattle.bits.specs.Bits.{Bytes, valueOf, bitsOf, bytesOf}
 use Rattle.bits.specs.laws.Bytes.{length-bits, bytes-bits}
 use Rattle.bits.specs.laws.Digits.{digits-value}
 use Rattle.format.specs.Fmt.{accepted, refused, check, also, spot}
-use Rattle.format.specs.Message.{fault, codeOf, readMessage}
+use Rattle.format.specs.Message.{between, fault, codeOf, readMessage}
 use Rattle.format.specs.Promises.{readRecord}
 use Rattle.bits.specs.Bits.{bytesAt}
 use Rattle.bits.specs.Answers.{gettable}
 use Rattle.bits.specs.laws.Runs.{length-run, bytes-run}
 use Rattle.format.specs.Correcting.{standing}
 use Rattle.format.specs.laws.Round.{accepted-inj}
-use Rattle.format.specs.laws.Lead.{read-first, held-back}
+use Rattle.format.specs.laws.Lead.{read-first, held-back, unled}
+use Rattle.layout.specs.Walk.{begun}
 use Rattle.layout.specs.laws.Step.{clear, stuck}
-use Rattle.notice_areas.specs.Standing.{areasAt}
+use Rattle.notice_areas.specs.Standing.{front, areasAt}
+use Rattle.notice_numbers.specs.Shapes.{filled}
+use Rattle.packet_reading.specs.Packet.{joined}
 use Rattle.notice_reading.specs.Notice.{notice, notices, sizes}
-use Rattle.notice_reading.specs.Steps.{fieldsRead, FieldsAre}
+use Rattle.notice_reading.specs.Steps.{fieldsRead, unreadBy, FieldsAre}
 use Rattle.notice_reading.specs.declared.Course.{Course}
 use Rattle.notice_reading.specs.Promises.{ahead, toldOf, Reads}
 use Rattle.notice_reading.specs.Record.{Whole, headed, texted, headOf, textOf, recordOf}
@@ -52,6 +55,10 @@ recorded r xs n v =
 pub told : (r : Notice) (xs t : List ℕ) → Bytes t → recordOf (headed r (xs ++ texted t)) ≡ (r, (xs, t))
 told r xs t fine = recorded r xs (length t) (valueOf (bitsOf t)) ∙ ap (λ t. (r, (xs, t))) (text-again t fine)
 
+and-false : (b : Bool) → (b && false) ≡ false
+and-false true = refl
+and-false false = refl
+
 module _ (english : Bool) (s a t : List ℕ) where
   pub reads-refused : {c p : ℕ} → readRecord (notices english) recordOf s ≡ refused c p → Reads english s a t (Refused c) a t
   reads-refused e = rw e (refl, refl, refl)
@@ -60,16 +67,19 @@ module _ (english : Bool) (s a t : List ℕ) where
     pub reads-few : length a < length (x .1 .0) → Reads english s a t (Refused 6) a t
     reads-few l = rw (e, lt-leb (length (x .1 .0)) (length a) l) (refl, refl, refl)
 
-    pub reads-short : length (x .1 .0) ≤ length a → length t < length (x .1 .1) → Reads english s a t (Refused 6) a t
-    reads-short k l = rw (e, le-leb (length (x .1 .0)) (length a) k, lt-leb (length (x .1 .1)) (length t) l) (refl, refl, refl)
+    pub reads-short : length t < length (x .1 .1) → Reads english s a t (Refused 6) a t
+    reads-short l = rw (e, lt-leb (length (x .1 .1)) (length t) l, and-false (leb (length (x .1 .0)) (length a))) (refl, refl, refl)
 
     pub reads-good : length (x .1 .0) ≤ length a → length (x .1 .1) ≤ length t → Reads english s a t (Good (toldOf x)) (ahead (x .1 .0) a) (ahead (x .1 .1) t)
     reads-good k l = rw (e, le-leb (length (x .1 .0)) (length a) k, le-leb (length (x .1 .1)) (length t) l) (refl, refl, refl)
 
 -- ---- what goes into what is lent
 
-pub stored : (row xs : List ℕ) → length xs ≤ length row → sets row 0 xs ≡ ahead xs row
-stored row xs l = sets-eq xs row 0 (omega arith) ∙ ap (λ n. xs ++ drop n row) (zero-add (length xs))
+pub stored : (row xs : List ℕ) → length xs ≤ length row → filled xs row ≡ ahead xs row
+stored row xs l = rw (le-leb (length xs) (length row) l) (sets-eq xs row 0 (omega arith) ∙ ap (λ n. xs ++ drop n row) (zero-add (length xs)))
+
+pub kept-row : (row xs : List ℕ) → length row < length xs → filled xs row ≡ row
+kept-row row xs l = rw (lt-leb (length xs) (length row) l) refl
 
 -- the text from bit `at` on
 pub copied : (s : List ℕ) (at n : ℕ) (t : List ℕ) {b : Bool} {u : List ℕ} → at + n * 8 ≤ length s * 8 → n ≤ length t → (b ≡ gettable s at n t) × (u ≡ cond b (bytesAt s at n ++ drop n t) t) → u ≡ ahead (bytesAt s at n) t
@@ -79,45 +89,57 @@ copied s at n t fits room x =
 
 -- ---- behind the first test
 
-pub sizes-small : (s : List ℕ) → sizes s ≡ 0 → length s ≤ 12_978
-sizes-small s = go (leb 8 (length s)) (leb (length s) 12_978) refl
+pub sizes-small : (s : List ℕ) → sizes s ≡ 0 → length s ≤ joined
+sizes-small s = go (leb 8 (length s)) (leb (length s) joined) refl
   where
-    go : (x y : Bool) → leb (length s) 12_978 ≡ y → _≡_ {A = ℕ} (cond x (cond (x && y) 0 1) 1) 0 → length s ≤ 12_978
-    go x true e z = leb-true (length s) 12_978 e
+    go : (x y : Bool) → leb (length s) joined ≡ y → _≡_ {A = ℕ} (cond x (cond (x && y) 0 1) 1) 0 → length s ≤ joined
+    go x true e z = leb-true (length s) joined e
     go true false e z = absurd (omega (arith, z))
     go false false e z = absurd (omega (arith, z))
 
-pub read-on : (english : Bool) (s : List ℕ) {c : ℕ} → c ≡ sizes s → c ≡ 0 → readMessage (notices english) s ≡ fieldsRead english s
-unfolding notices
-read-on english s {c} e z = read-first (notices english) s e ∙ ap (λ c. check (fault c) 0 (fieldsRead english s)) z
+module _ (english : Bool) (s : List ℕ) {c : ℕ} (e : c ≡ sizes s) where
+  pub read-on : c ≡ 0 → readMessage (notices english) s ≡ fieldsRead english s
+  unfolding notices
+  read-on z = read-first (notices english) s e ∙ ap (λ c. check (fault c) 0 (fieldsRead english s)) z
 
-pub read-not : (english : Bool) (s : List ℕ) {c : ℕ} → c ≡ sizes s → (c ≡ 0 → ⊥) → readMessage (notices english) s ≡ refused c 0
-unfolding notices
-read-not english s {c} e n = read-first (notices english) s e ∙ held-back c (fieldsRead english s) n
+  -- a size that is refused is the whole answer
+  pub fields-not : (i : ℕ) {f : Course} → (c ≡ 0 → ⊥) → f ≡ unreadBy c → FieldsAre english i s f
+  unfolding notices
+  fields-not i n d = subst⁻¹ (FieldsAre english i s) d (record {
+    walked = record { so = read-first (notices english) s e ∙ held-back c (fieldsRead english s) n ∙ sym (stuck (begun c 0) _ n); spots = λ z. absurd (n z); slim = omega arith };
+    few = omega arith;
+    fits = λ z. absurd (n z);
+    early = λ _. ap unreadBy e;
+  })
 
 -- the walk over a whole notice: its record, or the refusal
-pub walked-good : (english : Bool) (i : ℕ) (s : List ℕ) (f : Course) {c : ℕ} → c ≡ sizes s → c ≡ 0 → FieldsAre english i s f → f .walk .code ≡ 0
-    → readRecord (notices english) recordOf s ≡ accepted (f .notice, (areasAt s (f .notice .count) 63, bytesAt s (f .at) (f .text)))
-walked-good english i s f e z x k =
-    ap (also recordOf) (read-on english s e z ∙ x .walked .so ∙ clear (f .walk) _ k)
-    ∙ ap accepted (told (f .notice) (areasAt s (f .notice .count) 63) (bytesAt s (f .at) (f .text)) (bytes-run s (f .at) (f .text)))
+module _ (english : Bool) (i : ℕ) (s : List ℕ) (f : Course) (x : FieldsAre english i s f) where
+  pub walked-good : f .walk .code ≡ 0 → readRecord (notices english) recordOf s ≡ accepted (f .notice, (areasAt s (f .notice .count) front, bytesAt s (f .at) (f .text)))
+  walked-good k =
+      ap (also recordOf) (x .walked .so ∙ clear (f .walk) _ k)
+      ∙ ap accepted (told (f .notice) (areasAt s (f .notice .count) front) (bytesAt s (f .at) (f .text)) (bytes-run s (f .at) (f .text)))
 
-pub walked-bad : (english : Bool) (i : ℕ) (s : List ℕ) (f : Course) {c : ℕ} → c ≡ sizes s → c ≡ 0 → FieldsAre english i s f → (f .walk .code ≡ 0 → ⊥)
-    → readMessage (notices english) s ≡ refused (f .walk .code) (f .walk .place)
-walked-bad english i s f e z x n = read-on english s e z ∙ x .walked .so ∙ stuck (f .walk) _ n
+  pub walked-bad : (f .walk .code ≡ 0 → ⊥) → readMessage (notices english) s ≡ refused (f .walk .code) (f .walk .place)
+  walked-bad n = x .walked .so ∙ stuck (f .walk) _ n
 
--- the code of reading is the walk's
-pub walked-code : (english : Bool) (i : ℕ) (s : List ℕ) (f : Course) → FieldsAre english i s f → f .walk .code ≡ codeOf (fieldsRead english s)
-walked-code english i s f x = go (eqb (f .walk .code) 0) refl
-  where
-    go : (t : Bool) → eqb (f .walk .code) 0 ≡ t → f .walk .code ≡ codeOf (fieldsRead english s)
-    go true t = let z = eqb-true (f .walk .code) 0 t in z ∙ sym (ap codeOf (x .walked .so ∙ clear (f .walk) _ z))
-    go false t = sym (ap codeOf (x .walked .so ∙ stuck (f .walk) _ (eqb-false (f .walk .code) 0 t)))
+  -- the code of reading is the walk's
+  pub walked-code : f .walk .code ≡ codeOf (readMessage (notices english) s)
+  walked-code = go (eqb (f .walk .code) 0) refl
+    where
+      go : (t : Bool) → eqb (f .walk .code) 0 ≡ t → f .walk .code ≡ codeOf (readMessage (notices english) s)
+      go true t = let z = eqb-true (f .walk .code) 0 t in z ∙ sym (ap codeOf (x .walked .so ∙ clear (f .walk) _ z))
+      go false t = sym (ap codeOf (walked-bad (eqb-false (f .walk .code) 0 t)))
 
--- where the field i of a notice that was read stands, by the walk that sought it
-pub stands : (english : Bool) (i : ℕ) (s : List ℕ) (f : Course) → readMessage (notices english) s ≡ fieldsRead english s → FieldsAre english i s f → (vs : List ℕ) → readMessage (notices english) s ≡ accepted vs
-    → spot (notice english) [] vs i ≡ standing (f .walk .spot) (f .walk .width)
-stands english i s f e x vs a =
-    let c : f .walk .code ≡ 0 = walked-code english i s f x ∙ ap codeOf (sym e ∙ a) in
-    let same = accepted-inj (sym (x .walked .so ∙ clear (f .walk) _ c) ∙ sym e ∙ a) in
-    ap (λ vs. spot (notice english) [] vs i) (sym same) ∙ x .walked .spots c
+  -- where the field i of a notice that was read stands, by the walk that sought it
+  pub stands : (vs : List ℕ) → readMessage (notices english) s ≡ accepted vs → spot (notice english) [] vs i ≡ standing (f .walk .spot) (f .walk .width)
+  stands vs a =
+      let c : f .walk .code ≡ 0 = walked-code ∙ ap codeOf a in
+      let same = accepted-inj (sym (x .walked .so ∙ clear (f .walk) _ c) ∙ a) in
+      ap (λ vs. spot (notice english) [] vs i) (sym same) ∙ x .walked .spots c
+
+  -- what was read has a good size, and so has all that is as long
+  pub fields-again : f .walk .code ≡ 0 → (t : List ℕ) → length t ≡ length s → readMessage (notices english) t ≡ fieldsRead english t
+  unfolding notices
+  fields-again z t e =
+      let size : sizes s ≡ 0 = unled (sizes s) (fieldsRead english s) (sym (ap codeOf (read-first (notices english) s refl)) ∙ sym walked-code ∙ z) in
+      read-on english t (ap (λ n. cond (leb 8 n) (cond (between 8 joined n) 0 1) 1) (sym e) ∙ refl) size

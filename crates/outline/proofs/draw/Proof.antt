@@ -5,7 +5,7 @@ use native.Mathlib.Omega.{arith}
 use native.Mathlib.Numerals.{add-one}
 use lib.ListN.{length}
 use lib.Seq.{sets, length-sets}
-use Rattle.notice_areas.specs.Standing.{areasEnd}
+use Rattle.notice_areas.specs.Standing.{front, areasEnd}
 use Rattle.notice_numbers.specs.Shapes.{shapeAt, pointsIn}
 use Rattle.notice_numbers.specs.declared.Shape.{Shape}
 use Rattle.notice_numbers.specs.laws.Shapes.{area-small, next-more, points-more}
@@ -15,10 +15,10 @@ use Rattle.outline.proofs.draw.Statement.{statement}
 use Rattle.outline.proofs.draw.Tie as tie
 
 abbrev Inv-loop : tie.InvT-loop
-Inv-loop s from count row₀ most k₀ at₀ i₀ row k at i = (i ≤ most) × (at ≡ areasEnd s i from) × (at ≤ from + i * 700) × (k ≡ pointsIn s i from * 2) × (length row ≡ length row₀) × (row ≡ sets row₀ 0 (outlineAt s i from))
+Inv-loop s count row₀ most k₀ at₀ i₀ row k at i = (i ≤ most) × (at ≡ areasEnd s i front) × (at ≤ front + i * 700) × (k ≡ pointsIn s i front * 2) × (length row ≡ length row₀) × (row ≡ sets row₀ 0 (outlineAt s i front))
 
 abbrev μ-loop : tie.MeasureT-loop
-μ-loop s from count row₀ most k₀ at₀ i₀ row k at i = most - i
+μ-loop s count row₀ most k₀ at₀ i₀ row k at i = most - i
 
 loop-holds : tie.Need-loop-holds Inv-loop μ-loop
 unfolding areasEnd pointsIn outlineAt
@@ -36,9 +36,9 @@ draw-points-requires c κs =
     let x = q .area-at .ensures in
     let points = ap (λ (r : Shape). r .points) x in
     let here = points ∙ ap (λ p. shapeAt s p .points) (l .loop .inv .1) in
-    let within = points-within s (l .loop .i) (a .count) (a .from) (omega arith) in
+    let within = points-within s (l .loop .i) (a .count) front (omega arith) in
     let (_, _, few) = area-small s (l .loop .at) in
-    (omega (arith, first-near s (l .loop .at), ap (λ (r : Shape). r .first) x), omega (arith, few, points), omega (arith, within, here, outline-at-long s (a .count) (a .from)))
+    (omega (arith, first-near s (l .loop .at), ap (λ (r : Shape). r .first) x), omega (arith, few, points), omega (arith, within, here, outline-at-long s (a .count) front))
 
 mul-k : tie.Need-mul-k Inv-loop μ-loop
 mul-k c =
@@ -54,8 +54,15 @@ add-k c =
     let a = l .before .before .args in
     let s = a .s .now in
     let here = ap (λ (r : Shape). r .points) (q .area-at .ensures) ∙ ap (λ p. shapeAt s p .points) (l .loop .inv .1) in
-    let within = points-within s (l .loop .i) (a .count) (a .from) (omega arith) in
-    omega (arith, within, here, outline-at-long s (a .count) (a .from))
+    let within = points-within s (l .loop .i) (a .count) front (omega arith) in
+    omega (arith, within, here, outline-at-long s (a .count) front)
+
+cast-at : tie.Need-cast-at Inv-loop μ-loop
+cast-at c =
+    let q = c .before .before .before .before .before in
+    let l = q .before .before in
+    let (near, _, _) = area-small (l .before .before .args .s .now) (l .loop .at) in
+    omega (arith, near, ap (λ (r : Shape). r .next) (q .area-at .ensures))
 
 add-i : tie.Need-add-i Inv-loop μ-loop
 add-i c = omega arith
@@ -65,7 +72,7 @@ loop-less c = omega arith
 
 loop-again : tie.Need-loop-again Inv-loop μ-loop
 loop-again c =
-    let d = c .before .before in
+    let d = c .before .before .before in
     let q = d .before .before in
     let l = q .before .before in
     let a = l .before .before .args in
@@ -78,13 +85,13 @@ loop-again c =
     let (near, _, _) = area-small s (l .loop .at) in
     let one = add-one i in
     let r = q .area-at .result in
-    let area : pointsDrawn s (r .points) (r .first) ≡ areaDrawn s (areasEnd s i (a .from)) = ap (λ (r : Shape). pointsDrawn s (r .points) (r .first)) x ∙ ap (areaDrawn s) (v .1) in (
+    let area : pointsDrawn s (r .points) (r .first) ≡ areaDrawn s (areasEnd s i front) = ap (λ (r : Shape). pointsDrawn s (r .points) (r .first)) x ∙ ap (areaDrawn s) (v .1) in (
       omega arith,
-      next ∙ ap (λ p. shapeAt s p .next) (v .1) ∙ next-more s i (a .from) ∙ ap (λ n. areasEnd s n (a .from)) (sym one),
+      next ∙ ap (λ p. shapeAt s p .next) (v .1) ∙ next-more s i front ∙ ap (λ n. areasEnd s n front) (sym one),
       omega (arith, near, next),
-      omega (arith, v .3, points, points-more s i (a .from), ap (λ n. pointsIn s n (a .from)) one),
+      omega (arith, v .3, points, points-more s i front, ap (λ n. pointsIn s n front) one),
       ap length (d .draw-points .ensures) ∙ length-sets (l .loop .row) (l .loop .k) (pointsDrawn s (r .points) (r .first)) ∙ v .4,
-      area-turn s (a .row .now) 0 (a .from) i (l .loop .k) (omega (arith, v .3)) (v .5) (d .draw-points .ensures ∙ ap (sets (l .loop .row) (l .loop .k)) area),
+      area-turn s (a .row .now) 0 front i (l .loop .k) (omega (arith, v .3)) (v .5) (d .draw-points .ensures ∙ ap (sets (l .loop .row) (l .loop .k)) area),
     )
 
 same-length : tie.Need-same-length Inv-loop μ-loop
@@ -95,7 +102,7 @@ returns c =
     let l = c .before in
     let a = l .before .before .args in
     let e : l .loop .i ≡ a .count = omega arith in
-    l .loop .inv .5 ∙ ap (λ n. sets (a .row .now) 0 (outlineAt (a .s .now) n (a .from))) e
+    l .loop .inv .5 ∙ ap (λ n. sets (a .row .now) 0 (outlineAt (a .s .now) n front)) e
 
 pub draw-spec : {M : Type 1} → statement M
 draw-spec =
@@ -108,6 +115,7 @@ draw-spec =
     draw-points-requires
     mul-k
     add-k
+    cast-at
     add-i
     loop-less
     loop-again

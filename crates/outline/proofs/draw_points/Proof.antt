@@ -7,6 +7,7 @@ use lib.ListN.{length, length-set}
 use lib.Seq.{sets}
 use Rattle.bits.specs.Answers.{got}
 use Rattle.angles.specs.Angles.{northing, easting}
+use Rattle.notice_parts.specs.Parts.{latitudeBits, longitudeBits, pointBits}
 use Rattle.outline.specs.Standing.{pointsDrawn}
 use Rattle.angles.specs.laws.Angles.{latitude-stored, longitude-stored}
 use Rattle.outline.specs.laws.Drawing.{point-turn}
@@ -85,9 +86,9 @@ loop-again c =
     let l = g .before .before in
     let a = l .before .before .args in
     let s = a .s .now in
-    let p = a .at + l .loop .j * 43 in
-    let x = latitude-stored (got s p 21) (w .latitude-of .ensures ∙ ap northing (g .get .ensures)) in
-    let y = longitude-stored (got s (p + 21) 22) (c .longitude-of .ensures ∙ ap easting (g2 .get2 .ensures)) in (
+    let p = a .at + l .loop .j * pointBits in
+    let x = latitude-stored (got s p latitudeBits) (w .latitude-of .ensures ∙ ap northing (g .get .ensures)) in
+    let y = longitude-stored (got s (p + latitudeBits) longitudeBits) (c .longitude-of .ensures ∙ ap easting (g2 .get2 .ensures)) in (
       omega arith,
       simp length-set (l .loop .inv .1),
       point-turn s (a .row .now) (a .k) (a .at) (l .loop .j) x y (l .loop .inv .2),

@@ -15,6 +15,7 @@ use Rattle.notice_numbers.specs.Shapes.{shapeAs, shapeAt, pointsIn}
 use Rattle.notice_numbers.specs.laws.Shapes.{points-long, area-next, area-small}
 use Rattle.notice_numbers.specs.laws.Rows.{sets-on}
 use Rattle.angles.specs.Angles.{northing, easting}
+use Rattle.notice_parts.specs.Parts.{latitudeBits, longitudeBits, pointBits}
 use Rattle.outline.specs.Outline.{pointsOf, insideCount, insideOf, outlineOf, pointCount}
 use Rattle.outline.specs.Standing.{pointsDrawn, areaDrawn, outlineAt}
 
@@ -47,14 +48,14 @@ outline-long (suc n) row =
 drawn-long : (s : List ℕ) (n at : ℕ) → length (pointsDrawn s n at) ≡ n * 2
 unfolding pointsDrawn
 drawn-long s zero at = refl
-drawn-long s (suc n) at = let e = drawn-long s n (at + 43) in omega (arith, e)
+drawn-long s (suc n) at = let e = drawn-long s n (at + pointBits) in omega (arith, e)
 
 -- ---- what stands in the bits
 
 points-drawn : (s : List ℕ) (n at : ℕ) (l : List ℕ) → pointsOf n (pointsAt s n at ++ l) ≡ pointsDrawn s n at
 unfolding pointsOf pointsAt pointsDrawn
 points-drawn s zero at l = refl
-points-drawn s (suc n) at l = ap (λ ps. northing (got s at 21) ∷ easting (got s (at + 21) 22) ∷ ps) (points-drawn s n (at + 43) l)
+points-drawn s (suc n) at l = ap (λ ps. northing (got s at latitudeBits) ∷ easting (got s (at + latitudeBits) longitudeBits) ∷ ps) (points-drawn s n (at + pointBits) l)
 
 module _ (s : List ℕ) where
   -- an area's points, told in front of others
@@ -94,13 +95,13 @@ module _ (s : List ℕ) where
 
   -- ---- one more at the end
 
-  points-more : (n at : ℕ) → pointsDrawn s (suc n) at ≡ pointsDrawn s n at ++ (northing (got s (at + n * 43) 21) ∷ easting (got s (at + n * 43 + 21) 22) ∷ [])
+  points-more : (n at : ℕ) → pointsDrawn s (suc n) at ≡ pointsDrawn s n at ++ (northing (got s (at + n * pointBits) latitudeBits) ∷ easting (got s (at + n * pointBits + latitudeBits) longitudeBits) ∷ [])
   unfolding pointsDrawn
-  points-more zero at = let e : at ≡ at + 0 * 43 = omega arith in ap (λ a. northing (got s a 21) ∷ easting (got s (a + 21) 22) ∷ []) e
+  points-more zero at = let e : at ≡ at + 0 * pointBits = omega arith in ap (λ a. northing (got s a latitudeBits) ∷ easting (got s (a + latitudeBits) longitudeBits) ∷ []) e
   points-more (suc n) at =
-      let e : at + 43 + n * 43 ≡ at + suc n * 43 = omega arith in
-      ap (λ l. northing (got s at 21) ∷ easting (got s (at + 21) 22) ∷ l)
-      (points-more n (at + 43) ∙ ap (λ a. pointsDrawn s n (at + 43) ++ (northing (got s a 21) ∷ easting (got s (a + 21) 22) ∷ [])) e)
+      let e : at + pointBits + n * pointBits ≡ at + suc n * pointBits = omega arith in
+      ap (λ l. northing (got s at latitudeBits) ∷ easting (got s (at + latitudeBits) longitudeBits) ∷ l)
+      (points-more n (at + pointBits) ∙ ap (λ a. pointsDrawn s n (at + pointBits) ++ (northing (got s a latitudeBits) ∷ easting (got s (a + latitudeBits) longitudeBits) ∷ [])) e)
 
   outline-more : (n at : ℕ) → outlineAt s (suc n) at ≡ outlineAt s n at ++ areaDrawn s (areasEnd s n at)
   unfolding outlineAt areasEnd
@@ -136,12 +137,12 @@ module _ (s : List ℕ) where
   -- ---- what is stored of them
 
   module _ (row : List ℤ) {now : List ℤ} (k : ℕ) where
-    pub point-turn : (at j : ℕ) {x y : ℤ} → x ≡ northing (got s (at + j * 43) 21) → y ≡ easting (got s (at + j * 43 + 21) 22) → now ≡ sets row k (pointsDrawn s j at)
+    pub point-turn : (at j : ℕ) {x y : ℤ} → x ≡ northing (got s (at + j * pointBits) latitudeBits) → y ≡ easting (got s (at + j * pointBits + latitudeBits) longitudeBits) → now ≡ sets row k (pointsDrawn s j at)
         → set (set now (k + j * 2) x) (k + j * 2 + 1) y ≡ sets row k (pointsDrawn s (j + 1) at)
     point-turn at j {x} {y} dx dy e =
         ap₂ (λ u w. set (set now (k + j * 2) u) w y) dx (add-one (k + j * 2))
-        ∙ ap₂ (λ u l. set (set l (k + j * 2) (northing (got s (at + j * 43) 21))) (suc (k + j * 2)) u) dy e
-        ∙ sets-on row k (pointsDrawn s j at) (northing (got s (at + j * 43) 21) ∷ easting (got s (at + j * 43 + 21) 22) ∷ []) (ap (k +_) (sym (drawn-long s j at)))
+        ∙ ap₂ (λ u l. set (set l (k + j * 2) (northing (got s (at + j * pointBits) latitudeBits))) (suc (k + j * 2)) u) dy e
+        ∙ sets-on row k (pointsDrawn s j at) (northing (got s (at + j * pointBits) latitudeBits) ∷ easting (got s (at + j * pointBits + latitudeBits) longitudeBits) ∷ []) (ap (k +_) (sym (drawn-long s j at)))
         ∙ ap (sets row k) (sym (points-more j at) ∙ ap (λ n. pointsDrawn s n at) (sym (add-one j)))
 
     pub area-turn : (at n i : ℕ) {t : List ℤ} → i ≡ k + pointsIn s n at * 2 → now ≡ sets row k (outlineAt s n at) → t ≡ sets now i (areaDrawn s (areasEnd s n at)) → t ≡ sets row k (outlineAt s (n + 1) at)

@@ -13,7 +13,7 @@ use Rattle.layout.specs.laws.Loops.{going}
 use Rattle.layout.specs.laws.Step.{clean}
 use Rattle.notice_areas.specs.Row.{areasTold}
 use Rattle.notice_reading.specs.Record.{texted, valuesOf}
-use Rattle.notice.specs.laws.Judging.{spoken-whole, text-judged, refused-judged}
+use Rattle.notice.specs.laws.Judging.{spoken-whole, text-judged, from-front, refused-judged}
 use Rattle.notice.proofs.making.judged.Statement.{statement}
 use Rattle.notice.proofs.making.judged.Tie as tie
 
@@ -27,14 +27,12 @@ returns c =
     let a = h .before .before .before .args in
     let x = h .judged-head .ensures in
     record {
-      judged = refused-judged (length (a .text .now) * 8) (c .if1 .taken) (x .going (a .english) (areasTold (a .r .count) (a .areas .now) ++ texted (a .text .now)));
+      judged = refused-judged (length (a .text .now) * 8) (c .if1 .taken) (going (x .is (a .english) (areasTold (a .r .count) (a .areas .now) ++ texted (a .text .now))));
       asked = λ z. absurd (c .if1 .taken z);
     }
 
 judge-requires : tie.Need-judge-requires
-judge-requires c κs =
-    let h = c .before .before in
-    (h .judged-head .ensures .few (c .if1 .left), omega (arith, h .judged-head .ensures .near))
+judge-requires c κs = search needs
 
 spoken-requires : tie.Need-spoken-requires
 spoken-requires c κs = search needs
@@ -59,10 +57,10 @@ returns-2 c =
     let fine : Bytes t = λ i. known .shared-slice-known2 .given i .fits in
     let x = h .judged-head .ensures in
     let y = j .judge .ensures in
-    let g = y .along .on (x .going (a .english) (areasTold (a .r .count) (a .areas .now) ++ texted t)) in
+    let g = y .along .on (from-front (i .if1 .left) (x .is (a .english) (areasTold (a .r .count) (a .areas .now) ++ texted t))) in
     let few = x .few (i .if1 .left) in
     record {
-      judged = text-judged (a .english) t (ch .choose .result) fine (omega (arith, y .near, x .near, few)) (ch .choose .ensures ∙ ap (λ b. cond b 0 4) (sp .spoken .ensures ∙ spoken-whole (a .english) t fine)) (c .wide .ensures) g;
+      judged = text-judged (a .english) t (ch .choose .result) fine (omega (arith, y .near, few)) (ch .choose .ensures ∙ ap (λ b. cond b 0 4) (sp .spoken .ensures ∙ spoken-whole (a .english) t fine)) (c .wide .ensures) g;
       asked = λ z. y .next (clean (j .judge .result .walk .code) (ch .choose .result) (ap (λ (w : Walk). w .code) (sym (c .wide .ensures)) ∙ z) .0);
     }
 

@@ -1,16 +1,11 @@
 -- `judged_head` walks the head's values in bit order: each step is a law of judging.
-use Prim.Native.Nat.{_+_, _-_, _≤_, _<_}
-use mathlib.Core.Path.{_≡_, ap, ap₂, _∙_}
-use mathlib.Core.Bool.{true}
-use native.Mathlib.Omega.{arith}
+use Prim.Native.Nat.{_-_, _<_}
+use mathlib.Core.Path.{ap₂, _∙_}
+use mathlib.Core.List.{[], _∷_}
 use lib.Dec.{lit<}
 use borrow.Author.Needs.{needs}
-use Rattle.pieces.specs.Pieces.{pieced}
 use Rattle.layout.specs.Judging.{valued}
-use Rattle.layout.specs.declared.walk.Walk.{Walk}
-use Rattle.areas_making.specs.laws.Judging.{valued-near}
 use Rattle.layout.specs.laws.Judging.{judge-start, judge-num, judge-limits, judge-deciding, valued-between}
-use Rattle.layout.specs.laws.Loops.{going, step-near}
 use Rattle.notice_parts.specs.Parts.{subtype}
 use Rattle.notice_parts.specs.Steps.{leastSubtype, mostSubtype}
 use Rattle.notice_parts.specs.laws.Subtypes.{subtype-limits, most-subtype-fits}
@@ -78,7 +73,7 @@ value-requires-7 : tie.Need-value-requires-7
 value-requires-7 c κs = search needs
 
 returns : tie.Need-returns
-unfolding Notice·notice pieced
+unfolding Notice·notice
 returns c =
     let x = c .before .before in
     let v6 = x .before .before in
@@ -93,17 +88,9 @@ returns c =
     let r = b .before .before .args .r in
     let kind = r .kind in
     let limits = v6 .value6 .ensures ∙ ap₂ (λ lo hi. valued 4 (r .subtype) lo hi (v5 .value5 .result)) (l .least-subtype .ensures) (m .most-subtype .ensures) in
-    let n0 : b .begin .result .at ≡ 0 = ap (λ (w : Walk). w .at) (b .begin .ensures) in
-    let n1 = valued-near (b .begin .result) 5 (r .source) 1 21 (v1 .value .ensures) in
-    let n2 = valued-near (v1 .value .result) 4 (r .station) 1 3 (v2 .value2 .ensures) in
-    let n3 = valued-near (v2 .value2 .result) 14 (r .serial) 1 9_999 (v3 .value3 .ensures) in
-    let n4 = valued-near (v3 .value3 .result) 7 (r .year) 0 99 (v4 .value4 .ensures) in
-    let n5 = valued-near (v4 .value4 .result) 4 kind 1 8 (v5 .value5 .ensures) in
-    let n6 = valued-near (v5 .value5 .result) 4 (r .subtype) _ _ (v6 .value6 .ensures) in
-    let n7 : x .judged-expiry .result .at ≤ v6 .value6 .result .at + 21 = step-near (v6 .value6 .result) 21 true (r .expiry) _ _ (x .judged-expiry .ensures) in
-    let n8 = valued-near (x .judged-expiry .result) 4 (r .count) 0 15 (c .value7 .ensures) in
     record {
-      going = λ english vs.
+      past = r .count ∷ r .expiry ∷ r .subtype ∷ kind ∷ r .year ∷ r .serial ∷ r .station ∷ r .source ∷ [];
+      is = λ english vs.
           let r0 = judge-start (Notice·notice english) 0 0 (headed r vs) (b .begin .ensures) in
           let r1 = judge-num 5 (lit< tt) 1 21 (lit< tt) r0 (v1 .value .ensures) in
           let r2 = judge-num 4 (lit< tt) 1 3 (lit< tt) r1 (v2 .value2 .ensures) in
@@ -112,8 +99,7 @@ returns c =
           let r5 = judge-num 4 (lit< tt) 1 8 (lit< tt) r4 (v5 .value5 .ensures) in
           let r6 = judge-limits 4 (lit< tt) subtype (leastSubtype kind) (mostSubtype kind) (most-subtype-fits kind) (λ _. subtype-limits kind _ (r .subtype)) r5 limits in
           let r7 = expiry-judged (lit< tt) r6 (x .judged-expiry .ensures) in
-          going (judge-deciding 4 (lit< tt) 0 15 (lit< tt) r7 (c .value7 .ensures));
-      near = omega (arith, n0, n1, n2, n3, n4, n5, n6, n7, n8);
+          judge-deciding 4 (lit< tt) 0 15 (lit< tt) r7 (c .value7 .ensures);
       few = λ z. valued-between (x .judged-expiry .result) 4 (r .count) 0 15 (c .value7 .ensures) z .1;
     }
 
