@@ -7,16 +7,17 @@ use lib.ListN.{length, take, drop, length-append, length-drop}
 use lib.Seq.{sets, drop-drop, length-sets, take-all}
 use borrow.Author.Tests.{le-leb, lt-leb}
 use Rattle.records.specs.Records.{Entry, front, records, sizeOf}
-use Rattle.kinds.specs.Kinds.{entryLine}
+use Rattle.kinds.specs.Kinds.{word, entryLine}
+use Rattle.kinds.specs.laws.Words.{word-few}
 use Rattle.daylog.specs.Log.{after, after-all, lines}
-use Rattle.lines.specs.Stores.{Stores}
+use Rattle.lines.specs.Stores.{placed, Stores}
 use Rattle.daylog.specs.Promises.{listed, chosen, Lists}
 use Rattle.lines.specs.laws.Text.{sets-append}
 use Rattle.records.specs.laws.Records.{front-size, records-open}
 use Rattle.daylog.specs.laws.Windows.{entryAt, records-next, body-size}
 use Rattle.records.specs.declared.Next.{Next}
 use Rattle.records.specs.declared.Next.the-variants.{Record, Bad, Short}
-use Rattle.lines.specs.laws.Made.{stored}
+use Rattle.lines.specs.laws.Made.{placed-all, stored}
 
 -- the records that are left to list
 abbrev pub ahead : List ℕ → List ℕ → ℕ → ℕ → ℕ → List Entry
@@ -86,10 +87,12 @@ module _ {s : List ℕ} {m : ℕ} {o out : List ℕ} {used made n : ℕ} (x : Le
 
   -- a record is listed
   pub turn : (k i : ℕ) {made′ : ℕ} {out′ : List ℕ} → front (drop used s) ≡ Record k i → 55 ≤ length out - made → made′ ≤ length out
-      → Stores out made (entryLine n (entryAt (drop used s) k i)) made′ out′ → Left s m o out′ (used + (4 + i)) made′ (after n)
+      → Stores out made (placed (length (word k) + 47) out made (entryLine n (entryAt (drop used s) k i))) made′ out′
+      → Left s m o out′ (used + (4 + i)) made′ (after n)
   unfolding sizeOf after-all lines
-  turn k i {made′} {out′} e h l st =
+  turn k i {made′} {out′} e h l called =
       let b = entryAt (drop used s) k i in
+      let st : Stores out made (entryLine n b) made′ out′ = rw (placed-all (length (word k) + 47) out made (entryLine n b) (omega (arith, word-few k))) at called in
       let c = split k i e h st in
       let rest = ahead s out′ (used + (4 + i)) made′ (after n) in
       let kept : length out′ ≡ length out = ap length (st .leaves) ∙ length-sets out made (entryLine n b) in

@@ -1,2 +1,3 @@
--- What is proved of the promises.
+-- What is proved of the words and of the promises.
+pub mod Words
 pub mod Answers

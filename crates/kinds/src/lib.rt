@@ -2,8 +2,8 @@
 ghost use mathlib.Core.Path.{_≡_};
 ghost use Prim.Native.Nat.{_+_, _≤_};
 ghost use lib.ListN.{length};
-ghost use Rattle.lines.specs.Stores.{Stores};
-ghost use Rattle.kinds.specs.Kinds.{codeOf, entryLine};
+ghost use Rattle.lines.specs.Stores.{placed, Stores};
+ghost use Rattle.kinds.specs.Kinds.{word, codeOf, entryLine};
 ghost use Rattle.format.specs.Message.{codeOf as Message·codeOf, readMessage};
 ghost use Rattle.distress_reading.specs.Report.{reports};
 ghost use Rattle.packet_reading.specs.Packet.{packets};
@@ -36,10 +36,11 @@ fn report(body: &[u8]) -> u8
     answer.refusal()
 }
 
-// A record's line, with its kind's word.
+// A record's line, with its kind's word. Where a line with that word might have no room, answers the same place and leaves
+// every byte.
 pub fn entry(out: &mut [u8], at: usize, number: u64, kind: u16, body: &[u8]) -> usize
-    requires { ⌜ at + 55 ≤ length (now out) ⌝ }
-    ensures { λ r. ⌜ Stores (now (out .entry)) at (entryLine number (record { kind = kind; body = now (body .entry) })) r (now (out .exit))
+    ensures { λ r. ⌜ Stores (now (out .entry)) at
+        (placed (length (word kind) + 47) (now (out .entry)) at (entryLine number (record { kind = kind; body = now (body .entry) }))) r (now (out .exit))
         × (r ≤ at + 55) ⌝ }
 {
     let code = code(kind, body);

@@ -1,9 +1,15 @@
 -- A text in a lent buffer: at a place of it, or at its front. Assumes nothing.
 use mathlib.Core.Path.{_≡_}
-use mathlib.Core.List.{List, _++_}
+use mathlib.Core.Bool.{cond}
+use mathlib.Core.List.{List, [], _++_}
 use Prim.Native.Nat.{ℕ, _+_}
+use lib.Dec.{leb}
 use lib.ListN.{length, drop}
 use lib.Seq.{sets}
+
+-- the text t where n bytes have room at place `at` of `out`, and else none
+abbrev pub placed : ℕ → List ℕ → ℕ → List ℕ → List ℕ
+placed n out at t = cond (leb (at + n) (length out)) t []
 
 -- the text t stored at place `at` of `out`, and the place after it
 pub record Stores (out : List ℕ) (at : ℕ) (t : List ℕ) (end : ℕ) (left : List ℕ) : Type 0 where

@@ -2,14 +2,14 @@
 use mathlib.Core.Path.{_≡_, refl}
 use Prim.Native.Nat.{ℕ, zero, suc}
 use native.Mathlib.Omega.{arith}
-use lib.Dec.{lit<, lit≤}
+use lib.Dec.{lit<}
 use lib.ListN.{length}
 use borrow.Author.Tests.{le-leb, lt-leb}
 use Rattle.lines.specs.Text.{line}
 use Rattle.daylog.specs.Text.{broken}
 use Rattle.daylog.specs.Log.{endingOf}
-use Rattle.lines.specs.laws.Text.{line-few}
-use Rattle.lines.specs.laws.Made.{none, stored}
+use Rattle.lines.specs.laws.Text.{line-most}
+use Rattle.lines.specs.laws.Made.{none, placed-all, stored}
 use borrow.Author.Needs.{needs}
 use Rattle.daylog.proofs.ending.Statement.{statement}
 use Rattle.daylog.proofs.ending.Tie as tie
@@ -32,9 +32,7 @@ slice-aggregate-line : tie.Need-slice-aggregate-line
 slice-aggregate-line c = search needs
 
 line-requires : tie.Need-line-requires
-line-requires c κs =
-    let s = c .before .before .before .before .before in
-    omega (arith, line-few (s .args .number) broken 1 (s .args .left) (s .fits .number .fits) (lit≤ tt) (lit< tt) (s .fits .left .fits))
+line-requires c κs = search needs
 
 same-length : tie.Need-same-length
 same-length c = search needs
@@ -44,9 +42,10 @@ returns-3 c =
     let p = c .before .before in
     let s = p .before .before .before .before .before .before in
     let out = s .args .out .now in
-    let l = line-few (s .args .number) broken 1 (s .args .left) (s .fits .number .fits) (lit≤ tt) (lit< tt) (s .fits .left .fits) in
+    let text = line (s .args .number) broken 1 (s .args .left) in
+    let l = line-most (s .args .number) broken 1 (s .args .left) (s .fits .number .fits) (lit< tt) (s .fits .left .fits) in
     rw (le-leb 55 (length out) (omega arith), some-left (s .args .number) (s .args .left) (p .before .before .before .if2 .left))
-    (stored (omega arith) (p .line .ensures))
+    (stored (omega arith) (rw (placed-all 53 out 0 text (omega arith)) at (p .line .ensures)))
 
 pub ending-spec : {M : Type 1} → statement M
 ending-spec =

@@ -73,7 +73,7 @@ part-entry-end c =
     omega (arith, length-drop (l .loop .used) s)
 
 entry-requires : tie.Need-entry-requires Inv-loop μ-loop
-entry-requires c κs = omega arith
+entry-requires c κs = tt
 
 add-used : tie.Need-add-used Inv-loop μ-loop
 add-used c =

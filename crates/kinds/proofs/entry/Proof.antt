@@ -7,10 +7,11 @@ use lib.Dec.{lit≤}
 use lib.ListN.{length}
 use borrow.Author.Tests.{ne-eqb}
 use Rattle.kinds.specs.Kinds.{word, codeOf, entryLine}
-use Rattle.lines.specs.Stores.{Stores}
+use Rattle.lines.specs.Stores.{placed, Stores}
 use Rattle.lines.specs.Text.{line}
 use Rattle.kinds.specs.Words.{serial, packet, distress, ais, unknown}
-use Rattle.lines.specs.laws.Text.{line-few}
+use Rattle.lines.specs.laws.Text.{line-most}
+use Rattle.lines.specs.laws.Made.{placed-most}
 use borrow.Author.Needs.{needs}
 use Rattle.kinds.proofs.entry.Statement.{statement}
 use Rattle.kinds.proofs.entry.Tie as tie
@@ -40,13 +41,13 @@ other-word k a b c d = rw (ne-eqb k 1 a, ne-eqb k 2 b, ne-eqb k 3 c, ne-eqb k 4 
 -- ---- a line with the word w
 
 module _ (n k : ℕ) (body w : List ℕ) (code : ℕ) (small : n < 2 ^ 64) (short : length w ≤ 8) (byte : code < 256) (few : length body < 2 ^ 64) where
-  pub fits-line : (at : ℕ) (out : List ℕ) → at + 55 ≤ length out → at + length (line n w code (length body)) ≤ length out
-  fits-line at out room = omega (arith, line-few n w code (length body) small short byte few)
-
-  pub stored : word k ≡ w → code ≡ codeOf k body → {at r : ℕ} {out left : List ℕ} → Stores out at (line n w code (length body)) r left
-      → Stores out at (entryLine n (record { kind = k; body = body })) r left × (r ≤ at + 55)
+  pub stored : word k ≡ w → code ≡ codeOf k body → {at r : ℕ} {out left : List ℕ} → Stores out at (placed (length w + 47) out at (line n w code (length body))) r left
+      → Stores out at (placed (length (word k) + 47) out at (entryLine n (record { kind = k; body = body }))) r left × (r ≤ at + 55)
   unfolding entryLine
-  stored e f s = (rw (e, ← f) s, omega (arith, s .ends, line-few n w code (length body) small short byte few))
+  stored e f {at} {r} {out} s = (
+    rw (e, ← f) s,
+    omega (arith, s .ends, placed-most (length w + 47) out at (line n w code (length body)), line-most n w code (length body) small byte few),
+  )
 
 code-requires : tie.Need-code-requires
 code-requires c κs = search needs
@@ -55,46 +56,31 @@ slice-aggregate-line : tie.Need-slice-aggregate-line
 slice-aggregate-line c = search needs
 
 line-requires : tie.Need-line-requires
-line-requires c κs =
-    let p = c .before .before .before in
-    let s = p .before .before .before in
-    fits-line (s .args .number) (s .args .kind) (s .args .body .now) serial (p .code .result) (s .fits .number .fits) (lit≤ tt) (omega arith) (omega arith) (s .args .at) (s .args .out .now) (s .pre)
+line-requires c κs = search needs
 
 slice-aggregate-line-2 : tie.Need-slice-aggregate-line-2
 slice-aggregate-line-2 c = search needs
 
 line-requires-2 : tie.Need-line-requires-2
-line-requires-2 c κs =
-    let p = c .before .before .before in
-    let s = p .before .before .before in
-    fits-line (s .args .number) (s .args .kind) (s .args .body .now) packet (p .code .result) (s .fits .number .fits) (lit≤ tt) (omega arith) (omega arith) (s .args .at) (s .args .out .now) (s .pre)
+line-requires-2 c κs = search needs
 
 slice-aggregate-line-3 : tie.Need-slice-aggregate-line-3
 slice-aggregate-line-3 c = search needs
 
 line-requires-3 : tie.Need-line-requires-3
-line-requires-3 c κs =
-    let p = c .before .before .before in
-    let s = p .before .before .before in
-    fits-line (s .args .number) (s .args .kind) (s .args .body .now) distress (p .code .result) (s .fits .number .fits) (lit≤ tt) (omega arith) (omega arith) (s .args .at) (s .args .out .now) (s .pre)
+line-requires-3 c κs = search needs
 
 slice-aggregate-line-4 : tie.Need-slice-aggregate-line-4
 slice-aggregate-line-4 c = search needs
 
 line-requires-4 : tie.Need-line-requires-4
-line-requires-4 c κs =
-    let p = c .before .before .before in
-    let s = p .before .before .before in
-    fits-line (s .args .number) (s .args .kind) (s .args .body .now) ais (p .code .result) (s .fits .number .fits) (lit≤ tt) (omega arith) (omega arith) (s .args .at) (s .args .out .now) (s .pre)
+line-requires-4 c κs = search needs
 
 slice-aggregate-line-5 : tie.Need-slice-aggregate-line-5
 slice-aggregate-line-5 c = search needs
 
 line-requires-5 : tie.Need-line-requires-5
-line-requires-5 c κs =
-    let p = c .before .before .before in
-    let s = p .before .before .before in
-    fits-line (s .args .number) (s .args .kind) (s .args .body .now) unknown (p .code .result) (s .fits .number .fits) (lit≤ tt) (omega arith) (omega arith) (s .args .at) (s .args .out .now) (s .pre)
+line-requires-5 c κs = search needs
 
 same-length : tie.Need-same-length
 same-length c = search needs

@@ -1,85 +1,47 @@
--- `line` stores its columns one after the other: the parts' lengths make up the line's, so each has room.
+-- `line` stores the columns where the longest line with its word has room, and so the line does.
+use mathlib.Core.Bool.{true}
+use mathlib.Core.Path.{_≡_, sym, _∙_}
+use Prim.Native.Nat.{_+_, _≤_}
 use native.Mathlib.Omega.{arith}
+use borrow.Author.Tests.{leb-true}
+use lib.ListN.{length}
 use Rattle.lines.specs.Text.{line}
-use Rattle.lines.specs.laws.Text.{line-length}
-use Rattle.lines.specs.laws.Made.{then}
+use Rattle.lines.specs.laws.Text.{line-most}
+use Rattle.lines.specs.laws.Made.{nowhere, placed-all}
 use borrow.Author.Needs.{needs}
 use Rattle.lines.proofs.line.Statement.{statement}
 use Rattle.lines.proofs.line.Tie as tie
 
-decimal-requires : tie.Need-decimal-requires
-decimal-requires c κs =
-    let a = c .before .before .before .args in
-    omega (arith, line-length (a .number) (a .word .now) (a .code) (a .bytes))
+room : (c : tie.After-has-room) → c .has-room .result ≡ true → let a = c .before .before .before .args in a .at + (length (a .word .now) + 47) ≤ length (a .out .now)
+room c e = let a = c .before .before .before .args in leb-true (a .at + (length (a .word .now) + 47)) (length (a .out .now)) (sym (c .has-room .ensures) ∙ e)
 
-mark-requires : tie.Need-mark-requires
-mark-requires c κs =
-    let a = c .before .before .before .before .before .before .before .args in
-    omega (arith, line-length (a .number) (a .word .now) (a .code) (a .bytes))
+add-has-room : tie.Need-add-has-room
+add-has-room c = search needs
 
-text-requires : tie.Need-text-requires
-text-requires c κs =
-    let a = c .before .before .before .before .before .before .before .before .before .before .before .args in
-    omega (arith, line-length (a .number) (a .word .now) (a .code) (a .bytes))
+has-room-requires : tie.Need-has-room-requires
+has-room-requires c κs = search needs
 
-mark-requires-2 : tie.Need-mark-requires-2
-mark-requires-2 c κs =
-    let a = c .before .before .before .before .before .before .before .before .before .before .before .before .before .before .before .args in
-    omega (arith, line-length (a .number) (a .word .now) (a .code) (a .bytes))
-
-decimal-requires-2 : tie.Need-decimal-requires-2
-decimal-requires-2 c κs =
-    let a = c .before .before .before .before .before .before .before .before .before .before .before .before .before .before .before .before .before .before .before .args in
-    omega (arith, line-length (a .number) (a .word .now) (a .code) (a .bytes))
-
-mark-requires-3 : tie.Need-mark-requires-3
-mark-requires-3 c κs =
-    let a = c .before .before .before .before .before .before .before .before .before .before .before .before .before .before .before .before .before .before .before .before .before .before .before .args in
-    omega (arith, line-length (a .number) (a .word .now) (a .code) (a .bytes))
-
-decimal-requires-3 : tie.Need-decimal-requires-3
-decimal-requires-3 c κs =
-    let a = c .before .before .before .before .before .before .before .before .before .before .before .before .before .before .before .before .before .before .before .before .before .before .before .before .before .before .before .args in
-    omega (arith, line-length (a .number) (a .word .now) (a .code) (a .bytes))
-
-mark-requires-4 : tie.Need-mark-requires-4
-mark-requires-4 c κs =
-    let a = c .before .before .before .before .before .before .before .before .before .before .before .before .before .before .before .before .before .before .before .before .before .before .before .before .before .before .before .before .before .before .before .args in
-    omega (arith, line-length (a .number) (a .word .now) (a .code) (a .bytes))
+columns-requires : tie.Need-columns-requires
+columns-requires c κs = let h = c .before .before in
+    let s = h .before .before .before in
+    let a = s .args in
+    omega (arith, room h (c .before .if1 .taken), line-most (a .number) (a .word .now) (a .code) (a .bytes) (s .fits .number .fits) (s .fits .code .fits) (s .fits .bytes .fits))
 
 same-length : tie.Need-same-length
 same-length c = search needs
 
 returns : tie.Need-returns
-unfolding line
-returns c =
-    let feed = c .before .before in
-    let bytes = feed .before .before .before .before in
-    let third = bytes .before .before .before .before in
-    let code = third .before .before .before .before in
-    let second = code .before .before .before .before in
-    let word = second .before .before .before .before in
-    let first = word .before .before .before .before in
-    let number = first .before .before .before .before in
-    then (number .decimal .ensures)
-    (then (first .mark .ensures)
-    (then (word .text .ensures)
-    (then (second .mark2 .ensures)
-    (then (code .decimal2 .ensures)
-    (then (third .mark3 .ensures)
-    (then (bytes .decimal3 .ensures) (feed .mark4 .ensures)))))))
+returns c = let p = c .before .before in
+    let h = p .before .before .before in
+    let a = h .before .before .before .args in
+    rw (placed-all (length (a .word .now) + 47) (a .out .now) (a .at) (line (a .number) (a .word .now) (a .code) (a .bytes)) (room h (p .before .before .if1 .taken))) (p .columns .ensures)
+
+returns-2 : tie.Need-returns-2
+returns-2 c = let h = c .before in
+    let a = h .before .before .before .args in
+    nowhere (length (a .word .now) + 47) (a .out .now) (a .at) (line (a .number) (a .word .now) (a .code) (a .bytes)) (sym (h .has-room .ensures) ∙ c .if1 .left)
 
 pub line-spec : {M : Type 1} → statement M
 line-spec =
     tie.close
-    (tie.spec
-    decimal-requires
-    mark-requires
-    text-requires
-    mark-requires-2
-    decimal-requires-2
-    mark-requires-3
-    decimal-requires-3
-    mark-requires-4
-    same-length
-    returns)
+    (tie.spec add-has-room has-room-requires columns-requires same-length returns returns-2)

@@ -1,74 +1,36 @@
--- `text` stores byte by byte: what is left to store, stored where the loop stands, gives the whole.
-use mathlib.Core.Path.{_≡_, refl, _∙_}
-use Prim.Native.Nat.{_+_, _-_, _≤_}
-use native.Mathlib.Omega.{arith}
-use lib.ListN.{length, drop, length-set}
-use lib.Seq.{sets}
-use Rattle.lines.specs.laws.Text.{sets-start, sets-turn, sets-end}
+-- `text` stores the bytes where they have room.
+use mathlib.Core.Bool.{true}
+use mathlib.Core.Path.{_≡_, sym, _∙_}
+use Prim.Native.Nat.{_+_, _≤_}
+use borrow.Author.Tests.{leb-true}
+use lib.ListN.{length}
+use Rattle.lines.specs.laws.Made.{nowhere, placed-all}
+use borrow.Author.Needs.{needs}
 use Rattle.lines.proofs.text.Statement.{statement}
 use Rattle.lines.proofs.text.Tie as tie
 
-abbrev Inv-loop : tie.InvT-loop
-Inv-loop out₀ at bytes i₀ out i = (i ≤ length bytes) × (length out ≡ length out₀) × (sets out (at + i) (drop i bytes) ≡ sets out₀ at bytes)
+room : (c : tie.After-has-room) → c .has-room .result ≡ true → let a = c .before .before .before .args in a .at + length (a .bytes .now) ≤ length (a .out .now)
+room c e = let a = c .before .before .before .args in leb-true (a .at + length (a .bytes .now)) (length (a .out .now)) (sym (c .has-room .ensures) ∙ e)
 
-abbrev μ-loop : tie.MeasureT-loop
-μ-loop out₀ at bytes i₀ out i = length bytes - i
+has-room-requires : tie.Need-has-room-requires
+has-room-requires c κs = search needs
 
-loop-holds : tie.Need-loop-holds Inv-loop μ-loop
-loop-holds c = (omega arith, refl, sets-start (c .args .out .now) (c .args .at) (c .args .bytes .now))
+put-requires : tie.Need-put-requires
+put-requires c κs = room (c .before .before) (c .before .if1 .taken)
 
-shared-slice-read-out : tie.Need-shared-slice-read-out Inv-loop μ-loop
-shared-slice-read-out c = omega arith
+same-length : tie.Need-same-length
+same-length c = search needs
 
-add-out : tie.Need-add-out Inv-loop μ-loop
-add-out c = omega arith
+returns : tie.Need-returns
+returns c = let p = c .before .before in
+    let h = p .before .before .before in
+    let a = h .before .before .before .args in
+    rw (placed-all (length (a .bytes .now)) (a .out .now) (a .at) (a .bytes .now) (room h (p .before .before .if1 .taken))) (p .put .ensures)
 
-slice-write-out : tie.Need-slice-write-out Inv-loop μ-loop
-slice-write-out c = omega arith
-
-add-i : tie.Need-add-i Inv-loop μ-loop
-add-i c = omega arith
-
-loop-less : tie.Need-loop-less Inv-loop μ-loop
-loop-less c = omega arith
-
-loop-again : tie.Need-loop-again Inv-loop μ-loop
-loop-again c =
-    let t = c .before .before in
-    let a = t .before .args in (
-      omega arith,
-      simp length-set (t .loop .inv .1),
-      sets-turn (t .loop .out) (a .at) (t .loop .i) (a .bytes .now) (omega arith) ∙ t .loop .inv .2,
-    )
-
-add-result : tie.Need-add-result Inv-loop μ-loop
-add-result c = omega arith
-
-same-length : tie.Need-same-length Inv-loop μ-loop
-same-length c = omega arith
-
-returns : tie.Need-returns Inv-loop μ-loop
-returns c =
-    let t = c .before in
-    let a = t .before .args in
-    record {
-      ends = omega arith;
-      leaves = sets-end (t .loop .out) (a .at) (t .loop .i) (a .bytes .now) (omega arith) ∙ t .loop .inv .2;
-    }
+returns-2 : tie.Need-returns-2
+returns-2 c = let h = c .before in
+    let a = h .before .before .before .args in
+    nowhere (length (a .bytes .now)) (a .out .now) (a .at) (a .bytes .now) (sym (h .has-room .ensures) ∙ c .if1 .left)
 
 pub text-spec : {M : Type 1} → statement M
-text-spec =
-    tie.close
-    (tie.spec
-    Inv-loop
-    μ-loop
-    loop-holds
-    shared-slice-read-out
-    add-out
-    slice-write-out
-    add-i
-    loop-less
-    loop-again
-    add-result
-    same-length
-    returns)
+text-spec = tie.close (tie.spec has-room-requires put-requires same-length returns returns-2)
