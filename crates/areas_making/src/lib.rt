@@ -25,9 +25,9 @@ pub struct Laid {
     pub next: usize,
 }
 
-// A number of the row, 0 past its end.
+// A number of the row, 0 past its end; as it has 32 bits, what a caller counts by it stays small.
 fn entry(row: &[u32], k: usize) -> u64
-    ensures { λ r. ⌜ r ≡ getD (now (row .entry)) k 0 ⌝ }
+    ensures { λ r. ⌜ (r ≡ getD (now (row .entry)) k 0) × (r < 2 ^ 32) ⌝ }
 {
     if k < row.len() { row[k] as u64 } else { 0 }
 }

@@ -15,6 +15,12 @@ insideLong sea c = 1
 insideLong circle c = 4
 insideLong (several least) c = suc (c * 2)
 
+-- how many of these are points
+abbrev pub insideCount : Kind → ℕ → ℕ
+insideCount sea c = 0
+insideCount circle c = 1
+insideCount (several least) c = c
+
 abbrev pub areaLong : List ℕ → ℕ
 areaLong row = suc (insideLong (kindOf (getD row 0 0)) (getD row 1 0))
 

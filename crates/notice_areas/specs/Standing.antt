@@ -20,6 +20,12 @@ insideAt sea s at = got s at 8 ∷ []
 insideAt circle s at = pointsAt s 1 at ++ (got s (at + pointBits) 10 ∷ got s (at + pointBits + 10) 2 ∷ [])
 insideAt (several least) s at = got s at 4 ∷ pointsAt s (got s at 4) (at + 4)
 
+-- how many bits stand there in front of the points
+abbrev pub insideFirst : Kind → ℕ
+insideFirst sea = 8
+insideFirst circle = 0
+insideFirst (several least) = 4
+
 -- how many bits these have
 abbrev pub insideWide : Kind → List ℕ → ℕ → ℕ
 insideWide sea s at = 8

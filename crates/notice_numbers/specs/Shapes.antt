@@ -1,20 +1,20 @@
 -- What the bits of areas say of how they are told: how many points and numbers, and where they stand. Assumes nothing.
-use Prim.Native.Nat.{ℕ, zero, suc, _+_, _*_}
+use Prim.Native.Nat.{ℕ, zero, suc, _+_}
 use mathlib.Core.Bool.{cond}
 use mathlib.Core.List.{List}
 use lib.Dec.{leb}
 use lib.ListN.{length}
 use lib.Seq.{sets}
 use Rattle.bits.specs.Answers.{got}
-use Rattle.notice_areas.specs.Areas.{Kind, sea, circle, several, kindOf}
-use Rattle.notice_parts.specs.Parts.{pointBits}
+use Rattle.notice_areas.specs.Areas.{Kind, kindOf}
+use Rattle.notice_areas.specs.Row.{insideLong, insideCount}
+use Rattle.notice_areas.specs.Standing.{insideFirst, insideWide}
 use Rattle.notice_numbers.specs.declared.Shape.{Shape}
 use Rattle.notice_numbers.specs.declared.Extent.{Extent}
 
+-- behind the three bits of a kind
 abbrev pub shapeAs : Kind → List ℕ → ℕ → Shape
-shapeAs sea s at = record { points = 0; first = at + 11; next = at + 11; numbers = 2 }
-shapeAs circle s at = record { points = 1; first = at + 3; next = at + 3 + pointBits + 12; numbers = 5 }
-shapeAs (several least) s at = let n = got s (at + 3) 4 in record { points = n; first = at + 7; next = at + 7 + n * pointBits; numbers = 2 + n * 2 }
+shapeAs k s at = let c = got s (at + 3) 4 in record { points = insideCount k c; first = at + (3 + insideFirst k); next = at + (3 + insideWide k s (at + 3)); numbers = suc (insideLong k c) }
 
 -- the area at a bit
 unfoldable pub shapeAt : List ℕ → ℕ → Shape

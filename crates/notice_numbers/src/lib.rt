@@ -44,7 +44,7 @@ pub fn area_at(s: &[u8], at: u32) -> Shape
         return Shape {
             points: 1,
             first: at + 3,
-            next: at + 3 + POINT + 12,
+            next: at + (3 + POINT + 12),
             numbers: 5,
         };
     }

@@ -5,18 +5,12 @@ use lib.IntN.{ℤ}
 use lib.ListN.{drop, getD}
 use Rattle.angles.specs.Angles.{northing, easting}
 use Rattle.notice_areas.specs.Areas.{Kind, sea, circle, several, kindOf}
-use Rattle.notice_areas.specs.Row.{areaLong}
+use Rattle.notice_areas.specs.Row.{insideCount, areaLong}
 
 -- n points told by a row of numbers
 unfoldable pub pointsOf : ℕ → List ℕ → List ℤ
 pointsOf zero row = []
 pointsOf (suc n) row = northing (getD row 0 0) ∷ easting (getD row 1 0) ∷ pointsOf n (drop 2 row)
-
--- how many points an area of a kind has that tells the number c first
-abbrev pub insideCount : Kind → ℕ → ℕ
-insideCount sea c = 0
-insideCount circle c = 1
-insideCount (several least) c = c
 
 -- an area's points, told behind its kind
 abbrev pub insideOf : Kind → List ℕ → List ℤ

@@ -36,7 +36,7 @@ returns c =
     let v = i .before in
     let e = v .before in
     let a = e .before .before .args in
-    sea-judged (a .row .now) (a .k) (a .from) (omega arith) (e .entry .ensures) (v .value .ensures) (kind-sea (i .if1 .taken)) (e2 .entry2 .ensures) (c .value2 .ensures)
+    sea-judged (a .row .now) (a .k) (a .from) (omega arith) (e .entry .ensures .0) (v .value .ensures) (kind-sea (i .if1 .taken)) (e2 .entry2 .ensures .0) (c .value2 .ensures)
 
 add-judge-points : tie.Need-add-judge-points
 add-judge-points c = search needs
@@ -79,7 +79,7 @@ returns-2 c =
     let v = i .before .before in
     let e = v .before in
     let a = e .before .before .args in
-    circle-judged (a .row .now) (a .k) (a .from) (omega arith) (e .entry .ensures) (v .value .ensures) (kind-circle (i .if2 .taken)) (p .judge-points .ensures) (e3 .entry3 .ensures) (e4 .entry4 .ensures) (v3 .value3 .ensures) (c .value4 .ensures)
+    circle-judged (a .row .now) (a .k) (a .from) (omega arith) (e .entry .ensures .0) (v .value .ensures) (kind-circle (i .if2 .taken)) (p .judge-points .ensures) (e3 .entry3 .ensures .0) (e4 .entry4 .ensures .0) (v3 .value3 .ensures) (c .value4 .ensures)
 
 add-entry-4 : tie.Need-add-entry-4
 add-entry-4 c = search needs
@@ -103,7 +103,7 @@ returns-3 c =
     let e = v .before in
     let a = e .before .before .args in
     let kind = e .entry .result in
-    several-refused (a .row .now) (a .k) (a .from) (omega arith) (e .entry .ensures) (v .value .ensures) (leastOf kind) (kind-several (i .before .if1 .left) (i .if2 .left)) (e5 .entry5 .ensures)
+    several-refused (a .row .now) (a .k) (a .from) (omega arith) (e .entry .ensures .0) (v .value .ensures) (leastOf kind) (kind-several (i .before .if1 .left) (i .if2 .left)) (e5 .entry5 .ensures .0)
     (v5 .value5 .ensures ∙ ap (λ l. valued 4 (e5 .entry5 .result) l 15 (v .value .result)) (le .least .ensures)) (c .if3 .taken)
 
 add-judge-points-2 : tie.Need-add-judge-points-2
@@ -124,22 +124,10 @@ add-t18 : tie.Need-add-t18
 add-t18 c = search needs
 
 mul-t21 : tie.Need-mul-t21
-mul-t21 c =
-    let v5 = c .before .before .before in
-    let le = v5 .before in
-    let e5 = le .before in
-    let v = e5 .before .before .before in
-    let few = valued-between (v .value .result) 4 (e5 .entry5 .result) (le .least .result) 15 (v5 .value5 .ensures) (c .before .if3 .left) .1 in
-    omega (arith, few)
+mul-t21 c = search needs
 
 add-t22 : tie.Need-add-t22
-add-t22 c =
-    let v5 = c .before .before .before in
-    let le = v5 .before in
-    let e5 = le .before in
-    let v = e5 .before .before .before in
-    let few = valued-between (v .value .result) 4 (e5 .entry5 .result) (le .least .result) 15 (v5 .value5 .ensures) (c .before .if3 .left) .1 in
-    omega (arith, few)
+add-t22 c = search needs
 
 returns-4 : tie.Need-returns-4
 returns-4 c =
@@ -152,7 +140,7 @@ returns-4 c =
     let a = e .before .before .args in
     let kind = e .entry .result in
     let few = valued-between (v .value .result) 4 (e5 .entry5 .result) (le .least .result) 15 (v5 .value5 .ensures) (c .before .if3 .left) .1 in
-    several-judged (a .row .now) (a .k) (a .from) (omega arith) (e .entry .ensures) (v .value .ensures) (leastOf kind) (kind-several (i .before .if1 .left) (i .if2 .left)) (e5 .entry5 .ensures)
+    several-judged (a .row .now) (a .k) (a .from) (omega arith) (e .entry .ensures .0) (v .value .ensures) (leastOf kind) (kind-several (i .before .if1 .left) (i .if2 .left)) (e5 .entry5 .ensures .0)
     (v5 .value5 .ensures ∙ ap (λ l. valued 4 (e5 .entry5 .result) l 15 (v .value .result)) (le .least .ensures)) few (c .judge-points2 .ensures)
 
 pub judge-area-spec : {M : Type 1} → statement M

@@ -58,7 +58,7 @@ loop-again c =
     let st = l .before .before in
     let a = st .args in (
       omega arith,
-      one-point (a .row .now) (a .k) (a .n) (l .loop .j) (l .loop .j + 1) refl (omega arith) (omega arith) (omega arith) (l .loop .inv .1) (e1 .entry .ensures) (e2 .entry2 .ensures) (la .judged-latitude .ensures) (c .judged-longitude .ensures),
+      one-point (a .row .now) (a .k) (a .n) (l .loop .j) (l .loop .j + 1) refl (omega arith) (omega arith) (omega arith) (l .loop .inv .1) (e1 .entry .ensures .0) (e2 .entry2 .ensures .0) (la .judged-latitude .ensures) (c .judged-longitude .ensures),
     )
 
 returns : tie.Need-returns Inv-loop μ-loop

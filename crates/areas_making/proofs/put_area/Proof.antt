@@ -1,6 +1,5 @@
 -- `put_area` meets its contract: by the number of the kind, as `kindOf` goes.
 use Prim.Native.Nat.{_+_, _-_}
-use native.Mathlib.Omega.{arith}
 use borrow.Author.Needs.{needs}
 use Rattle.format.specs.Correcting.{put-in}
 use Rattle.notice_parts.specs.Parts.{pointBits}
@@ -45,7 +44,7 @@ returns c =
     let p1 = i .before .before .before in
     let e = p1 .before .before in
     let a = e .before .before .before .args in
-    sea-put (a .row .now) (a .k) (a .at) (a .buf .now) (e .entry .ensures) (put-in (a .buf .now) (a .at) 3 (e .entry .result) (p1 .put .ensures)) (kind-sea (i .if1 .taken)) (e2 .entry2 .ensures)
+    sea-put (a .row .now) (a .k) (a .at) (a .buf .now) (e .entry .ensures .0) (put-in (a .buf .now) (a .at) 3 (e .entry .result) (p1 .put .ensures)) (kind-sea (i .if1 .taken)) (e2 .entry2 .ensures .0)
     (put-in _ (a .at + 3) 8 (e2 .entry2 .result) (p2 .put2 .ensures))
 
 add-put-points : tie.Need-add-put-points
@@ -116,7 +115,7 @@ returns-2 c =
     let p1 = i .before .before .before .before in
     let e = p1 .before .before in
     let a = e .before .before .before .args in
-    circle-put (a .row .now) (a .k) (a .at) (a .buf .now) (e .entry .ensures) (put-in (a .buf .now) (a .at) 3 (e .entry .result) (p1 .put .ensures)) (kind-circle (i .if2 .taken)) (ps .put-points .ensures) (e3 .entry3 .ensures) (e4 .entry4 .ensures)
+    circle-put (a .row .now) (a .k) (a .at) (a .buf .now) (e .entry .ensures .0) (put-in (a .buf .now) (a .at) 3 (e .entry .result) (p1 .put .ensures)) (kind-circle (i .if2 .taken)) (ps .put-points .ensures) (e3 .entry3 .ensures .0) (e4 .entry4 .ensures .0)
     (put-in _ (a .at + 3 + pointBits) 10 (e3 .entry3 .result) (p3 .put3 .ensures)) (put-in _ (a .at + 3 + pointBits + 10) 2 (e4 .entry4 .result) (p4 .put4 .ensures))
 
 add-entry-4 : tie.Need-add-entry-4
@@ -138,41 +137,25 @@ add-put-points-4 : tie.Need-add-put-points-4
 add-put-points-4 c = search needs
 
 put-points-requires-2 : tie.Need-put-points-requires-2
-put-points-requires-2 c κs = let e5 = c .before .before .before .before .before in
-    let known = e5 .before .before .before .before .before .before .before .before in
-    let few = known .shared-slice-known .given (known .before .before .args .k + 1) .fits in
-    let st = known .before .before in
-    (omega (arith, few, e5 .entry5 .ensures), omega (arith, st .pre), omega (arith, st .pre))
+put-points-requires-2 c κs = search needs
 
 add-t29 : tie.Need-add-t29
 add-t29 c = search needs
 
 mul-t35 : tie.Need-mul-t35
-mul-t35 c = let e5 = c .before .before .before .before .before .before .before .before in
-    let known = e5 .before .before .before .before .before .before .before .before in
-    let few = known .shared-slice-known .given (known .before .before .args .k + 1) .fits in
-    omega (arith, few, e5 .entry5 .ensures, known .before .before .pre)
+mul-t35 c = search needs
 
 add-t37 : tie.Need-add-t37
-add-t37 c = let e5 = c .before .before .before .before .before .before .before .before in
-    let known = e5 .before .before .before .before .before .before .before .before in
-    let few = known .shared-slice-known .given (known .before .before .args .k + 1) .fits in
-    omega (arith, few, e5 .entry5 .ensures, known .before .before .pre)
+add-t37 c = search needs
 
 add-t38 : tie.Need-add-t38
 add-t38 c = search needs
 
 mul-t40 : tie.Need-mul-t40
-mul-t40 c = let e5 = c .before .before .before .before .before .before .before .before in
-    let known = e5 .before .before .before .before .before .before .before .before in
-    let few = known .shared-slice-known .given (known .before .before .args .k + 1) .fits in
-    omega (arith, few, e5 .entry5 .ensures, known .before .before .pre)
+mul-t40 c = search needs
 
 add-t41 : tie.Need-add-t41
-add-t41 c = let e5 = c .before .before .before .before .before .before .before .before in
-    let known = e5 .before .before .before .before .before .before .before .before in
-    let few = known .shared-slice-known .given (known .before .before .args .k + 1) .fits in
-    omega (arith, few, e5 .entry5 .ensures, known .before .before .pre)
+add-t41 c = search needs
 
 same-length-3 : tie.Need-same-length-3
 same-length-3 c = search needs
@@ -188,8 +171,7 @@ returns-3 c =
     let st = e .before .before .before in
     let a = st .args in
     let several = kind-several (i .before .if1 .left) (i .if2 .left) in
-    let few = e .before .shared-slice-known .given (a .k + 1) .fits in
-    several-put (a .row .now) (a .k) (a .at) (a .buf .now) (e .entry .ensures) (put-in (a .buf .now) (a .at) 3 (e .entry .result) (p1 .put .ensures)) (leastOf (e .entry .result)) (omega (arith, few, e5 .entry5 .ensures)) several (e5 .entry5 .ensures)
+    several-put (a .row .now) (a .k) (a .at) (a .buf .now) (e .entry .ensures .0) (put-in (a .buf .now) (a .at) 3 (e .entry .result) (p1 .put .ensures)) (leastOf (e .entry .result)) (e5 .entry5 .ensures .1) several (e5 .entry5 .ensures .0)
     (put-in _ (a .at + 3) 4 (e5 .entry5 .result) (p5 .put5 .ensures)) (ps .put-points2 .ensures)
 
 pub put-area-spec : {M : Type 1} → statement M

@@ -78,7 +78,7 @@ loop-again c =
     let j = l .loop .j in (
       omega arith,
       p2 .put2 .kept .0 ∙ p1 .put .kept .0 ∙ l .loop .inv .1,
-      one-point (a .row .now) (a .k) (a .n) j (j + 1) (a .at) refl (omega arith) (l .loop .inv .2) (e1 .entry .ensures) (e2 .entry2 .ensures)
+      one-point (a .row .now) (a .k) (a .n) j (j + 1) (a .at) refl (omega arith) (l .loop .inv .2) (e1 .entry .ensures .0) (e2 .entry2 .ensures .0)
           (put-in (l .loop .buf) (a .at + j * pointBits) latitudeBits (e1 .entry .result) (p1 .put .ensures)) (put-in _ (a .at + j * pointBits + latitudeBits) longitudeBits (e2 .entry2 .result) (p2 .put2 .ensures)),
     )
 

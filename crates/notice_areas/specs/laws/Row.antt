@@ -31,15 +31,6 @@ first-take (suc n) (x ∷ row) l = ap (x ∷_) (first-take n row (omega arith))
 
 -- ---- areas
 
--- two numbers at least
-pub area-some : (row : List ℕ) → 2 ≤ areaLong row
-area-some row = go (kindOf (getD row 0 0))
-  where
-    go : (k : Kind) → 2 ≤ suc (insideLong k (getD row 1 0))
-    go sea = omega arith
-    go circle = omega arith
-    go (several l) = omega arith
-
 -- n areas and m more
 long-add : (n m : ℕ) (row : List ℕ) → areasLong (n + m) row ≡ areasLong n row + areasLong m (drop (areasLong n row) row)
 unfolding areasLong

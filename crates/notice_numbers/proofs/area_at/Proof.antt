@@ -1,9 +1,11 @@
 -- `area_at` meets its contract: by the number of the kind, as `kindOf` goes.
-use Prim.Native.Nat.{_+_, _-_, _*_}
-use mathlib.Core.Path.{sym, ap, _∙_}
+use Prim.Native.Nat.{suc, _+_, _-_, _*_}
+use mathlib.Core.Path.{_≡_, sym, ap, _∙_}
 use native.Mathlib.Omega.{arith}
 use borrow.Author.Needs.{needs}
+use Rattle.bits.specs.Answers.{got}
 use Rattle.layout.specs.laws.Reading.{got-lt}
+use Rattle.notice_areas.specs.Areas.{several, leastOf}
 use Rattle.notice_areas.specs.laws.Kinds.{kind-sea, kind-circle, kind-several}
 use Rattle.notice_parts.specs.Parts.{pointBits}
 use Rattle.notice_numbers.specs.Shapes.{shapeAs, shapeAt}
@@ -75,8 +77,15 @@ returns-3 c =
     let i = c .before in
     let g = i .before .before in
     let a = g .before .before .args in
-    ap (λ n. record { points = n; first = a .at + 7; next = a .at + 7 + n * pointBits; numbers = 2 + n * 2 }) (c .get2 .ensures)
-    ∙ ap (λ k. shapeAs k (a .s .now) (a .at)) (sym (kind-several (λ z. i .before .if1 .left (g .get .ensures ∙ z)) (λ z. i .if2 .left (g .get .ensures ∙ z))))
+    let n = c .get2 .ensures in
+    let s = a .s .now in
+    let m = got s (a .at + 3) 4 in
+    let next : a .at + 7 + c .get2 .result * pointBits ≡ a .at + (3 + (4 + m * pointBits)) = omega (arith, n) in
+    let numbers : 2 + c .get2 .result * 2 ≡ suc (suc (m * 2)) = omega (arith, n) in
+    let plain = kind-several (λ z. i .before .if1 .left (g .get .ensures ∙ z)) (λ z. i .if2 .left (g .get .ensures ∙ z)) in
+    let shape : record { points = c .get2 .result; first = a .at + 7; next = a .at + 7 + c .get2 .result * pointBits; numbers = 2 + c .get2 .result * 2 } ≡ shapeAs (several (leastOf (got s (a .at) 3))) s (a .at) =
+    λ y. record { points = n y; first = a .at + 7; next = next y; numbers = numbers y } in
+    shape ∙ ap (λ k. shapeAs k s (a .at)) (sym plain)
 
 pub area-at-spec : {M : Type 1} → statement M
 area-at-spec =

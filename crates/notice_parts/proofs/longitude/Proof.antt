@@ -1,12 +1,7 @@
 -- `longitude` judges the number where it is there, else the parts and the whole past them.
-use mathlib.Core.Path.{sym, ap, _∙_}
-use Rattle.layout.specs.Reading.{grouped}
-use Rattle.layout.specs.laws.Parts.{by-number, by-parts}
-use Rattle.layout.specs.laws.Reading.{got-lt}
-use Rattle.notice_parts.specs.Parts.{longitudeBits}
-use Rattle.notice_parts.specs.Steps.{longitudeJudged}
-use Rattle.notice_parts.specs.laws.Walking.{longitude-v}
 use borrow.Author.Needs.{needs}
+use Rattle.notice_parts.specs.Parts.{longitudeBits}
+use Rattle.notice_parts.specs.laws.Walking.{angle-whole, angle-cut}
 use Rattle.notice_parts.proofs.longitude.Statement.{statement}
 use Rattle.notice_parts.proofs.longitude.Tie as tie
 
@@ -21,12 +16,9 @@ judged-longitude-requires c κs = search needs
 
 returns : tie.Need-returns
 returns c =
-    let get = c .before in
-    let f = get .before in
-    let holds = f .before in
-    let a = holds .before .before .args in
-    let e = by-number _ (sym (holds .holds .ensures) ∙ f .if1 .taken) (c .judged-longitude .ensures ∙ ap (λ v. longitudeJudged v (a .w)) (get .get .ensures)) in
-    (e, got-lt (a .s .now) (a .w .at) longitudeBits (longitude-v (a .s .now) (a .w) e))
+    let f = c .before .before in
+    let a = f .before .before .before .args in
+    angle-whole (a .s .now) (a .w) longitudeBits 8 180 (f .before .holds .ensures) (f .if1 .taken) (c .judged-longitude .ensures) (c .before .get .ensures)
 
 cut-angle-requires : tie.Need-cut-angle-requires
 cut-angle-requires c κs = search needs
@@ -36,13 +28,9 @@ group-requires c κs = search needs
 
 returns-2 : tie.Need-returns-2
 returns-2 c =
-    let cut = c .before in
-    let f = cut .before in
-    let holds = f .before in
-    let a = holds .before .before .args in
-    let s = a .s .now in
-    let e = by-parts _ (sym (holds .holds .ensures) ∙ f .if1 .left) (c .group .ensures ∙ ap (λ p. grouped s longitudeBits p (a .w)) (cut .cut-angle .ensures)) in
-    (e, got-lt s (a .w .at) longitudeBits (longitude-v s (a .w) e))
+    let f = c .before .before in
+    let a = f .before .before .before .args in
+    angle-cut (a .s .now) (a .w) longitudeBits 8 180 (f .before .holds .ensures) (f .if1 .left) (c .group .ensures) (c .before .cut-angle .ensures)
 
 pub longitude-spec : {M : Type 1} → statement M
 longitude-spec =

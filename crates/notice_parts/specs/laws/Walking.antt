@@ -1,21 +1,23 @@
 -- An expiry and an angle, read and judged: where the code stands behind it, its value and its place. Latitude and longitude are one law over the degrees. Assumes nothing.
-use mathlib.Core.Path.{_≡_, refl}
-use mathlib.Core.Bool.{Bool}
+use mathlib.Core.Path.{_≡_, refl, sym, ap, _∙_}
+use mathlib.Core.Bool.{Bool, true, false}
 use mathlib.Core.List.{List, [], _∷_}
 use Prim.Native.Nat.{ℕ, _+_, _%_, _≤_, _<_, _^_}
 use native.Mathlib.Omega.{arith}
 use lib.Dec.{lit<, lit≤}
-use lib.ListN.{take, drop}
-use Rattle.bits.specs.Answers.{got}
+use lib.ListN.{length, take, drop}
+use Rattle.bits.specs.Answers.{within, got}
 use Rattle.bits.specs.Bits.{bitsOf}
 use Rattle.format.specs.Fmt.{Out, Fmt, field}
 use Rattle.format.specs.Words.{walk, wide, orZero, free}
 use Rattle.format.specs.laws.Zero.{Numbered, walk-numbered, zero-numbered}
 use Rattle.pieces.specs.Pieces.{pieced}
+use Rattle.layout.specs.Reading.{grouped}
 use Rattle.layout.specs.laws.Group.{Passes, part-start, part-step, part-end}
 use Rattle.layout.specs.laws.Judging.{Judging}
-use Rattle.layout.specs.laws.Parts.{zero-cut, step-parts, parts-v, parts-at}
+use Rattle.layout.specs.laws.Parts.{zero-cut, step-parts, parts-v, parts-at, by-number, by-parts}
 use Rattle.layout.specs.laws.Pieces.{Pieced, piece-start, piece-step, piece-end, piece-zero, judge-group}
+use Rattle.layout.specs.laws.Reading.{got-lt}
 use Rattle.layout.specs.laws.Step.{Reading}
 use Rattle.layout.specs.declared.walk.Walk.{Walk}
 use Rattle.notice_parts.specs.Parts.{moment, expiry, angle, latitude, longitude, latitudeBits, longitudeBits}
@@ -105,10 +107,6 @@ module _ (s : List ℕ) (r : Walk) {q : Walk} where
   unfolding pieced
   expiry-v d = parts-v s 21 (expiryPieced (got s (r .at) 21)) (momentRead s r) r refl d
 
-  pub expiry-at : q ≡ expiryRead s r → q .at ≡ (r .at + 21) % 2 ^ 64
-  unfolding pieced
-  expiry-at d = parts-at s 21 (expiryPieced (got s (r .at) 21)) (momentRead s r) r refl d
-
   pub angle-v : (n d most : ℕ) → q ≡ angleRead s n d most r → q .v ≡ got s (r .at) n
   unfolding pieced
   angle-v n d most x = parts-v s n (anglePieced n d most (got s (r .at) n)) (angleParted s d most (bare (r .at) (r .code) (r .place))) r refl x
@@ -128,6 +126,18 @@ module _ (s : List ℕ) (r : Walk) {q : Walk} where
 
   pub longitude-at : q ≡ longitudeRead s r → q .at ≡ (r .at + longitudeBits) % 2 ^ 64
   longitude-at d = angle-at longitudeBits 8 180 d
+
+-- ---- an angle that is there is judged by its number, else by its parts; either way its value fits its bits
+
+module _ (s : List ℕ) (r : Walk) (n d most : ℕ) {there : Bool} {q : Walk} (is : there ≡ within (length s) (r .at) n) where
+  fits : q ≡ angleRead s n d most r → (q ≡ angleRead s n d most r) × (q .v < 2 ^ n)
+  fits e = (e, got-lt s (r .at) n (angle-v s r n d most e))
+
+  pub angle-whole : {v : ℕ} → there ≡ true → q ≡ angleJudged n d most v r → v ≡ got s (r .at) n → (q ≡ angleRead s n d most r) × (q .v < 2 ^ n)
+  angle-whole t e v = fits (by-number _ (sym is ∙ t) (e ∙ ap (λ v. angleJudged n d most v r) v))
+
+  pub angle-cut : {p : Walk} → there ≡ false → q ≡ grouped s n p r → p ≡ angleParted s d most (bare (r .at) (r .code) (r .place)) → (q ≡ angleRead s n d most r) × (q .v < 2 ^ n)
+  angle-cut t e p = fits (by-parts _ (sym is ∙ t) (e ∙ ap (λ p. grouped s n p r) p))
 
 -- ---- their refusals are numbers of the paper
 

@@ -9,11 +9,13 @@ use lib.ListN.{length, take, drop, length-drop}
 use borrow.Author.Tests.{le-leb}
 use Rattle.bits.specs.Answers.{spanned}
 use Rattle.bits.specs.Bits.{valueOf, bitsOf, bytesOf, bytesAt, fieldAt}
-use Rattle.bits.specs.laws.Bytes.{length-bits, bits-pack, bits-same, bytes-below, length-bytes, bits-bytes}
+use Rattle.bits.specs.laws.Bytes.{length-bits}
+use Rattle.bits.specs.laws.Digits.{digits-value}
 use Rattle.bits.specs.laws.Runs.{length-run, run-value}
 use Rattle.field.specs.Faults.{wholly}
 use Rattle.format.specs.Fmt.{good, field, end}
 use Rattle.format.specs.Words.{orElse, unless, kept}
+use Rattle.format.specs.laws.Runs.{run-stands}
 use Rattle.format.specs.laws.Tells.{blamed}
 use Rattle.layout.specs.Reading.{ended}
 use Rattle.layout.specs.Walk.{onward}
@@ -26,12 +28,6 @@ use Rattle.text.specs.Text.{inLanguage}
 use Rattle.notice_reading.specs.Notice.{text}
 use Rattle.notice_reading.specs.Steps.{ClosedIs}
 
--- n bytes are packed from their own bits alone
-pub front-bytes : (n : ℕ) (b : List Bool) → n * 8 ≤ length b → bytesOf n (take (n * 8) b) ≡ bytesOf n b
-front-bytes n b l =
-    let m : length (take (n * 8) b) ≡ n * 8 = length-take-le (n * 8) b l in
-    bits-same (bytesOf n (take (n * 8) b)) (bytesOf n b) (bytes-below n _) (bytes-below n b) (length-bytes n _ ∙ sym (length-bytes n b)) (bits-bytes n (take (n * 8) b) m ∙ sym (bits-pack n b l))
-
 -- text that lies within the message: its fault is the language's
 text-steps : (english : Bool) (s : List ℕ) (at n : ℕ) (h : List ℕ) (c : ℕ) → at + n * 8 ≤ length s * 8 → length s ≤ joined → c ≡ cond (spanned (length s) at n && inLanguage english (bytesAt s at n)) 0 4
     → Steps s at (n * 8) (λ h b. unless (inLanguage english (bytesOf n b)) 4 0) h false (valueOf (bitsOf (bytesAt s at n))) c 0
@@ -40,7 +36,7 @@ text-steps english s at n h c fits small is = record {
   findable = λ e. absurd (false≢true e);
   reach = omega arith;
   into = omega arith;
-  same = rw (le-leb (n * 8) (length b) long, front-bytes n b long) (go (inLanguage english (bytesOf n b)) ∙ ap (λ c. blamed c 0) (sym said));
+  same = rw (le-leb (n * 8) (length b) long, front) (go (inLanguage english (bytesOf n b)) ∙ ap (λ c. blamed c 0) (sym said));
   holds = λ z. sym (run-value s at n fits);
 }
   where
@@ -49,6 +45,10 @@ text-steps english s at n h c fits small is = record {
 
     long : n * 8 ≤ length b
     long = omega (arith, length-drop at (bitsOf s), length-bits s)
+
+    -- n bytes are packed from their own bits alone
+    front : bytesOf n (take (n * 8) b) ≡ bytesOf n b
+    front = ap (bytesOf n) (sym (digits-value (n * 8) (take (n * 8) b) (length-take-le (n * 8) b long))) ∙ run-stands s at n (valueOf (take (n * 8) b)) fits refl
 
     said : c ≡ cond (inLanguage english (bytesOf n b)) 0 4
     said = is ∙ ap (λ x. cond (x && inLanguage english (bytesOf n b)) 0 4) (le-leb (at + n * 8) (length s * 8) fits)

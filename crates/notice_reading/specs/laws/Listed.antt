@@ -14,6 +14,7 @@ use Rattle.format.specs.laws.Past.{Filled, past-held, past-counted, held-filled
 use Rattle.format.specs.laws.Zero.{Counted}
 use Rattle.notice_areas.specs.Areas.{areas}
 use Rattle.notice_areas.specs.Row.{areasLong, areasTold}
+use Rattle.notice_areas.specs.Standing.{front}
 use Rattle.notice_areas.specs.laws.Past.{areas-past, areas-filled}
 use Rattle.notice_areas.specs.laws.Row.{first-take, exact-told}
 use Rattle.text.specs.Text.{inLanguage}
@@ -30,22 +31,22 @@ unfolding notice valuesOf
 counted english x =
     let n = x .0 .count in
     let row = x .1 .0 in
-    past-counted (areas n (text english end)) (text english end) 63 (areasTold n row) (texted (x .1 .1)) (areas-past n row (text english end)) (text-counted english (x .1 .1))
+    past-counted (areas n (text english end)) (text english end) front (areasTold n row) (texted (x .1 .1)) (areas-past n row (text english end)) (text-counted english (x .1 .1))
 
 -- ---- accepted ones
 
 -- a head's eight, and what follows
-front : (english : Bool) (vs : List ℕ) → Filled (notice english) vs → vs ≡ headed (headOf vs) (drop 8 vs)
+eight : (english : Bool) (vs : List ℕ) → Filled (notice english) vs → vs ≡ headed (headOf vs) (drop 8 vs)
 unfolding notice headOf
-front english [] x = absurd x
-front english (a ∷ []) x = absurd x
-front english (a ∷ b ∷ []) x = absurd x
-front english (a ∷ b ∷ c ∷ []) x = absurd x
-front english (a ∷ b ∷ c ∷ d ∷ []) x = absurd x
-front english (a ∷ b ∷ c ∷ d ∷ e ∷ []) x = absurd x
-front english (a ∷ b ∷ c ∷ d ∷ e ∷ f ∷ []) x = absurd x
-front english (a ∷ b ∷ c ∷ d ∷ e ∷ f ∷ g ∷ []) x = absurd x
-front english (a ∷ b ∷ c ∷ d ∷ e ∷ f ∷ g ∷ n ∷ us) x = refl
+eight english [] x = absurd x
+eight english (a ∷ []) x = absurd x
+eight english (a ∷ b ∷ []) x = absurd x
+eight english (a ∷ b ∷ c ∷ []) x = absurd x
+eight english (a ∷ b ∷ c ∷ d ∷ []) x = absurd x
+eight english (a ∷ b ∷ c ∷ d ∷ e ∷ []) x = absurd x
+eight english (a ∷ b ∷ c ∷ d ∷ e ∷ f ∷ []) x = absurd x
+eight english (a ∷ b ∷ c ∷ d ∷ e ∷ f ∷ g ∷ []) x = absurd x
+eight english (a ∷ b ∷ c ∷ d ∷ e ∷ f ∷ g ∷ n ∷ us) x = refl
 
 -- a text's size and its number
 pub two : (english : Bool) (us : List ℕ) → Filled (text english end) us → (n : ℕ) × (v : ℕ) × (us ≡ n ∷ v ∷ [])
@@ -69,7 +70,7 @@ listed english vs h =
     let r = headOf vs in
     let n = r .count in
     let us = drop 8 vs in
-    let head = front english vs (held-filled (notice english) [] vs h) in
+    let head = eight english vs (held-filled (notice english) [] vs h) in
     let g = subst (Held (notice english) []) head h .2 .2 .2 .2 .2 .2 .2 .2 in
     let (enough, y) = areas-filled n us (text english end) (held-filled (rest english n) _ us g) in
     let (size, number, last) = two english (drop (areasLong n us) us) y in

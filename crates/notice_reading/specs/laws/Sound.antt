@@ -12,13 +12,14 @@ use Rattle.format.specs.Words.{unless}
 use Rattle.format.specs.laws.Zero.{Numbered, Judged, only-numbered}
 use Rattle.notice_parts.specs.laws.Walking.{expiry-numbered}
 use Rattle.notice_areas.specs.laws.Numbered.{areas-numbered}
+use Rattle.packet_reading.specs.Packet.{joined}
 use Rattle.text.specs.Text.{inLanguage}
 use Rattle.notice_reading.specs.Notice.{text, notice, notices}
 
 pub sound : (english : Bool) → Sound (notices english)
 unfolding notices
 sound english = record {
-  sized = λ s vs e. first (leb 8 (length s)) (leb (length s) 12_978);
+  sized = λ s vs e. first (leb 8 (length s)) (leb (length s) joined);
   kinds = λ b vs e. refl;
   stays = λ vs i v p w e. refl;
   some = λ e. absurd (false≢true e);

@@ -9,9 +9,7 @@ use lib.ListN.{length, take, drop, getD, length-append}
 use lib.Seq.{sets-eq, take-at, getD-drop, getD-append-add}
 use native.Mathlib.Nat.{zero-add}
 use borrow.Author.Tests.{le-leb, lt-leb, leb-true, eqb-true, eqb-false}
-use Rattle.bits.specs.Bits.{Bytes, valueOf, bitsOf, bytesOf}
-use Rattle.bits.specs.laws.Bytes.{length-bits, bytes-bits}
-use Rattle.bits.specs.laws.Digits.{digits-value}
+use Rattle.bits.specs.Bits.{Bytes, valueOf, bitsOf}
 use Rattle.format.specs.Fmt.{accepted, refused, check, also, spot}
 use Rattle.format.specs.Message.{between, fault, codeOf, readMessage}
 use Rattle.format.specs.Promises.{readRecord}
@@ -19,6 +17,7 @@ use Rattle.bits.specs.Bits.{bytesAt}
 use Rattle.bits.specs.Answers.{gettable}
 use Rattle.bits.specs.laws.Runs.{length-run, bytes-run}
 use Rattle.format.specs.Correcting.{standing}
+use Rattle.format.specs.laws.Runs.{run-again}
 use Rattle.format.specs.laws.Round.{accepted-inj}
 use Rattle.format.specs.laws.Lead.{read-first, held-back, unled}
 use Rattle.layout.specs.Walk.{begun}
@@ -34,11 +33,6 @@ use Rattle.notice_reading.specs.Record.{Whole, headed, texted, headOf, t
 use Rattle.notice_reading.specs.declared.Notice.{Notice}
 use Rattle.notice_reading.specs.declared.Answer.the-variants.{Good, Refused}
 
--- a text is that of its number
-pub text-again : (t : List ℕ) → Bytes t → textOf (length t) (valueOf (bitsOf t)) ≡ t
-unfolding textOf
-text-again t fine = ap (bytesOf (length t)) (digits-value (length t * 8) (bitsOf t) (length-bits t)) ∙ bytes-bits t fine
-
 pub recorded : (r : Notice) (xs : List ℕ) (n v : ℕ) → recordOf (headed r (xs ++ (n ∷ v ∷ []))) ≡ (r, (xs, textOf n v))
 unfolding recordOf headOf
 recorded r xs n v =
@@ -53,7 +47,8 @@ recorded r xs n v =
     λ i. (r, (areas i, textOf (size i) (number i)))
 
 pub told : (r : Notice) (xs t : List ℕ) → Bytes t → recordOf (headed r (xs ++ texted t)) ≡ (r, (xs, t))
-told r xs t fine = recorded r xs (length t) (valueOf (bitsOf t)) ∙ ap (λ t. (r, (xs, t))) (text-again t fine)
+unfolding textOf
+told r xs t fine = recorded r xs (length t) (valueOf (bitsOf t)) ∙ ap (λ t. (r, (xs, t))) (run-again t fine)
 
 and-false : (b : Bool) → (b && false) ≡ false
 and-false true = refl

@@ -9,14 +9,14 @@ use lib.ListN.{length, drop, getD, set, length-append}
 use lib.Seq.{sets, drop-at}
 use Rattle.bits.specs.Answers.{got}
 use Rattle.notice_areas.specs.Areas.{Kind, sea, circle, several, kindOf}
-use Rattle.notice_areas.specs.Row.{insideLong, areaLong}
+use Rattle.notice_areas.specs.Row.{insideLong, insideCount, areaLong}
 use Rattle.notice_areas.specs.Standing.{pointsAt, insideAt, areaWide, areasAt, areasEnd}
 use Rattle.notice_numbers.specs.Shapes.{shapeAs, shapeAt, pointsIn}
 use Rattle.notice_numbers.specs.laws.Shapes.{points-long, area-next, area-small}
 use Rattle.notice_numbers.specs.laws.Rows.{sets-on}
 use Rattle.angles.specs.Angles.{northing, easting}
 use Rattle.notice_parts.specs.Parts.{latitudeBits, longitudeBits, pointBits}
-use Rattle.outline.specs.Outline.{pointsOf, insideCount, insideOf, outlineOf, pointCount}
+use Rattle.outline.specs.Outline.{pointsOf, insideOf, outlineOf, pointCount}
 use Rattle.outline.specs.Standing.{pointsDrawn, areaDrawn, outlineAt}
 
 -- ---- two numbers for each point
@@ -65,7 +65,7 @@ module _ (s : List ℕ) where
   inside-drawn at l circle = refl
   inside-drawn at l (several m) =
       let n = got s (at + 3) 4 in
-      let seven : at + 3 + 4 ≡ at + 7 = omega arith in
+      let seven : at + 3 + 4 ≡ at + (3 + 4) = omega arith in
       points-drawn s n (at + 3 + 4) l ∙ ap (pointsDrawn s n) seven
 
   -- behind an area's numbers stand those of the others
