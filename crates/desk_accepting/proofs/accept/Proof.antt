@@ -62,20 +62,10 @@ returns c =
     of-four (a .a) (a .b) (a .c) (a .d) (a .store .now) (a .packet .now) _ _ _ (refused-tests (a .a) (a .b) (a .c) (a .d) (a .store .now) (a .packet .now) r (content m) is (λ z. c .before .if1 .taken (c .before .before .first-tests .ensures ∙ z))) (settled (a .a) (turnedAway (a .store .now) (firstTests (a .a ∷ a .b ∷ a .c ∷ a .d ∷ []) (a .store .now))) (turnedAway (a .store .now) (c .before .before .first-tests .result)) _ _ (ap (turnedAway (a .store .now)) (sym (c .before .before .first-tests .ensures))) (c .staying .ensures) (lit< tt) refl)
 
 sub-content : tie.Need-sub-content
-sub-content c =
-    let m = c .before .before .before .before in
-    let a = m .before .before .before .before .before .args in
-    let r = m .answer .given .0 .0 in
-    let (long, is, fit) = good m in
-    omega (arith, long)
+sub-content c = omega (arith, good (c .before .before .before .before) .0)
 
 part-content-start : tie.Need-part-content-start
-part-content-start c =
-    let m = c .before .before .before .before in
-    let a = m .before .before .before .before .before .args in
-    let r = m .answer .given .0 .0 in
-    let (long, is, fit) = good m in
-    omega (arith, long)
+part-content-start c = omega (arith, good (c .before .before .before .before) .0)
 
 part-content-end : tie.Need-part-content-end
 part-content-end c = search needs
@@ -126,11 +116,8 @@ begin-requires : tie.Need-begin-requires
 begin-requires c κs =
     let m = c .before .before .before .before .before .before .before .before .before in
     let a = m .before .before .before .before .before .args in
-    let r = m .answer .given .0 .0 in
-    let (long, is, fit) = good m in
-    let zero = passed (c .before .before .before .before) in
-    let number = c .before .before .before .open-at .ensures in
-    let (deep, good) = tests-passed (a .a ∷ a .b ∷ a .c ∷ a .d ∷ []) (a .store .now) zero in
+    let fit = good m .2 in
+    let (deep, _) = tests-passed (a .a ∷ a .b ∷ a .c ∷ a .d ∷ []) (a .store .now) (passed (c .before .before .before .before)) in
     let own = fit .own in
     let total = fit .total in
     (deep, omega arith, fit .few)

@@ -15,7 +15,7 @@ same-length : tie.Need-same-length
 same-length c = search needs
 
 returns : tie.Need-returns
-returns c = let a = c .before .before .before .before .before .before .before .before .args in c .before .before .put .ensures ∙ sym (rw (sym (c .before .before .before .before .before .moves .ensures) ∙ c .before .before .before .before .if1 .taken) refl)
+returns c = c .before .before .put .ensures ∙ sym (rw (sym (c .before .before .before .before .before .moves .ensures) ∙ c .before .before .before .before .if1 .taken) refl)
 
 returns-2 : tie.Need-returns-2
 returns-2 c = sym (rw (sym (c .before .moves .ensures) ∙ c .if1 .left) refl)

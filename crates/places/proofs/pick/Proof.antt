@@ -7,13 +7,13 @@ use Rattle.places.proofs.pick.Statement.{statement}
 use Rattle.places.proofs.pick.Tie as tie
 
 returns : tie.Need-returns
-returns c = let s = c .before .args in sym (rw (c .if1 .taken) refl)
+returns c = sym (rw (c .if1 .taken) refl)
 
 returns-2 : tie.Need-returns-2
-returns-2 c = let s = c .before .before .args in sym (rw (c .if2 .taken) refl)
+returns-2 c = sym (rw (c .if2 .taken) refl)
 
 returns-3 : tie.Need-returns-3
-returns-3 c = let s = c .before .before .before .args in sym (rw (c .if3 .taken) refl)
+returns-3 c = sym (rw (c .if3 .taken) refl)
 
 returns-4 : tie.Need-returns-4
 returns-4 c = let s = c .before .before .before .args in sym (rw (le-ltb (s .i) 3 (omega arith)) refl)
