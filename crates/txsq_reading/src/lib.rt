@@ -100,8 +100,7 @@ pub fn content(s: &[u8]) -> &[u8]
     if code != 0 {
         return &s[..0];
     }
-    let end = s.len() - 1;
-    &s[Txsq::CONTENT..end]
+    frame::carried(s, Txsq::CONTENT, 1)
 }
 
 // The fields in bit order, behind the first tests' answer.

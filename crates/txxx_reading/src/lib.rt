@@ -96,8 +96,7 @@ pub fn content(s: &[u8]) -> &[u8]
     if code != 0 {
         return &s[..0];
     }
-    let end = s.len() - Txxx::TAIL;
-    &s[Txxx::CONTENT..end]
+    frame::carried(s, Txxx::CONTENT, Txxx::TAIL)
 }
 
 // The fields in bit order, behind the first tests' answer.

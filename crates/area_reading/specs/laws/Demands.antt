@@ -18,7 +18,7 @@ use Rattle.format.specs.Promises.{readRecord, Writes, Corrects}
 use Rattle.format.specs.Words.{_‥_, num, fill, wide}
 use Rattle.format.specs.laws.Entries.{entries}
 use Rattle.format.specs.laws.Family.{Family, one-size, written-front, read-written, read-values, correction-none, corrected-as-written}
-use Rattle.format.specs.laws.Held.{Held, exactly}
+use Rattle.format.specs.laws.Held.{Held, exactly, ranged}
 use Rattle.format.specs.laws.Whole.{was}
 use Rattle.format.specs.laws.Zero.{Judged, Counted, only-numbered}
 use Rattle.time.specs.Time.{shortTime, spellTime, timeOf, spellShort, shortOf}
@@ -116,7 +116,7 @@ same-values : (vs : List ℕ) → Held area [] vs → valuesOf (recordOf vs) ≡
 unfolding valuesAs recordOf entries
 same-values vs h =
     let f = front vs h in
-    let (lo, hi) = f .shape-is in
+    let (lo, hi) = ranged 1 2 (getD vs 10 0) (f .shape-is) in
     let (kind, rest) = behind (kindOf (getD vs 10 0)) vs (f .before) (f .holds) in
     let type = ap typeOf kind ∙ type-kind (getD vs 10 0) lo hi in
     (λ y. sym (f .message-is) y ∷ getD vs 1 0 ∷ getD vs 2 0 ∷ getD vs 3 0 ∷ getD vs 4 0 ∷ getD vs 5 0 ∷ sym (f .fill-is) y ∷ sym (f .authority-is) y ∷ sym (f .application-is) y ∷ getD vs 9 0 ∷ type y ∷ rest y)

@@ -1,12 +1,12 @@
 -- An area's layout is sound: what its fields accept leaves nothing to the first tests. Assumes nothing.
 use mathlib.Core.Path.{_≡_, refl, sym, ap, _∙_, subst}
-use mathlib.Core.Bool.{Bool, true, false, cond, _&&_, false≢true}
+use mathlib.Core.Bool.{true, _&&_, false≢true}
 use mathlib.Core.List.{List, []}
-use Prim.Native.Nat.{ℕ, _+_, _≤_}
+use Prim.Native.Nat.{ℕ, _+_}
 use native.Mathlib.Omega.{arith}
-use lib.Dec.{leb, eqb}
+use lib.Dec.{eqb}
 use lib.ListN.{length, getD, drop}
-use borrow.Author.Tests.{le-leb, leb-true, eq-eqb}
+use borrow.Author.Tests.{eq-eqb}
 use Rattle.bits.specs.Bits.{bitsOf, fieldAt}
 use Rattle.bits.specs.laws.Bytes.{length-bits}
 use Rattle.format.specs.Fmt.{accepted, read}
@@ -15,10 +15,9 @@ use Rattle.format.specs.Words.{_‥_, only, wide, kept}
 use Rattle.format.specs.laws.Entries.{Long, entries, held-entries}
 use Rattle.format.specs.laws.Extent.{extent, extent-laid}
 use Rattle.format.specs.laws.First.{led-between}
-use Rattle.format.specs.laws.Held.{Held, held, exactly, told-good}
+use Rattle.format.specs.laws.Held.{Held, held, passed, exactly}
 use Rattle.format.specs.laws.Places.{value-at, choice-at}
 use Rattle.format.specs.laws.Round.{read-write}
-use Rattle.format.specs.laws.Tells.{only-tells}
 use Rattle.area_reading.specs.Area.{tail, area, areas}
 use Rattle.area_reading.specs.Shapes.{Kind, circle, rectangle, kindOf, shape}
 
@@ -36,18 +35,9 @@ pub record Front (vs : List ℕ) : Type 0 where
   pub fill-is : getD vs 6 0 ≡ 0
   pub authority-is : getD vs 7 0 ≡ 412
   pub application-is : getD vs 8 0 ≡ 11
-  pub shape-is : (1 ≤ getD vs 10 0) × (getD vs 10 0 ≤ 2)
+  pub shape-is : between 1 2 (getD vs 10 0) ≡ true
   pub before : List ℕ
   pub holds : Held (shape (kindOf (getD vs 10 0)) tail) before (entries 11 8 vs)
-
--- a shape's number that the judge found good is one of the two
-shaped : (t : ℕ) → _≡_ {A = ℕ} (cond (leb 1 t && leb t 2) 0 2) 0 → (1 ≤ t) × (t ≤ 2)
-shaped t = go (leb 1 t) (leb t 2) refl refl
-  where
-    go : (x y : Bool) → leb 1 t ≡ x → leb t 2 ≡ y → _≡_ {A = ℕ} (cond (x && y) 0 2) 0 → (1 ≤ t) × (t ≤ 2)
-    go true true ex ey e = (leb-true 1 t ex, leb-true t 2 ey)
-    go true false ex ey e = absurd (omega (arith, e))
-    go false y ex ey e = absurd (omega (arith, e))
 
 pub front : (vs : List ℕ) → Held area [] vs → Front vs
 unfolding area entries
@@ -64,7 +54,7 @@ front vs h =
       fill-is = exactly 1 4 0 _ (getD vs 6 0) (g6 .0) (g6 .1);
       authority-is = exactly 10 1 412 _ (getD vs 7 0) (g7 .0) (g7 .1);
       application-is = exactly 6 1 11 _ (getD vs 8 0) (g8 .0) (g8 .1);
-      shape-is = shaped (getD vs 10 0) (told-good 2 (getD vs 10 0) (only 2 2 (1 ‥ 2) _) (only-tells 2 1 (1 ‥ 2) _) (g10 .0) (g10 .1));
+      shape-is = passed 2 1 (1 ‥ 2) _ (getD vs 10 0) (g10 .0) (g10 .1);
       before = _;
       holds = g10 .2;
     }
@@ -109,7 +99,7 @@ module _ (s vs : List ℕ) (e : read area [] 0 (bitsOf s) ≡ accepted vs) where
   shape-at = sym (choice-at 10 area vs (bitsOf s) e 2 (only 2 2 (1 ‥ 2)) (λ t. shape (kindOf t) tail) refl)
 
   shaped-at : between 1 2 (fieldAt s 92 2) ≡ true
-  shaped-at = let (lo, hi) = begins .shape-is in rw (shape-at, le-leb 1 (getD vs 10 0) lo, le-leb (getD vs 10 0) 2 hi) refl
+  shaped-at = ap (between 1 2) shape-at ∙ begins .shape-is
 
 pub sound : Sound areas
 unfolding areas

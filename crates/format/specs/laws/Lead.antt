@@ -1,15 +1,16 @@
 -- The first tests of a message: its lead and its seal are one test before the fields. Assumes nothing.
 use mathlib.Core.Path.{_≡_, refl, _∙_}
-use mathlib.Core.Bool.{Bool, true, false, cond, _&&_, false≢true}
+use mathlib.Core.Bool.{Bool, true, false, cond, false≢true}
 use mathlib.Core.List.{List, []}
 use Prim.Native.Nat.{ℕ, zero, suc, _-_, _≤_}
 use native.Mathlib.Omega.{arith}
-use borrow.Author.Tests.{leb-true, le-leb, ne-eqb}
-use lib.Dec.{leb, eqb}
+use borrow.Author.Tests.{le-leb, ne-eqb}
+use lib.Dec.{eqb}
 use lib.ListN.{length, take, getD}
 use Rattle.bits.specs.Xor.{xorOf}
 use Rattle.bits.specs.Bits.{bitsOf}
 use Rattle.format.specs.Fmt.{Out, bad, Fmt, refused, orBad, check, read}
+use Rattle.format.specs.laws.Held.{ranged}
 use Rattle.format.specs.Message.{Layout, fault, between, fieldsOf, body, sealFault, firstOf, first, codeOf, readMessage}
 
 -- Where the first tests refused, that is the answer.
@@ -65,16 +66,15 @@ module _ (f : Fmt) (lo hi c : ℕ) (s : List ℕ) where
 
   -- Another size is refused, whatever the fields are.
   pub other-size : (lo ≤ length s → length s ≤ hi → ⊥) → fieldsOf f lo hi c s ≡ refused (cond (eqb c 0) 1 c) 0
-  other-size n = go (leb lo (length s)) (leb (length s) hi) refl refl
+  other-size n = go (between lo hi (length s)) refl
     where
       first : (c : ℕ) → check (fault (firstOf (bad 1 0) c)) 0 (read f [] 0 (bitsOf s)) ≡ refused (cond (eqb c 0) 1 c) 0
       first zero = refl
       first (suc c) = rw (ne-eqb (suc c) 0 (λ z. omega arith)) refl
 
-      go : (x y : Bool) → leb lo (length s) ≡ x → leb (length s) hi ≡ y → check (fault (firstOf (orBad (x && y) 1) c)) 0 (read f [] 0 (bitsOf s)) ≡ refused (cond (eqb c 0) 1 c) 0
-      go true true e k = absurd (n (leb-true lo (length s) e) (leb-true (length s) hi k))
-      go true false e k = first c
-      go false y e k = first c
+      go : (x : Bool) → between lo hi (length s) ≡ x → check (fault (firstOf (orBad x 1) c)) 0 (read f [] 0 (bitsOf s)) ≡ refused (cond (eqb c 0) 1 c) 0
+      go true e = let (a, b) = ranged lo hi (length s) e in absurd (n a b)
+      go false e = first c
 
 -- The same for one size.
 pub exact-fields : (f : Fmt) (n c : ℕ) (s : List ℕ) → (c ≡ 0 → length s ≡ n) → fieldsOf f n n c s ≡ check (fault c) 0 (read f [] 0 (bitsOf s))

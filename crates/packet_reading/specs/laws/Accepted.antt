@@ -1,25 +1,24 @@
 -- A record whose fields are good, with as much content as a packet holds, is a packet: it is written, and read back; and what is read is such a record. Assumes nothing.
 use mathlib.Core.Path.{_≡_, refl, sym, ap, _∙_, subst}
-use mathlib.Core.Bool.{Bool, true, false, cond, _&&_, and-eq-true-iff}
+use mathlib.Core.Bool.{true, _&&_}
 use mathlib.Core.List.{List, []}
-use Prim.Native.Nat.{ℕ, _+_, _-_, _*_, _/_, _≤_, _<_, _^_}
+use Prim.Native.Nat.{ℕ, _+_, _-_, _*_, _/_, _≤_, _<_}
 use native.Mathlib.Omega.{arith}
 use lib.Dec.{leb, lit<}
 use lib.ListN.{length, take, drop, getD}
-use borrow.Author.Tests.{le-leb, leb-true}
+use borrow.Author.Tests.{le-leb}
 use Rattle.bits.specs.Bits.{Bytes, valueOf, digits, bitsOf, bytesOf}
 use Rattle.bits.specs.laws.Bytes.{length-bits, length-bytes}
 use Rattle.bits.specs.laws.Runs.{bytes-value-lt}
-use Rattle.format.specs.Fmt.{Out, accepted, refused, also, good}
+use Rattle.format.specs.Fmt.{Out, accepted, refused, also}
 use Rattle.format.specs.Message.{codeOf, readMessage, writeMessage}
 use Rattle.format.specs.Promises.{readRecord}
-use Rattle.format.specs.Words.{Test, any, _‥_, only, ago}
+use Rattle.format.specs.Words.{any, _‥_, ago}
 use Rattle.format.specs.laws.Entries.{entries}
 use Rattle.format.specs.laws.Extent.{extent, extent-laid}
 use Rattle.format.specs.laws.Family.{written-record}
-use Rattle.format.specs.laws.Held.{Held, held, told-good, passes}
+use Rattle.format.specs.laws.Held.{Held, held, passed, ranged, passes}
 use Rattle.format.specs.laws.Round.{read-write}
-use Rattle.format.specs.laws.Tells.{only-tells}
 use Rattle.format.specs.laws.Whole.{was}
 use Rattle.format.specs.laws.Written.{held-message}
 use Rattle.packet_reading.specs.Packet.{version, mostPackets, partBytes, greatest, packet, packets, valuesOf, recordOf}
@@ -91,18 +90,6 @@ fit-read r c fine x = let (m, e, long) = fit-written r c x in (m, e, written-rec
 
 -- ---- the other way
 
--- a value that was judged good passes its test,
-passed : (w : ℕ) (t : Test) (h : List ℕ) (v : ℕ) → v < 2 ^ w → only w 4 t h (digits w v) ≡ good → t h v ≡ true
-passed w t h v l e = go (t h v) (told-good w v (only w 4 t h) (only-tells w 3 t h) l e)
-  where
-    go : (x : Bool) → _≡_ {A = ℕ} (cond x 0 4) 0 → x ≡ true
-    go true z = refl
-    go false z = absurd (omega (arith, z))
-
--- and so is in its range
-ranged : (lo hi v : ℕ) → (leb lo v && leb v hi) ≡ true → (lo ≤ v) × (v ≤ hi)
-ranged lo hi v e = let (a, b) = and-eq-true-iff (leb lo v) (leb v hi) .0 e in (leb-true lo v a, leb-true v hi b)
-
 -- A packet that is read is such a record.
 pub read-fit : (s : List ℕ) (x : Packet × List ℕ) → readRecord packets recordOf s ≡ accepted x → Fit (x .0) (x .1)
 unfolding packets packet recordOf entries
@@ -121,10 +108,10 @@ read-fit s x e = go (readMessage packets s) refl e
         let sizes = read-sized s (ap codeOf o) in
         let whole = length-bits s in
         let long = length-bytes n (digits (n * 8) (getD vs 7 0)) in
-        let (least, own) = ranged 0 (getD vs 4 0 - 1) (getD vs 5 0) (passed 6 (λ h. (0 ‥ ago 0 h - 1) h) _ (getD vs 5 0) (g4 .2 .0) (g4 .2 .1)) in
-        let total = ranged 1 mostPackets (getD vs 4 0) (passed 6 (1 ‥ mostPackets) _ (getD vs 4 0) (g4 .0) (g4 .1)) in
+        let (least, own) = ranged 0 (getD vs 4 0 - 1) (getD vs 5 0) (passed 6 3 (λ h. (0 ‥ ago 0 h - 1) h) _ (getD vs 5 0) (g4 .2 .0) (g4 .2 .1)) in
+        let total = ranged 1 mostPackets (getD vs 4 0) (passed 6 3 (1 ‥ mostPackets) _ (getD vs 4 0) (g4 .0) (g4 .1)) in
         record {
-          language = ranged 0 1 (getD vs 2 0) (passed 1 (0 ‥ 1) _ (getD vs 2 0) (g2 .0) (g2 .1)) .1;
+          language = ranged 0 1 (getD vs 2 0) (passed 1 3 (0 ‥ 1) _ (getD vs 2 0) (g2 .0) (g2 .1)) .1;
           number = g2 .2 .0;
           total = total .1;
           own = omega (arith, own, total .0);

@@ -1,5 +1,5 @@
 -- `content` is the part of a good frame where its content stands.
-use native.Mathlib.Omega.{arith}
+use mathlib.Core.Path.{_∙_}
 use Rattle.txxx_reading.specs.laws.Shown.{hidden, shown}
 use borrow.Author.Needs.{needs}
 use Rattle.txxx_reading.proofs.content.Statement.{statement}
@@ -22,55 +22,17 @@ returns c =
     let s = known .before .args .s .now in
     hidden s (read .read .ensures) (number .refusal .ensures) (c .before .if1 .taken)
 
-sub-end : tie.Need-sub-end
-sub-end c =
-    let number = c .before in
-    let read = number .before in
-    let known = read .before in
-    let s = known .before .args .s .now in
-    let (n, is) = shown s (read .read .ensures) (number .refusal .ensures) (λ i. known .shared-slice-known .given i .fits) (c .if1 .left) in
-    omega (arith, n)
-
-sub-result : tie.Need-sub-result
-sub-result c =
-    let number = c .before in
-    let read = number .before in
-    let known = read .before in
-    let s = known .before .args .s .now in
-    let (n, is) = shown s (read .read .ensures) (number .refusal .ensures) (λ i. known .shared-slice-known .given i .fits) (c .if1 .left) in
-    omega (arith, n)
-
-part-result-start : tie.Need-part-result-start
-part-result-start c =
-    let number = c .before in
-    let read = number .before in
-    let known = read .before in
-    let s = known .before .args .s .now in
-    let (n, is) = shown s (read .read .ensures) (number .refusal .ensures) (λ i. known .shared-slice-known .given i .fits) (c .if1 .left) in
-    omega (arith, n)
-
-part-result-end : tie.Need-part-result-end
-part-result-end c = search needs
+carried-requires : tie.Need-carried-requires
+carried-requires c κs = search needs
 
 returns-2 : tie.Need-returns-2
 returns-2 c =
-    let number = c .before .before in
+    let test = c .before in
+    let number = test .before in
     let read = number .before in
     let known = read .before in
     let s = known .before .args .s .now in
-    let (n, is) = shown s (read .read .ensures) (number .refusal .ensures) (λ i. known .shared-slice-known .given i .fits) (c .before .if1 .left) in
-    is
+    c .carried .ensures ∙ shown s (read .read .ensures) (number .refusal .ensures) (λ i. known .shared-slice-known .given i .fits) (test .if1 .left)
 
 pub content-spec : {M : Type 1} → statement M
-content-spec =
-    tie.close
-    (tie.spec
-    read-requires
-    refusal-requires
-    slice-aggregate-result
-    returns
-    sub-end
-    sub-result
-    part-result-start
-    part-result-end
-    returns-2)
+content-spec = tie.close (tie.spec read-requires refusal-requires slice-aggregate-result returns carried-requires returns-2)

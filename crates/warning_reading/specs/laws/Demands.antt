@@ -21,7 +21,7 @@ use Rattle.format.specs.Promises.{readRecord, Writes, Corrects}
 use Rattle.format.specs.Words.{_‥_, wide, num, fill}
 use Rattle.format.specs.laws.Entries.{entries, entries-behind}
 use Rattle.format.specs.laws.Family.{Family, record-values, one-size, written-front, read-written, corrected-as-written, correction-none}
-use Rattle.format.specs.laws.Held.{Held, exactly}
+use Rattle.format.specs.laws.Held.{Held, exactly, ranged}
 use Rattle.format.specs.laws.Whole.{was}
 use Rattle.format.specs.laws.Zero.{Judged, Counted, only-numbered}
 use Rattle.time.specs.Time.{spellTime, timeOf}
@@ -123,7 +123,8 @@ module _ (repeat source type longitude latitude : ℕ) (h us : List ℕ) where
 same-values : (vs : List ℕ) → Held warning [] vs → valuesOf (recordOf vs) ≡ vs
 same-values vs h =
     let f = front vs h in
-    let t = type-kind (f .type) (f .type-is .0) (f .type-is .1) in
+    let (lo, hi) = ranged 1 5 (f .type) (f .type-is) in
+    let t = type-kind (f .type) lo hi in
     let is : vs ≡ whole (f .repeat) (f .source) (f .type) (f .longitude) (f .latitude) (f .before) (f .left) =
     f .is ∙ (λ i. f .message-is i ∷ f .repeat ∷ f .source ∷ f .spare-is i ∷ f .authority-is i ∷ f .application-is i ∷ f .type ∷ f .longitude ∷ f .latitude ∷ f .left) in
     ap (λ vs. valuesOf (recordOf vs)) is ∙ whole-same (f .repeat) (f .source) (f .type) (f .longitude) (f .latitude) (f .before) (f .left) (kindOf (f .type)) t (f .holds) ∙ sym is

@@ -1,12 +1,12 @@
 -- A warning's layout is sound: what its fields accept leaves nothing to the first tests. Assumes nothing.
 use mathlib.Core.Path.{_≡_, refl, sym, ap, _∙_}
-use mathlib.Core.Bool.{Bool, true, false, cond, _&&_, false≢true}
+use mathlib.Core.Bool.{true, _&&_, false≢true}
 use mathlib.Core.List.{List, [], _∷_}
-use Prim.Native.Nat.{ℕ, _≤_}
+use Prim.Native.Nat.{ℕ}
 use native.Mathlib.Omega.{arith}
-use lib.Dec.{leb, eqb}
+use lib.Dec.{eqb}
 use lib.ListN.{length, getD, drop}
-use borrow.Author.Tests.{le-leb, leb-true, eq-eqb}
+use borrow.Author.Tests.{eq-eqb}
 use Rattle.bits.specs.Bits.{bitsOf, fieldAt}
 use Rattle.bits.specs.laws.Bytes.{length-bits}
 use Rattle.bodies.specs.Bodies.{Kind, cyclone, gale, waves, fog, surge, kindOf, body}
@@ -14,11 +14,10 @@ use Rattle.format.specs.Fmt.{accepted, read}
 use Rattle.format.specs.Message.{Sound, between}
 use Rattle.format.specs.Words.{_‥_, only, wide, kept}
 use Rattle.format.specs.laws.Extent.{extent, extent-laid}
-use Rattle.format.specs.laws.Held.{Held, held, exactly, told-good}
+use Rattle.format.specs.laws.Held.{Held, held, passed, exactly}
 use Rattle.format.specs.laws.First.{led-between}
 use Rattle.format.specs.laws.Places.{value-at, choice-at}
 use Rattle.format.specs.laws.Round.{read-write}
-use Rattle.format.specs.laws.Tells.{only-tells}
 use Rattle.warning_reading.specs.Warning.{tail, rest, warning, warnings}
 
 -- ---- what accepted values begin with
@@ -39,18 +38,9 @@ pub record Front (vs : List ℕ) : Type 0 where
   pub spare-is : spare ≡ 0
   pub authority-is : authority ≡ 412
   pub application-is : application ≡ 3
-  pub type-is : (1 ≤ type) × (type ≤ 5)
+  pub type-is : between 1 5 type ≡ true
   pub before : List ℕ
   pub holds : Held (body (kindOf type) tail) before left
-
--- a type that the judge found good is one of the five
-typed : (t : ℕ) → _≡_ {A = ℕ} (cond (leb 1 t && leb t 5) 0 2) 0 → (1 ≤ t) × (t ≤ 5)
-typed t = go (leb 1 t) (leb t 5) refl refl
-  where
-    go : (x y : Bool) → leb 1 t ≡ x → leb t 5 ≡ y → _≡_ {A = ℕ} (cond (x && y) 0 2) 0 → (1 ≤ t) × (t ≤ 5)
-    go true true ex ey e = (leb-true 1 t ex, leb-true t 5 ey)
-    go true false ex ey e = absurd (omega (arith, e))
-    go false y ex ey e = absurd (omega (arith, e))
 
 pub front : (vs : List ℕ) → Held warning [] vs → Front vs
 unfolding warning
@@ -84,7 +74,7 @@ front (a ∷ b ∷ c ∷ d ∷ e ∷ f ∷ t ∷ x ∷ y ∷ us) h =
       spare-is = exactly 2 4 0 _ d (h3 .0) (h3 .1);
       authority-is = exactly 10 1 412 _ e (h4 .0) (h4 .1);
       application-is = exactly 6 1 3 _ f (h5 .0) (h5 .1);
-      type-is = typed t (told-good 4 t (only 4 2 (1 ‥ 5) (f ∷ e ∷ d ∷ c ∷ b ∷ a ∷ [])) (only-tells 4 1 (1 ‥ 5) (f ∷ e ∷ d ∷ c ∷ b ∷ a ∷ [])) (h6 .0) (h6 .1));
+      type-is = passed 4 1 (1 ‥ 5) _ t (h6 .0) (h6 .1);
       before = y ∷ x ∷ t ∷ f ∷ e ∷ d ∷ c ∷ b ∷ a ∷ [];
       holds = h6 .2 .2 .2;
     }
@@ -129,10 +119,7 @@ module _ (s vs : List ℕ) (e : read warning [] 0 (bitsOf s) ≡ accepted vs) wh
   type-at = sym (choice-at 6 warning vs (bitsOf s) e 4 (only 4 2 (1 ‥ 5)) (λ t. rest (kindOf t)) refl)
 
   typed-at : between 1 5 (fieldAt s 56 4) ≡ true
-  typed-at =
-      let (lo, hi) = begins .type-is in
-      let is : fieldAt s 56 4 ≡ begins .type = type-at ∙ ap (λ l. getD l 6 0) (begins .is) in
-      rw (is, le-leb 1 (begins .type) lo, le-leb (begins .type) 5 hi) refl
+  typed-at = ap (between 1 5) (type-at ∙ ap (λ l. getD l 6 0) (begins .is)) ∙ begins .type-is
 
 pub sound : Sound warnings
 unfolding warnings
