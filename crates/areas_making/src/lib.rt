@@ -39,16 +39,7 @@ pub fn judge(row: &[u32], count: u8) -> Stepped
     ensures { λ r. ⌜ AreasJudged (now (row .entry)) count (bare front 0 0) r ⌝ }
 {
     let most = count as usize;
-    let mut w = Walk {
-        at: FRONT as usize,
-        code: 0,
-        place: 0,
-        v: 0,
-        seek: false,
-        left: 0,
-        spot: 0,
-        width: 0,
-    };
+    let mut w = notice_parts::unsought(FRONT as usize, 0, 0);
     let mut k: usize = 0;
     let mut i: usize = 0;
     while i < most {

@@ -95,7 +95,16 @@ pub fn longitude(s: &[u8], w: Walk) -> Walk
 fn cut_angle(s: &[u8], at: usize, code: u8, place: usize, d: usize, most: u64) -> Walk
     ensures { λ r. ⌜ r ≡ angleParted (now (s .entry)) d most (bare at code place) ⌝ }
 {
-    let w = Walk {
+    let w = unsought(at, code, place);
+    let degrees = w.part(s, 1, 0, 1).part(s, d, 0, most);
+    degrees.part(s, 6, 0, MINUTES).part(s, 7, 0, HUNDREDTHS)
+}
+
+// A walk at bit `at`, where `code` was refused at `place`, that seeks no field.
+pub fn unsought(at: usize, code: u8, place: usize) -> Walk
+    ensures { λ r. ⌜ r ≡ bare at code place ⌝ }
+{
+    Walk {
         at,
         code,
         place,
@@ -104,9 +113,7 @@ fn cut_angle(s: &[u8], at: usize, code: u8, place: usize, d: usize, most: u64) -
         left: 0,
         spot: 0,
         width: 0,
-    };
-    let degrees = w.part(s, 1, 0, 1).part(s, d, 0, most);
-    degrees.part(s, 6, 0, MINUTES).part(s, 7, 0, HUNDREDTHS)
+    }
 }
 
 // ---- judging what a record spells
