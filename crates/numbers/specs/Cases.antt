@@ -129,9 +129,9 @@ tells (Refused c) = []
 abbrev pub replied : Reply → List ℕ
 replied a = numberOf a ∷ tells a
 
-unfoldable pub replies : List (Call × Reply) → List ℕ
+unfoldable pub replies : List (Call × ℕ) → List ℕ
 replies [] = []
-replies (e ∷ es) = replied (e .1) ++ replies es
+replies (e ∷ es) = e .1 ∷ replies es
 
 -- what they are answered
 abbrev pub heldReplies : List ℕ

@@ -19,7 +19,7 @@ use Rattle.bits.specs.laws.Runs.{length-run, bytes-run}
 use Rattle.format.specs.Correcting.{standing}
 use Rattle.format.specs.laws.Runs.{run-again}
 use Rattle.format.specs.laws.Round.{accepted-inj}
-use Rattle.format.specs.laws.Lead.{read-first, held-back, unled}
+use Rattle.format.specs.laws.Lead.{read-first, held-back, read-led}
 use Rattle.layout.specs.Walk.{begun}
 use Rattle.layout.specs.laws.Step.{clear, stuck}
 use Rattle.notice_areas.specs.Standing.{front, areasAt}
@@ -136,5 +136,5 @@ module _ (english : Bool) (i : ℕ) (s : List ℕ) (f : Course) (x : FieldsAre e
   pub fields-again : f .walk .code ≡ 0 → (t : List ℕ) → length t ≡ length s → readMessage (notices english) t ≡ fieldsRead english t
   unfolding notices
   fields-again z t e =
-      let size : sizes s ≡ 0 = unled (sizes s) (fieldsRead english s) (sym (ap codeOf (read-first (notices english) s refl)) ∙ sym walked-code ∙ z) in
+      let size : sizes s ≡ 0 = read-led (notices english) s (sym walked-code ∙ z) in
       read-on english t (ap (λ n. cond (leb 8 n) (cond (between 8 joined n) 0 1) 1) (sym e) ∙ refl) size
