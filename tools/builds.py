@@ -11,7 +11,6 @@ import re
 
 os.chdir(os.path.join(os.path.dirname(os.path.abspath(__file__)), ".."))
 HEAD = re.compile(r"# ([a-z0-9_]+): (.*)")
-FUNCTION = re.compile(r"( *)(?:pub(?:\([a-z]+\))? )?(?:extern \"C\" )?fn (\w+)")
 
 
 class Build:
@@ -20,45 +19,64 @@ class Build:
     def __init__(self, crate, edit, name, fact):
         self.crate, self.edit, self.name, self.fact, self.pairs = crate, edit, name, fact, []
 
+    def applied(self, texts):
+        """Makes the replacements in the texts of the crate's files, each read once; says which `old:` does not stand once."""
+        wrong = []
+        for path, old, new in self.pairs:
+            path = f"crates/{self.crate}/{path}"
+            text = texts.setdefault(path, read(path))
+            if text.count(old) != 1:
+                wrong.append(f"stands {text.count(old)} times in {path}: {old}")
+            texts[path] = text.replace(old, new, 1)
+        return wrong
+
     def function(self):
-        """The one function whose body all of its replacements lie in, as (module path, type, name); else None."""
-        found = {within(f"crates/{self.crate}/{path}", old) for path, old, _ in self.pairs}
-        return found.pop() if len(found) == 1 else None
+        """The function, (module path, type, name), whose body is all that the build changes; None where it changes more."""
+        texts, found = {}, set()
+        if self.applied(texts):
+            return None
+        for path, text in texts.items():
+            before, after = parts(path, read(path)), parts(path, text)
+            found |= {part for part in before.keys() | after.keys() if before.get(part) != after.get(part)}
+        return found.pop() if len(found) == 1 and "" not in found else None
 
     def label(self):
         return f"{self.crate} `{self.name}`"
 
 
-def within(path, old):
-    """The function whose body has the text, as (module path, type, name); None where no body has it."""
-    if "/src/" not in path:
-        return None
-    text = open(path, encoding="utf-8").read()
-    at = text.find(old)
-    if at < 0:
-        return None
+def read(path):
+    return open(path, encoding="utf-8").read()
+
+
+def closing(text, at):
+    """Where the brace that opens at `at` is closed."""
+    depth = 0
+    for brace in re.finditer(r"[{}]", text[at:]):
+        depth += 1 if brace[0] == "{" else -1
+        if depth == 0:
+            return at + brace.start()
+    return len(text)
+
+
+def parts(path, text):
+    """A file by its parts, without comments: the body of each function, and under '' all else, the contracts among it."""
+    if not path.endswith(".rt"):
+        return {"": text}
     module = re.sub(r"(^|/)(lib|main|mod)$", "", path.split("/src/")[1][:-3]).replace("/", "::")
-    kind, where, start = "", None, 0
-    for line in text.splitlines(keepends=True):
-        if line.startswith("impl "):
-            kind = re.match(r"impl(?:<[^>]*>)? (\w+)", line)[1]
-        if where is None:
-            found = FUNCTION.match(line)
-            if found:
-                where, indent, body = (module, kind, found[2]), found[1], line.rstrip().endswith("{")
-        elif not body:
-            body = line.rstrip() == indent + "{"
-            if body:
-                start += len(line)
-                continue
-        if where and body and start <= at < start + len(line):
-            return where
-        if line.rstrip() == "}":
-            kind = ""
-        if where and body and line.rstrip() == indent + "}":
-            where = None
-        start += len(line)
-    return None
+    text = re.sub(r"(?s)/\*.*?\*/", "", re.sub(r"(?m)//.*$", "", text))
+    found, done, kind, kind_end = {"": ""}, 0, "", 0
+    for head in re.finditer(r"\bimpl(?:<[^>]*>)? (\w+)[^{]*\{|\bfn (\w+)", text):
+        if head[1]:
+            kind, kind_end = head[1], closing(text, head.end() - 1)
+        elif done <= head.start():
+            brace = text.index("{", head.end())
+            while re.search(r"\b(requires|ensures|ghost)\s*$", text[head.end() : brace]):
+                brace = text.index("{", closing(text, brace))
+            found[""] += text[done:brace]
+            done = closing(text, brace)
+            found[(module, kind if head.start() < kind_end else "", head[2])] = text[brace:done]
+    found[""] += text[done:]
+    return {part: re.sub(r"\s+", " ", body).strip() for part, body in found.items()}
 
 
 def builds(edit):
