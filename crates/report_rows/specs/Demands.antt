@@ -1,42 +1,28 @@
--- What the reading calls' promises and the sentence's decide, from the promises alone: one answer, lent memory untouched by a refusal, and the record of the family's own call. `bellnewt_distress_write` and `_correct` promise what every layout's calls do (format/specs/laws/Family: one-writing, one-correction, refused-writing, refused-correction). Assumes nothing.
-use Prim.Native.Nat.{ℕ, _≤_}
+-- What the promises of the reading calls and of the sentence's writing decide: 0 for no refused message, one answer, and lent memory untouched by a refusal. What holds of every reading in a row stands in rows/specs/laws/Row, and of `bellnewt_distress_write` and `_correct` in format/specs/laws/Family. Assumes nothing.
+use Prim.Native.Nat.{ℕ}
 use mathlib.Core.Path.{_≡_, sym, subst, _∙_}
-use mathlib.Core.List.{List, _∷_, _++_}
-use lib.IntN.{ℤ, pos}
-use lib.ListN.{length, drop}
+use mathlib.Core.List.{List}
+use lib.IntN.{ℤ}
+use lib.ListN.{length}
 use Rattle.format.specs.Fmt.{Out, accepted, refused, also}
-use Rattle.format.specs.Message.{codeOf, into, leaves}
-use Rattle.format.specs.laws.Family.{refused-stands}
+use Rattle.format.specs.Message.{codeOf, leaves}
 use Rattle.sentence.specs.laws.Demands.{no-zero-heard}
 use Rattle.distress_reading.specs.Promises.{Reads}
 use Rattle.distress_reading.specs.declared.report.Report.{Report}
-use Rattle.distress_reading.specs.declared.report.Answer.the-variants.{Good, Refused}
+use Rattle.distress_reading.specs.declared.report.Answer.the-variants.{Refused}
 use Rattle.sentence.specs.Sentence.{laidOver, Hears}
-use Rattle.sentence.specs.declared.Heard.the-variants.{Good as Heard, Refused as Unheard}
+use Rattle.sentence.specs.declared.Heard.the-variants.{Refused as Unheard}
 use Rattle.rows.specs.Row.{Fills}
-use Rattle.report_rows.specs.Report.{rowOf, numbersOf}
-use Rattle.rows.specs.laws.Row.{row-full, one-filling}
-use Rattle.report_rows.specs.laws.Report.{good-numbers, refused-numbers, no-zero-read}
-use Rattle.report_rows.specs.laws.Sentence.{heard-numbers, refused-sentence}
+use Rattle.report_rows.specs.Report.{numbersOf}
+use Rattle.rows.specs.laws.Row.{one-filling}
+use Rattle.report_rows.specs.laws.Report.{refused-numbers, no-zero-read}
+use Rattle.report_rows.specs.laws.Sentence.{refused-sentence}
 use Rattle.report_rows.specs.Sentence.{sentenceNumbers, sentenceInto, SentenceWrites}
 
--- ---- a reading that answers in a row
-
-module _ (o : Out (List ℤ)) (row : List ℤ) (c : ℕ) (t : List ℤ) (f : Fills o row c t) where
-  pub one-row : (d : ℕ) (u : List ℤ) → Fills o row d u → (c ≡ d) × (t ≡ u)
-  one-row d u g = one-filling o row c d t u f g
-
-  pub refused-row : (c ≡ 0 → ⊥) → t ≡ row
-  refused-row h = refused-stands (into row o) row t c (f .0) (f .1) h
-
--- `bellnewt_distress_read`: a good report gives 0 and its numbers where the row has room, a refused one its refusal
+-- `bellnewt_distress_read`: a refused report gives its refusal, and the row as it was
 module _ (s : List ℕ) (row : List ℤ) (c : ℕ) (t : List ℤ) (f : Fills (numbersOf s) row c t) where
-  pub good-report : (r : Report) → Reads s (Good r) → 9 ≤ length row → (c ≡ 0) × (t ≡ rowOf r ++ drop 9 row)
-  unfolding rowOf
-  good-report r g h = one-row (numbersOf s) row c t f 0 (rowOf r ++ drop 9 row) (row-full row (good-numbers s r g) h)
-
   pub refused-report : (d : ℕ) → Reads s (Refused d) → (c ≡ d) × (t ≡ row)
-  refused-report d g = one-row (numbersOf s) row c t f d row (refused-numbers s row d g)
+  refused-report d g = one-filling (numbersOf s) row c d t row f (refused-numbers s row d g)
 
   -- 0 is given for no refused one
   pub zero-report : c ≡ 0 → (d : ℕ) → Reads s (Refused d) → ⊥
@@ -44,12 +30,8 @@ module _ (s : List ℕ) (row : List ℤ) (c : ℕ) (t : List ℤ) (f : Fills (nu
 
 -- `bellnewt_sentence_read`
 module _ (s : List ℕ) (row : List ℤ) (c : ℕ) (t : List ℤ) (f : Fills (sentenceNumbers s) row c t) where
-  pub good-sentence : (a : ℕ) (r : Report) → Hears s (Heard a r) → 10 ≤ length row → (c ≡ 0) × (t ≡ pos a ∷ (rowOf r ++ drop 10 row))
-  unfolding rowOf
-  good-sentence a r g h = one-row (sentenceNumbers s) row c t f 0 (pos a ∷ (rowOf r ++ drop 10 row)) (row-full row (heard-numbers s a r g) h)
-
   pub refused-heard : (d : ℕ) → Hears s (Unheard d) → (c ≡ d) × (t ≡ row)
-  refused-heard d g = one-row (sentenceNumbers s) row c t f d row (refused-sentence s row d g)
+  refused-heard d g = one-filling (sentenceNumbers s) row c d t row f (refused-sentence s row d g)
 
   pub zero-heard : c ≡ 0 → (d : ℕ) → Hears s (Unheard d) → ⊥
   zero-heard z d g = no-zero-heard s (subst (λ (d : ℕ). Hears s (Unheard d)) (sym (refused-heard d g .0) ∙ z) g)

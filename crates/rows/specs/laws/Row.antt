@@ -12,6 +12,7 @@ use borrow.Author.Tests.{le-leb, lt-leb}
 use Rattle.format.specs.Fmt.{Out, accepted, refused, also}
 use Rattle.format.specs.Message.{codeOf, into, leaves}
 use Rattle.format.specs.Promises.{answered}
+use Rattle.format.specs.laws.Family.{refused-stands}
 use Rattle.rows.specs.Row.{Fills}
 
 -- the call's number and the row that it leaves, from its answer
@@ -43,6 +44,10 @@ row-stored row xs i e h {t} p =
 pub one-filling : (o : Out (List ℤ)) (row : List ℤ) (c d : ℕ) (t u : List ℤ) → Fills o row c t → Fills o row d u → (c ≡ d) × (t ≡ u)
 one-filling o row c d t u f g = (f .0 ∙ sym (g .0), f .1 ∙ sym (g .1))
 
+-- a refusal leaves the row
+pub refused-filling : (o : Out (List ℤ)) (row : List ℤ) (c : ℕ) (t : List ℤ) → Fills o row c t → (c ≡ 0 → ⊥) → t ≡ row
+refused-filling o row c t f = refused-stands (into row o) row t c (f .0) (f .1)
+
 -- ---- a family's reading, from its own type of answer
 
 -- q is what an answer tells of a record r; o is the answer a, taken apart
@@ -69,11 +74,3 @@ module _ {R Q A : Type 0} (part : R → Q) (good : Q → A) (bad : ℕ → A) (r
 
   pub fills-refused : {c : ℕ} → a ≡ bad c → Fills (also (λ r. rowOf (part r)) o) row c row
   fills-refused {c} e = fills-answer (row-refused row (ap (also rowOf) (ap outOf e ∙ of-bad c)))
-
-  -- What the promise of a reading call says, from the family's answer: a good one gives 0 and its numbers where the row has room, a refused one its number and the row as it was.
-  module _ {c : ℕ} {t : List ℤ} (f : Fills (also (λ r. rowOf (part r)) o) row c t) where
-    pub told-row : (q : Q) → a ≡ good q → length (rowOf q) ≤ length row → (c ≡ 0) × (t ≡ rowOf q ++ drop (length (rowOf q)) row)
-    told-row q e h = one-filling (also (λ r. rowOf (part r)) o) row c 0 t (rowOf q ++ drop (length (rowOf q)) row) f (fills-good e refl (row-full {o = accepted (rowOf q)} row refl h))
-
-    pub refused-row : (d : ℕ) → a ≡ bad d → (c ≡ d) × (t ≡ row)
-    refused-row d e = one-filling (also (λ r. rowOf (part r)) o) row c d t row f (fills-refused e)
