@@ -10,24 +10,20 @@ use lib.ListN.{length, take, drop, getD, set}
 use lib.Seq.{take-length, paste-suc}
 use borrow.Author.Tests.{le-leb, lt-leb}
 use Rattle.format.specs.Fmt.{Out, accepted, refused, also}
-use Rattle.format.specs.Message.{codeOf, into, leaves}
+use Rattle.format.specs.Message.{codeOf, into, leaves, refuses, accepts}
 use Rattle.format.specs.Promises.{answered}
 use Rattle.format.specs.laws.Family.{refused-stands}
 use Rattle.rows.specs.Row.{Fills}
 
--- the call's number and the row that it leaves, from its answer
-gives : (o : Out (List ℤ)) (row : List ℤ) (a : Out (List ℤ)) → into row o ≡ a → Fills o row (codeOf a) (leaves a row)
-gives o row a e = (ap codeOf (sym e), ap (λ a. leaves a row) (sym e))
-
 module _ {o : Out (List ℤ)} (row : List ℤ) where
   pub row-refused : {c p : ℕ} → o ≡ refused c p → Fills o row c row
-  row-refused {c} {p} e = gives o row (refused c p) (ap (into row) e)
+  row-refused {c} {p} e = refuses {p = p} (ap (into row) e)
 
   pub row-short : {xs : List ℤ} → o ≡ accepted xs → length row < length xs → Fills o row 6 row
-  row-short {xs} e h = gives o row (refused 6 0) (ap (into row) e ∙ rw (lt-leb (length xs) (length row) h) refl)
+  row-short {xs} e h = refuses {p = 0} (ap (into row) e ∙ rw (lt-leb (length xs) (length row) h) refl)
 
   pub row-full : {xs : List ℤ} → o ≡ accepted xs → length xs ≤ length row → Fills o row 0 (xs ++ drop (length xs) row)
-  row-full {xs} e h = gives o row (accepted (xs ++ drop (length xs) row)) (ap (into row) e ∙ rw (le-leb (length xs) (length row) h) refl)
+  row-full {xs} e h = accepts row (ap (into row) e ∙ rw (le-leb (length xs) (length row) h) refl)
 
 -- i numbers stand already, and the next one is stored
 pub row-more : (row xs : List ℤ) (i : ℕ) → i < length row → i < length xs
