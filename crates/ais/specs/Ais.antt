@@ -1,6 +1,5 @@
 -- A message of either kind (paper 01, "AIS"; "Refusal numbers" for the order). Assumes nothing.
 use Prim.Native.Nat.{ℕ}
-use mathlib.Core.Path.{_≡_, sym, _∙_}
 use mathlib.Core.Bool.{cond}
 use mathlib.Core.List.{List}
 use lib.Dec.{leb, eqb}
@@ -16,7 +15,3 @@ codeOf s =
     cond (leb 23 (length s))
     (cond (eqb (fieldAt s 0 6) 6) (refusal (readMessage areas s))
     (cond (eqb (fieldAt s 0 6) 8) (refusal (readMessage warnings s)) 2)) 1
-
--- two answers that the promise of `code` allows are equal
-pub one-code : (s : List ℕ) (a b : ℕ) → a ≡ codeOf s → b ≡ codeOf s → a ≡ b
-one-code s a b d e = d ∙ sym e

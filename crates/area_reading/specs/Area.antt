@@ -5,8 +5,8 @@ use mathlib.Core.List.{List, [], _∷_}
 use lib.Dec.{eqb}
 use lib.ListN.{length, getD}
 use Rattle.bits.specs.Bits.{fieldAt}
-use Rattle.format.specs.Fmt.{Out, Fmt, end, choice}
-use Rattle.format.specs.Message.{Layout, led, between}
+use Rattle.format.specs.Fmt.{Out, accepted, refused, Fmt, end, choice}
+use Rattle.format.specs.Message.{Layout, led, between, codeOf}
 use Rattle.format.specs.Promises.{answered}
 use Rattle.format.specs.Words.{_‥_, only, _▹_, num, code, fill}
 use Rattle.time.specs.Time.{time, shortTime, spellTime, timeOf, spellShort, shortOf}
@@ -78,6 +78,10 @@ recordOf vs = record {
 abbrev pub answerOf : Out Area → Answer
 answerOf = answered Good Refused
 
+-- an answer taken apart, and its number
+abbrev pub outOf : Answer → Out Area
+outOf (Good r) = accepted r
+outOf (Refused c) = refused c 0
+
 abbrev pub numberOf : Answer → ℕ
-numberOf (Good r) = 0
-numberOf (Refused c) = c
+numberOf a = codeOf (outOf a)

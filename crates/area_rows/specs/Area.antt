@@ -3,13 +3,12 @@ use Prim.Native.Nat.{ℕ}
 use mathlib.Core.List.{List, [], _∷_}
 use lib.IntN.{ℤ, pos}
 use Rattle.area_reading.specs.Area.{areas, recordOf as read-as}
+pub use Rattle.area_reading.specs.Area.{outOf}
 use Rattle.area_reading.specs.Shapes.{typeOf, shapeKind}
 use Rattle.area_reading.specs.declared.Area.{Area}
-use Rattle.area_reading.specs.declared.Answer.{Answer}
-use Rattle.area_reading.specs.declared.Answer.the-variants.{Good, Refused}
 use Rattle.area_reading.specs.declared.shapes.Shape.{Shape}
 use Rattle.area_reading.specs.declared.shapes.Shape.the-variants.{Circle, Rectangle}
-use Rattle.format.specs.Fmt.{Out, accepted, refused, also}
+use Rattle.format.specs.Fmt.{Out, also}
 use Rattle.format.specs.Promises.{readRecord}
 use Rattle.area_rows.specs.declared.Four.{Four}
 
@@ -46,11 +45,6 @@ rowOf r =
 -- the reading of the bytes s, as numbers
 abbrev pub numbersOf : List ℕ → Out (List ℤ)
 numbersOf s = also rowOf (readRecord areas read-as s)
-
--- an answer taken apart
-abbrev pub outOf : Answer → Out Area
-outOf (Good r) = accepted r
-outOf (Refused c) = refused c 0
 
 -- ---- the record of the numbers that a writing call is given
 

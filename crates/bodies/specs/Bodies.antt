@@ -1,7 +1,7 @@
 -- The five bodies of a warning, behind its position (paper 01, "AIS"; 003, tables 58 to 62 in that order). Assumes nothing.
 use Prim.Native.Nat.{ℕ}
 use mathlib.Core.Bool.{cond}
-use mathlib.Core.List.{List, [], _∷_}
+use mathlib.Core.List.{List, _∷_}
 use lib.Dec.{eqb}
 use lib.ListN.{getD}
 use Rattle.format.specs.Fmt.{Fmt}

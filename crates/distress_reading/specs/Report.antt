@@ -6,8 +6,8 @@ use mathlib.Core.List.{List, [], _∷_}
 use lib.Dec.{eqb, lit≤}
 use lib.ListN.{length, getD}
 use Rattle.bits.specs.Bits.{fieldAt}
-use Rattle.format.specs.Fmt.{Out, Fmt, end}
-use Rattle.format.specs.Message.{Layout, led, between}
+use Rattle.format.specs.Fmt.{Out, accepted, refused, Fmt, end}
+use Rattle.format.specs.Message.{Layout, led, between, codeOf}
 use Rattle.format.specs.Promises.{answered}
 use Rattle.number.specs.Sign.{intOf, spellOf}
 use Rattle.format.specs.Words.{_‥_, signed, _▹_, num, code, fill}
@@ -76,9 +76,13 @@ reportOf vs = record {
 abbrev pub answerOf : Out Report → Answer
 answerOf = answered Good Refused
 
+-- an answer taken apart, and its number
+abbrev pub outOf : Answer → Out Report
+outOf (Good r) = accepted r
+outOf (Refused c) = refused c 0
+
 abbrev pub numberOf : Answer → ℕ
-numberOf (Good r) = 0
-numberOf (Refused c) = c
+numberOf a = codeOf (outOf a)
 
 -- a record whose position fits its bits is that of its values
 pub again : (r : Report) → spellOf (2 ^ 25) (r .longitude) < 2 ^ 25 → spellOf (2 ^ 24) (r .latitude) < 2 ^ 24 → reportOf (valuesOf r) ≡ r

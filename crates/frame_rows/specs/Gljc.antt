@@ -2,12 +2,10 @@
 use Prim.Native.Nat.{ℕ}
 use mathlib.Core.List.{List, [], _∷_}
 use lib.IntN.{ℤ, pos}
-use Rattle.format.specs.Fmt.{Out, accepted, refused, also}
+use Rattle.format.specs.Fmt.{Out, also}
 use Rattle.format.specs.Promises.{readRecord}
 use Rattle.gljc_reading.specs.Gljc.{gljcs, recordOf as framed}
 use Rattle.gljc_reading.specs.declared.Gljc.{Gljc}
-use Rattle.gljc_reading.specs.declared.Answer.{Answer}
-use Rattle.gljc_reading.specs.declared.Answer.the-variants.{Good, Refused}
 
 -- a record's numbers, in the paper's order
 unfoldable pub rowOf : Gljc → List ℤ
@@ -16,11 +14,6 @@ rowOf r = pos (r .address) ∷ pos (r .minutes) ∷ []
 -- the reading of the bytes s, as numbers
 abbrev pub numbersOf : List ℕ → Out (List ℤ)
 numbersOf s = also rowOf (readRecord gljcs framed s)
-
--- an answer taken apart
-abbrev pub outOf : Answer → Out Gljc
-outOf (Good r) = accepted r
-outOf (Refused c) = refused c 0
 
 -- the record of the numbers that a writing call is given
 abbrev pub recordOf : ℕ → ℕ → Gljc

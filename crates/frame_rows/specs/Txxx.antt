@@ -3,12 +3,10 @@ use Prim.Native.Nat.{ℕ}
 use mathlib.Core.List.{List, [], _∷_}
 use lib.IntN.{ℤ, pos}
 use Rattle.frame.specs.Frame.{bytesFor}
-use Rattle.format.specs.Fmt.{Out, accepted, refused, also}
+use Rattle.format.specs.Fmt.{Out, also}
 use Rattle.format.specs.Promises.{readRecord}
 use Rattle.txxx_reading.specs.Txxx.{txxxs, recordOf as framed}
 use Rattle.txxx_reading.specs.declared.Txxx.{Txxx}
-use Rattle.txxx_reading.specs.declared.Answer.{Answer}
-use Rattle.txxx_reading.specs.declared.Answer.the-variants.{Good, Refused}
 
 -- a record's numbers, in the paper's order; then the byte where the content begins, and its bytes
 unfoldable pub rowOf : Txxx → List ℤ
@@ -17,11 +15,6 @@ rowOf r = pos (r .address) ∷ pos (r .class) ∷ pos (r .sender) ∷ pos (r .ho
 -- the reading of the bytes s, as numbers
 abbrev pub numbersOf : List ℕ → Out (List ℤ)
 numbersOf s = also (λ r. rowOf (r .0)) (readRecord txxxs framed s)
-
--- an answer taken apart
-abbrev pub outOf : Answer → Out Txxx
-outOf (Good r) = accepted r
-outOf (Refused c) = refused c 0
 
 -- the record of the numbers that a writing call is given
 abbrev pub recordOf : ℕ → ℕ → ℕ → ℕ → ℕ → ℕ → ℕ → Txxx

@@ -3,8 +3,8 @@ use Prim.Native.Nat.{ℕ}
 use mathlib.Core.List.{List, [], _∷_}
 use lib.ListN.{getD}
 use Rattle.frame.specs.Frame.{frame, frames}
-use Rattle.format.specs.Fmt.{Out, Fmt, end}
-use Rattle.format.specs.Message.{Layout}
+use Rattle.format.specs.Fmt.{Out, accepted, refused, Fmt, end}
+use Rattle.format.specs.Message.{Layout, codeOf}
 use Rattle.format.specs.Promises.{answered}
 use Rattle.format.specs.Words.{_‥_, _▹_, num}
 use Rattle.gljc_reading.specs.declared.Gljc.{Gljc}
@@ -38,6 +38,10 @@ recordOf vs = record { address = getD vs 3 0; minutes = getD vs 4 0 }
 abbrev pub answerOf : Out Gljc → Answer
 answerOf = answered Good Refused
 
+-- an answer taken apart, and its number
+abbrev pub outOf : Answer → Out Gljc
+outOf (Good r) = accepted r
+outOf (Refused c) = refused c 0
+
 abbrev pub numberOf : Answer → ℕ
-numberOf (Good r) = 0
-numberOf (Refused c) = c
+numberOf a = codeOf (outOf a)

@@ -1,3 +1,2 @@
--- What is proved of the words and of the promises.
+-- What is proved of the words.
 pub mod Words
-pub mod Answers

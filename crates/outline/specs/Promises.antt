@@ -4,7 +4,7 @@ use mathlib.Core.Path.{_≡_}
 use mathlib.Core.Bool.{Bool}
 use mathlib.Core.List.{List}
 use lib.IntN.{ℤ}
-use Rattle.format.specs.Fmt.{Out, also}
+use Rattle.format.specs.Fmt.{Out, accepted, refused, also}
 use Rattle.format.specs.Message.{leaves, into}
 use Rattle.format.specs.Promises.{answered, readRecord}
 use Rattle.notice_reading.specs.Notice.{notices}
@@ -39,6 +39,11 @@ counted english s row = also (λ t. pointsTold english s) (drawn english s row)
 -- the paper's number and values
 abbrev pub answerOf : Out ℕ → Answer
 answerOf = answered Good Refused
+
+-- an answer taken apart
+abbrev pub outOf : Answer → Out ℕ
+outOf (Good n) = accepted n
+outOf (Refused c) = refused c 0
 
 -- the answer, and the row t that is left
 abbrev pub Outlines : Bool → List ℕ → List ℤ → Answer → List ℤ → Type 0

@@ -5,8 +5,8 @@ use mathlib.Core.List.{List, [], _∷_}
 use lib.Dec.{eqb}
 use lib.ListN.{length, getD}
 use Rattle.bits.specs.Bits.{valueOf, digits, bitsOf, bytesOf, fieldAt}
-use Rattle.format.specs.Fmt.{Out, Fmt, end, field, bytes}
-use Rattle.format.specs.Message.{Layout, led, between}
+use Rattle.format.specs.Fmt.{Out, accepted, refused, Fmt, end, field, bytes}
+use Rattle.format.specs.Message.{Layout, led, between, codeOf}
 use Rattle.format.specs.Promises.{answered}
 use Rattle.format.specs.Words.{any, _‥_, _▹_, only, kept, num, code, ago}
 use Rattle.packet_reading.specs.declared.Packet.{Packet}
@@ -79,6 +79,10 @@ recordOf vs = (
 abbrev pub answerOf : Out (Packet × List ℕ) → Answer
 answerOf = answered (λ r. Good (r .0)) Refused
 
+-- an answer taken apart, and its number
+abbrev pub outOf : Answer → Out Packet
+outOf (Good r) = accepted r
+outOf (Refused c) = refused c 0
+
 abbrev pub numberOf : Answer → ℕ
-numberOf (Good r) = 0
-numberOf (Refused c) = c
+numberOf a = codeOf (outOf a)

@@ -2,4 +2,3 @@
 pub mod Report
 pub mod Sentence
 pub mod laws
-pub mod Demands

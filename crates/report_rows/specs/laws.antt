@@ -1,3 +1,4 @@
--- What is proved of the definitions.
+-- What is proved of the definitions, and what the promises decide.
 pub mod Report
 pub mod Sentence
+pub mod Demands

@@ -6,7 +6,7 @@ use lib.Dec.{leb}
 use lib.ListN.{length, drop}
 use Rattle.format.specs.Fmt.{Out, accepted, refused, orBad, check, also, after}
 use Rattle.format.specs.Message.{writeMessage}
-use Rattle.format.specs.Promises.{readRecord}
+use Rattle.format.specs.Promises.{answered, readRecord}
 use Rattle.distress_reading.specs.Report.{reports, valuesOf, reportOf}
 use Rattle.distress_reading.specs.declared.report.Report.{Report}
 use Rattle.pattern.specs.Pattern.{sentence, addressGood, aroundSo}
@@ -31,12 +31,15 @@ roomFor s o = after o (λ t. check (orBad (leb (length t) (length s)) 6) 0 (acce
 -- ---- what the calls answer and leave
 
 abbrev pub heardOf : Out (ℕ × Report) → Heard
-heardOf (accepted x) = Good (x .0) (x .1)
-heardOf (refused c p) = Refused c
+heardOf = answered (λ x. Good (x .0) (x .1)) Refused
+
+-- such an answer taken apart
+abbrev pub outOf : Heard → Out (ℕ × Report)
+outOf (Good a r) = accepted (a, r)
+outOf (Refused c) = refused c 0
 
 abbrev pub sentOf : Out (List ℕ) → Sent
-sentOf (accepted t) = Bytes (length t)
-sentOf (refused c p) = Unsent c
+sentOf = answered (λ t. Bytes (length t)) Unsent
 
 -- the sentence at the buffer's front, and the bytes past it as they were
 abbrev pub laidOver : Out (List ℕ) → List ℕ → List ℕ

@@ -1,7 +1,6 @@
 -- The order of the first tests, computed: nothing is 1, twelve zeros are 2, a TXHZ of twelve bytes is 1.
 use mathlib.Core.Path.{_≡_, refl}
 use mathlib.Core.List.{[], _∷_}
-use Prim.Native.Nat.{ℕ}
 use Rattle.bits.specs.Bits.{bit, valueOf, digits, bitsOf, fieldAt}
 use Rattle.frame.specs.Frame.{leads}
 use Rattle.format.specs.Message.{readMessage}

@@ -1,6 +1,5 @@
 -- A serial frame of any kind (paper 01, "Serial frames"; "Refusal numbers" for the order). Assumes nothing.
 use Prim.Native.Nat.{ℕ}
-use mathlib.Core.Path.{_≡_, sym, _∙_}
 use mathlib.Core.Bool.{cond}
 use mathlib.Core.List.{List}
 use lib.Dec.{leb, eqb}
@@ -23,7 +22,3 @@ codeAs letters s =
 -- the smallest size (1), `$` and letters (2), then as the frame of these letters is read
 unfoldable pub codeOf : List ℕ → ℕ
 codeOf s = cond (leb 12 (length s)) (cond (eqb (fieldAt s 0 8) 0x24) (codeAs (fieldAt s 8 32) s) 2) 1
-
--- two answers that the promise of `code` allows are equal
-pub one-code : (s : List ℕ) (a b : ℕ) → a ≡ codeOf s → b ≡ codeOf s → a ≡ b
-one-code s a b d e = d ∙ sym e

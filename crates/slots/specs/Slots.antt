@@ -31,3 +31,8 @@ slotsFor message n = cond (eqb message 6) (slotsIn addressed n) (cond (eqb messa
 -- the paper's number and value
 abbrev pub answerOf : Out ℕ → Needed
 answerOf = answered Slots Refused
+
+-- an answer taken apart
+abbrev pub outOf : Needed → Out ℕ
+outOf (Slots n) = accepted n
+outOf (Refused c) = refused c 0

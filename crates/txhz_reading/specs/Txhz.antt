@@ -5,8 +5,8 @@ use mathlib.Core.List.{List, [], _∷_}
 use lib.Dec.{ltb}
 use lib.ListN.{getD}
 use Rattle.frame.specs.Frame.{address, lastHour, lastMinute, frame, frames}
-use Rattle.format.specs.Fmt.{Out, Fmt, end, field}
-use Rattle.format.specs.Message.{Layout}
+use Rattle.format.specs.Fmt.{Out, accepted, refused, Fmt, end, field}
+use Rattle.format.specs.Message.{Layout, codeOf}
 use Rattle.format.specs.Promises.{answered}
 use Rattle.format.specs.Words.{_‥_, _▹_, only, num, ago}
 use Rattle.txhz_reading.specs.declared.Receipt.{Receipt}
@@ -77,9 +77,13 @@ recordOf vs = record {
 abbrev pub answerOf : Out Txhz → Answer
 answerOf = answered Good Refused
 
+-- an answer taken apart, and its number
+abbrev pub outOf : Answer → Out Txhz
+outOf (Good r) = accepted r
+outOf (Refused c) = refused c 0
+
 abbrev pub numberOf : Answer → ℕ
-numberOf (Good r) = 0
-numberOf (Refused c) = c
+numberOf a = codeOf (outOf a)
 
 -- how many receipts an answer's frame counts
 abbrev pub countOf : Answer → ℕ

@@ -5,14 +5,13 @@ use mathlib.Core.List.{List, [], _∷_}
 use lib.Dec.{eqb}
 use lib.IntN.{ℤ, pos}
 use lib.ListN.{length, getD}
-use Rattle.format.specs.Fmt.{Out, accepted, refused, orBad, check, also}
+use Rattle.format.specs.Fmt.{Out, orBad, check, also}
 use Rattle.format.specs.Message.{codeOf, leaves, into, writeMessage}
 use Rattle.format.specs.Promises.{readRecord}
 use Rattle.txhz_reading.specs.Txhz.{txhzs, valuesOf, recordOf as framed}
+pub use Rattle.txhz_reading.specs.Txhz.{outOf}
 use Rattle.txhz_reading.specs.declared.Receipt.{Receipt}
 use Rattle.txhz_reading.specs.declared.Txhz.{Txhz}
-use Rattle.txhz_reading.specs.declared.Answer.{Answer}
-use Rattle.txhz_reading.specs.declared.Answer.the-variants.{Good, Refused}
 
 -- a receipt's numbers before those that follow
 abbrev pub times : Receipt → List ℤ → List ℤ
@@ -25,11 +24,6 @@ rowOf r = pos (r .address) ∷ pos (r .receiver) ∷ pos (r .count) ∷ times (r
 -- the reading of the bytes s, as numbers
 abbrev pub numbersOf : List ℕ → Out (List ℤ)
 numbersOf s = also rowOf (readRecord txhzs framed s)
-
--- an answer taken apart
-abbrev pub outOf : Answer → Out Txhz
-outOf (Good r) = accepted r
-outOf (Refused c) = refused c 0
 
 -- the receipt whose bytes stand from k on
 unfoldable pub receiptAt : List ℕ → ℕ → Receipt

@@ -6,8 +6,8 @@ use lib.Dec.{leb, eqb}
 use lib.ListN.{length, getD}
 use Rattle.bits.specs.Bits.{fieldAt}
 use Rattle.frame.specs.Frame.{frame, frames, address, declared, fits, contentOf}
-use Rattle.format.specs.Fmt.{Out, Fmt, end, choice, pad}
-use Rattle.format.specs.Message.{Layout}
+use Rattle.format.specs.Fmt.{Out, accepted, refused, Fmt, end, choice, pad}
+use Rattle.format.specs.Message.{Layout, codeOf}
 use Rattle.format.specs.Promises.{answered}
 use Rattle.format.specs.Words.{Test, _‥_, _▹_, num, code, twice, content, ago}
 use Rattle.txsq_reading.specs.declared.Txsq.{Txsq}
@@ -98,6 +98,10 @@ recordOf vs = (
 abbrev pub answerOf : Out (Txsq × List ℕ) → Answer
 answerOf = answered (λ r. Good (r .0)) Refused
 
+-- an answer taken apart, and its number
+abbrev pub outOf : Answer → Out Txsq
+outOf (Good r) = accepted r
+outOf (Refused c) = refused c 0
+
 abbrev pub numberOf : Answer → ℕ
-numberOf (Good r) = 0
-numberOf (Refused c) = c
+numberOf a = codeOf (outOf a)

@@ -6,8 +6,8 @@ use lib.Dec.{eqb}
 use lib.ListN.{length, getD, drop}
 use Rattle.bits.specs.Bits.{fieldAt}
 use Rattle.bodies.specs.Bodies.{Kind, kindOf, typeOf, body, bodyKind, bodyLong, bodyValues, bodyOf}
-use Rattle.format.specs.Fmt.{Out, Fmt, end, choice}
-use Rattle.format.specs.Message.{Layout, led, between}
+use Rattle.format.specs.Fmt.{Out, accepted, refused, Fmt, end, choice}
+use Rattle.format.specs.Message.{Layout, led, between, codeOf}
 use Rattle.format.specs.Promises.{answered}
 use Rattle.format.specs.Words.{_‥_, only, _▹_, num, code, fill}
 use Rattle.time.specs.Time.{time, spellTime, timeOf}
@@ -95,6 +95,10 @@ recordOf vs = recordAs (kindOf (getD vs 6 0)) vs
 abbrev pub answerOf : Out Warning → Answer
 answerOf = answered Good Refused
 
+-- an answer taken apart, and its number
+abbrev pub outOf : Answer → Out Warning
+outOf (Good r) = accepted r
+outOf (Refused c) = refused c 0
+
 abbrev pub numberOf : Answer → ℕ
-numberOf (Good r) = 0
-numberOf (Refused c) = c
+numberOf a = codeOf (outOf a)

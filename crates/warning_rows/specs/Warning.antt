@@ -5,12 +5,11 @@ use lib.IntN.{ℤ, pos}
 use Rattle.bodies.specs.Bodies.{typeOf, bodyKind}
 use Rattle.bodies.specs.declared.Body.{Body}
 use Rattle.bodies.specs.declared.Body.the-variants.{Cyclone, Gale, Waves, Fog, Surge}
-use Rattle.format.specs.Fmt.{Out, accepted, refused, also}
+use Rattle.format.specs.Fmt.{Out, also}
 use Rattle.format.specs.Promises.{readRecord}
 use Rattle.warning_reading.specs.Warning.{warnings, recordOf as read-as}
+pub use Rattle.warning_reading.specs.Warning.{outOf}
 use Rattle.warning_reading.specs.declared.Warning.{Warning}
-use Rattle.warning_reading.specs.declared.Answer.{Answer}
-use Rattle.warning_reading.specs.declared.Answer.the-variants.{Good, Refused}
 use Rattle.warning_rows.specs.declared.Seven.{Seven}
 
 -- a body's numbers, in the paper's order, and 0 behind them
@@ -58,11 +57,6 @@ rowOf r =
 -- the reading of the bytes s, as numbers
 abbrev pub numbersOf : List ℕ → Out (List ℤ)
 numbersOf s = also rowOf (readRecord warnings read-as s)
-
--- an answer taken apart
-abbrev pub outOf : Answer → Out Warning
-outOf (Good r) = accepted r
-outOf (Refused c) = refused c 0
 
 -- ---- the record of the numbers that a writing call is given
 

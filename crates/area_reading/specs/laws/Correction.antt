@@ -1,9 +1,8 @@
 -- An area with one field changed has the values with that one changed, and where its fields stand is a table by their numbers. Assumes nothing.
 use mathlib.Core.Path.{_≡_, refl, sym, ap, _∙_}
-use mathlib.Core.Bool.{Bool, true, false, cond}
+use mathlib.Core.Bool.{cond}
 use mathlib.Core.List.{List, [], _∷_}
 use Prim.Native.Nat.{ℕ, _≤_, _<_, _^_}
-use borrow.Author.Tests.{eqb-true}
 use lib.Dec.{eqb, lit≤}
 use lib.IntN.{ℤ}
 use lib.ListN.{length, getD, set}
@@ -11,7 +10,7 @@ use Rattle.number.specs.laws.Sign.{spell-int}
 use Rattle.format.specs.Correcting.{standing, ofKind}
 use Rattle.format.specs.Fmt.{none, found, spot}
 use Rattle.format.specs.Words.{wide}
-use Rattle.format.specs.laws.Spots.{spotsAlong, spot-along, rows, slim, eachAt, set-each, kept-entry, picks, ofKinds, named-stands, named-slim}
+use Rattle.format.specs.laws.Spots.{spotsAlong, spot-along, rows, slim, eachAt, set-each, kept-entry, spelled-entry, picks, ofKinds, named-stands, named-slim}
 use Rattle.time.specs.Time.{spellTime, timeOf, spellShort, shortOf}
 use Rattle.time.specs.laws.Spelling.{spell-time, spell-short}
 use Rattle.area_reading.specs.Area.{area, areas, headed, valuesAs, valuesOf}
@@ -64,28 +63,16 @@ spotted r i = spot-along (areas .fmt) (valuesOf r) i ∙ ap (λ t. getD t i none
 
 -- ---- the changed record
 
--- a changed field that is more than a number is spelled by its new value
-spelled : {A : Type 0} (spell : A → ℕ) (of : ℕ → A) (b : Bool) (v : ℕ) (x : A) → (b ≡ true → spell (of v) ≡ v) → spell (cond b (of v) x) ≡ cond b v (spell x)
-spelled spell of true v x e = e refl
-spelled spell of false v x e = refl
-
 -- The changed record has the changed list of values.
 module _ (i v p w : ℕ) (l : v < 2 ^ w) where
   abbrev f : ℕ → ℕ → ℕ
   f k x = cond (eqb i k) v x
 
-  -- field number k of an area of kind t, which has u bits, is spelled by `spell`
-  spells : {A : Type 0} (spell : A → ℕ) (of : ℕ → A) (t : Kind) (k q u : ℕ) → spotOf t i ≡ found p w → spotOf t k ≡ found q u → (v < 2 ^ u → spell (of v) ≡ v) → (x : A) → spell (cond (eqb i k) (of v) x) ≡ f k (spell x)
-  spells spell of t k q u e s back x = spelled spell of (eqb i k) v x (λ z.
-      let y : found q u ≡ found p w = sym s ∙ ap (spotOf t) (sym (eqb-true i k z)) ∙ e in
-      let n : w ≡ u = cc in
-      back (rw n at l))
-
   east : (t : Kind) (k q : ℕ) → spotOf t i ≡ found p w → spotOf t k ≡ found q 28 → (x : ℤ) → spellEast (cond (eqb i k) (eastOf v) x) ≡ f k (spellEast x)
-  east t k q e s x = spells spellEast eastOf t k q 28 e s (λ l. spell-int (2 ^ 28) v (lit≤ tt) refl l) x
+  east t k q e s = spelled-entry spellEast eastOf (spotOf t) i v e l k q 28 s (spell-int (2 ^ 28) v (lit≤ tt) refl)
 
   north : (t : Kind) (k q : ℕ) → spotOf t i ≡ found p w → spotOf t k ≡ found q 27 → (x : ℤ) → spellNorth (cond (eqb i k) (northOf v) x) ≡ f k (spellNorth x)
-  north t k q e s x = spells spellNorth northOf t k q 27 e s (λ l. spell-int (2 ^ 27) v (lit≤ tt) refl l) x
+  north t k q e s = spelled-entry spellNorth northOf (spotOf t) i v e l k q 27 s (spell-int (2 ^ 27) v (lit≤ tt) refl)
 
   -- where the values behind the shape stand, whatever it is
   ends : (t : Kind) → (spotOf t 15 ≡ found 204 20) × (spotOf t 16 ≡ found 224 14) × (spotOf t 18 ≡ none)
@@ -108,8 +95,8 @@ module _ (i v p w : ℕ) (l : v < 2 ^ w) where
         ≡ f 15 (spellTime (r .time)) ∷ f 16 (spellShort (r .«second_time»)) ∷ f 17 (r .advice) ∷ f 18 0 ∷ []
     behind t e =
         let (x, y, z) = ends t in
-        let first = spells spellTime timeOf t 15 204 20 e x (λ l. spell-time v l) (r .time) in
-        let second = spells spellShort shortOf t 16 224 14 e y (λ l. spell-short v l) (r .«second_time») in
+        let first = spelled-entry spellTime timeOf (spotOf t) i v e l 15 204 20 x (spell-time v) (r .time) in
+        let second = spelled-entry spellShort shortOf (spotOf t) i v e l 16 224 14 y (spell-short v) (r .«second_time») in
         λ y. first y ∷ second y ∷ f 17 (r .advice) ∷ kept-entry (spotOf t) i v e 18 0 z y ∷ []
 
     pub changed-values : spotOf (shapeKind (r .shape)) i ≡ found p w → valuesOf (changed i v r) ≡ set (valuesOf r) i v

@@ -12,10 +12,11 @@ use Rattle.bits.specs.Bits.{Bytes, fieldAt}
 use Rattle.bits.specs.laws.Answers.{got-fits}
 use Rattle.number.specs.laws.Sign.{spell-int}
 use Rattle.format.specs.Correcting.{standing, ofKind}
-use Rattle.format.specs.Fmt.{Out, accepted, refused, end, found, spot}
+use Rattle.format.specs.Fmt.{accepted, end, found, spot}
 use Rattle.format.specs.Message.{codeOf, leaves}
 use Rattle.format.specs.Promises.{readRecord, Writes, Corrects}
 use Rattle.format.specs.Words.{_‥_, num, fill, wide}
+use Rattle.format.specs.laws.Answers.{good-read}
 use Rattle.format.specs.laws.Entries.{entries}
 use Rattle.format.specs.laws.Family.{Family, one-size, written-front, read-written, read-values, correction-none, corrected-as-written}
 use Rattle.format.specs.laws.Held.{Held, exactly, ranged}
@@ -24,7 +25,7 @@ use Rattle.format.specs.laws.Zero.{Judged, Counted, only-numbered}
 use Rattle.time.specs.Time.{shortTime, spellTime, timeOf, spellShort, shortOf}
 use Rattle.time.specs.laws.Spelling.{time-spell, spell-time, short-spell, spell-short}
 use Rattle.time.specs.laws.Walking.{time-numbered, short-numbered}
-use Rattle.area_reading.specs.Area.{tail, area, areas, valuesAs, valuesOf, recordOf, answerOf}
+use Rattle.area_reading.specs.Area.{tail, area, areas, valuesAs, valuesOf, recordOf, answerOf, outOf}
 use Rattle.area_reading.specs.Changed.{spotOf, fields, fieldOf, changed}
 use Rattle.area_reading.specs.Promises.{Reads}
 use Rattle.area_reading.specs.Shapes.{Kind, circle, rectangle, kindOf, typeOf, shape, shapeKind, shapeValues, shapeOf}
@@ -35,7 +36,7 @@ use Rattle.area_reading.specs.laws.Walking.{Narrow, shape-numbered}
 use Rattle.area_reading.specs.declared.Area.{Area}
 use Rattle.area_reading.specs.declared.shapes.Shape.{Shape}
 use Rattle.area_reading.specs.declared.shapes.Shape.the-variants.{Circle, Rectangle}
-use Rattle.area_reading.specs.declared.Answer.the-variants.{Good}
+use Rattle.area_reading.specs.declared.Answer.the-variants.{Good, Refused}
 
 -- ---- the values of a record
 
@@ -162,11 +163,7 @@ family = record {
 
 -- an answer that is good is an accepted reading
 pub good : (s : List ℕ) (r : Area) → Reads s (Good r) → readRecord areas recordOf s ≡ accepted r
-good s r a = go (readRecord areas recordOf s) a
-  where
-    go : (o : Out Area) → Good r ≡ answerOf o → o ≡ accepted r
-    go (accepted q) e = let k : q ≡ r = cc in ap accepted k
-    go (refused c p) e = let z : _≡_ {A = ℕ} 0 1 = cc in absurd (omega arith)
+good s r = good-read Good Refused outOf (λ q. refl) (λ c. refl) (readRecord areas recordOf s)
 
 -- What is written is read back as the same record.
 pub written-reads : (s : List ℕ) (r : Area) (t : List ℕ) → Writes areas s 0 t (valuesOf r) → Reads (take 31 t) (Good r)

@@ -1,23 +1,19 @@
 -- What the answers say, for callers: each test as an inequality, both ways. Assumes nothing.
-use mathlib.Core.Bool.{Bool, true, false, cond, _&&_, false≢true}
+use mathlib.Core.Bool.{Bool, true, cond, and-eq-true-iff}
 use mathlib.Core.List.{List}
-use mathlib.Core.Path.{_≡_, refl, _∙_}
+use mathlib.Core.Path.{_≡_, _∙_}
 use Prim.Native.Nat.{ℕ, _+_, _*_, _^_, _≤_, _<_}
 use borrow.Author.Tests.{leb-true, le-leb, lt-ltb}
 use lib.Dec.{leb}
 use lib.ListN.{length}
 use Rattle.bits.specs.Bits.{fieldAt, putAt}
-use Rattle.bits.specs.Answers.{within, got, puttable, spanned, gettable}
-
-both : (a b : Bool) → (a && b) ≡ true → (a ≡ true) × (b ≡ true)
-both true b h = (refl, h)
-both false b h = absurd (false≢true h)
+use Rattle.bits.specs.Answers.{within, got, puttable}
 
 module _ (n at w : ℕ) where
   pub within-true : within n at w ≡ true → (w ≤ 32) × (at + w ≤ n * 8)
   within-true h =
-      let p = both (leb w 32) (leb (at + w) (n * 8)) h in
-      (leb-true w 32 (p .0), leb-true (at + w) (n * 8) (p .1))
+      let (a, b) = and-eq-true-iff (leb w 32) (leb (at + w) (n * 8)) .0 h in
+      (leb-true w 32 a, leb-true (at + w) (n * 8) b)
 
   pub within-fits : w ≤ 32 → at + w ≤ n * 8 → within n at w ≡ true
   within-fits h f = rw (le-leb w 32 h, le-leb (at + w) (n * 8) f)
@@ -35,12 +31,3 @@ module _ (s : List ℕ) (at w : ℕ) where
   put-done v r t p h f l =
       let yes : r ≡ true = p .0 ∙ puttable-fits v h f l in
       (yes, p .1 ∙ rw yes)
-
-module _ (s : List ℕ) (at n : ℕ) (out : List ℕ) where
-  pub gettable-fits : at + n * 8 ≤ length s * 8 → n ≤ length out → gettable s at n out ≡ true
-  gettable-fits h f = rw (le-leb (at + n * 8) (length s * 8) h, le-leb n (length out) f)
-
-  pub gettable-true : gettable s at n out ≡ true → (at + n * 8 ≤ length s * 8) × (n ≤ length out)
-  gettable-true h =
-      let p = both (spanned (length s) at n) (leb n (length out)) h in
-      (leb-true (at + n * 8) (length s * 8) (p .0), leb-true n (length out) (p .1))

@@ -45,7 +45,7 @@ part-past n at w l h = rw (drop-drop (at - n) n l, add-sub-of-le h)
 
 -- a field that lies within the message
 module _ (s : List ℕ) (at w : ℕ) (fits : at + w ≤ length s * 8) where
-  length-before : length (take at (bitsOf s)) ≡ at
+  pub length-before : length (take at (bitsOf s)) ≡ at
   length-before = length-take-le at (bitsOf s) (omega (arith, length-bits s))
 
   -- the field's bits are replaced, and no other
@@ -55,11 +55,13 @@ module _ (s : List ℕ) (at w : ℕ) (fits : at + w ≤ length s * 8) where
       bits-bytes (length s) (take at (bitsOf s) ++ (digits w v ++ drop (at + w) (bitsOf s)))
       (simp (length-append, length-before, length-digits, length-drop, length-bits) (omega arith))
 
+  -- what was put in is read
   pub field-put : (v : ℕ) → v < 2 ^ w → fieldAt (putAt s at w v) at w ≡ v
   field-put v h =
       field-split (putAt s at w v) at w (take at (bitsOf s)) (digits w v) (drop (at + w) (bitsOf s)) (bits-put v) length-before (length-digits w v)
       ∙ value-digits w h
 
+  -- and no field before or behind it differs
   pub field-put-before : (v at′ w′ : ℕ) → at′ + w′ ≤ at → fieldAt (putAt s at w v) at′ w′ ≡ fieldAt s at′ w′
   unfolding fieldAt
   field-put-before v at′ w′ h =

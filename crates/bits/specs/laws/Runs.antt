@@ -1,14 +1,14 @@
 -- Runs of bytes that start at any bit, taken out and put in: a run's bits are a part of the message's bits. Assumes nothing.
-use mathlib.Core.List.{List, _++_, append-assoc}
+use mathlib.Core.List.{List, _++_}
 use mathlib.Core.Path.{_≡_, sym, ap, _∙_}
 use Prim.Native.Nat.{ℕ, _+_, _*_, _-_, _^_, _≤_, _<_}
 use native.Mathlib.Omega.{arith}
-use lib.ListN.{length, take, drop, length-append, length-drop, take-append-drop}
-use lib.Seq.{take-at, drop-at, length-take-le, take-add}
+use lib.ListN.{length, take, drop, length-append, length-drop}
+use lib.Seq.{take-at, drop-at}
 use Rattle.bits.specs.Bits.{Bytes, valueOf, bitsOf, fieldAt, bytesAt, putBytesAt}
-use Rattle.bits.specs.laws.Digits.{value-lt, digits-value}
-use Rattle.bits.specs.laws.Bytes.{length-bits, bits-append, length-bytes, bytes-below, bytes-append, bytes-take, bytes-drop, bits-pack, bits-bytes, bytes-front, bits-same}
-use Rattle.bits.specs.laws.Fields.{bits-take, bits-drop}
+use Rattle.bits.specs.laws.Digits.{value-lt}
+use Rattle.bits.specs.laws.Bytes.{length-bits, length-bytes, bytes-below, bytes-drop, bits-pack, bits-bytes, bytes-front, bits-same}
+use Rattle.bits.specs.laws.Fields.{length-before, bits-drop}
 
 -- ---- taken out
 
@@ -50,23 +50,21 @@ module _ (s : List ℕ) (at : ℕ) (t : List ℕ) where
   bytes-put-run = bytes-below (length s) _
 
   module _ (fits : at + length t * 8 ≤ length s * 8) where
-    length-before : length (take at (bitsOf s)) ≡ at
-    length-before = length-take-le at (bitsOf s) (omega (arith, length-bits s))
-
     -- the run's bits are replaced, and no other
     pub bits-put-run : bitsOf (putBytesAt s at t) ≡ take at (bitsOf s) ++ (bitsOf t ++ drop (at + length t * 8) (bitsOf s))
     unfolding putBytesAt
     bits-put-run =
         bits-bytes (length s) (take at (bitsOf s) ++ (bitsOf t ++ drop (at + length t * 8) (bitsOf s)))
-        (simp (length-append, length-before, length-drop, length-bits) (omega arith))
+        (simp (length-append, length-before s at (length t * 8) fits, length-drop, length-bits) (omega arith))
 
+    -- what was put in is taken out again
     pub run-put : Bytes t → bytesAt (putBytesAt s at t) at (length t) ≡ t
     run-put h =
         bits-same (bytesAt (putBytesAt s at t) at (length t)) t (bytes-run (putBytesAt s at t) at (length t)) h (length-run (putBytesAt s at t) at (length t))
         (bits-run (putBytesAt s at t) at (length t) (rw length-put-run fits)
         ∙ rw (
           bits-put-run,
-          drop-at (take at (bitsOf s)) (bitsOf t ++ drop (at + length t * 8) (bitsOf s)) at length-before,
+          drop-at (take at (bitsOf s)) (bitsOf t ++ drop (at + length t * 8) (bitsOf s)) at (length-before s at (length t * 8) fits),
           take-at (bitsOf t) (drop (at + length t * 8) (bitsOf s)) (length t * 8) (length-bits t),
         ))
 
@@ -76,36 +74,7 @@ module _ (s : List ℕ) (at : ℕ) (t : List ℕ) where
         let same : bitsOf x ≡ bitsOf (putBytesAt s at t) = e ∙ sym bits-put-run in
         bits-same x (putBytesAt s at t) h bytes-put-run (omega (arith, ap length same, length-bits x, length-bits (putBytesAt s at t))) same
 
-pub put-run : (s : List ℕ) (at n : ℕ) → Bytes s → at + n * 8 ≤ length s * 8 → putBytesAt s at (bytesAt s at n) ≡ s
-put-run s at n bytes fits =
-    sym
-    (put-run-is s at (bytesAt s at n) (rw (length-run s at n) fits) s bytes
-    (sym
-    (rw (
-      length-run s at n,
-      bits-run s at n fits,
-      ← append-assoc (take at (bitsOf s)) (take (n * 8) (drop at (bitsOf s))) (drop (at + n * 8) (bitsOf s)),
-      ← take-add at (n * 8) (bitsOf s),
-    ) (take-append-drop (at + n * 8) (bitsOf s)))))
-
--- a run put in where a byte starts
-pub put-run-whole : (s : List ℕ) (i : ℕ) (t : List ℕ) → Bytes s → Bytes t → i + length t ≤ length s
-    → putBytesAt s (i * 8) t ≡ take i s ++ (t ++ drop (i + length t) s)
-put-run-whole s i t hs ht fits =
-    let x : List ℕ = take i s ++ (t ++ drop (i + length t) s) in
-    let below : Bytes x = bytes-append (take i s) (t ++ drop (i + length t) s) (bytes-take i s hs) (bytes-append t (drop (i + length t) s) ht (bytes-drop (i + length t) s hs)) in
-    let e : i * 8 + length t * 8 ≡ (i + length t) * 8 = omega arith in
-    sym
-    (put-run-is s (i * 8) t (omega arith) x below
-    (rw (bits-append (take i s) (t ++ drop (i + length t) s), bits-append t (drop (i + length t) s), e, bits-drop (i + length t) s (omega arith), bits-take i s (omega arith))))
-
 -- ---- as a number
 
 pub bytes-value-lt : (t : List ℕ) → valueOf (bitsOf t) < 2 ^ (length t * 8)
 bytes-value-lt t = rw length-bits at (value-lt (bitsOf t))
-
--- bytes are told apart by the number that they spell
-pub value-same : (s t : List ℕ) → Bytes s → Bytes t → length s ≡ length t → valueOf (bitsOf s) ≡ valueOf (bitsOf t) → s ≡ t
-value-same s t hs ht n e =
-    bits-same s t hs ht n
-    (sym (digits-value (length s * 8) (bitsOf s) (length-bits s)) ∙ rw (e, n) (digits-value (length t * 8) (bitsOf t) (length-bits t)))

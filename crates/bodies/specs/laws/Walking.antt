@@ -2,8 +2,7 @@
 use mathlib.Core.Path.{_≡_, refl, subst⁻¹}
 use mathlib.Core.Bool.{Bool}
 use mathlib.Core.List.{List, _∷_}
-use Prim.Native.Nat.{ℕ, _+_, _≤_}
-use native.Mathlib.Omega.{arith}
+use Prim.Native.Nat.{ℕ, _≤_}
 use lib.Dec.{lit<, lit≤}
 use Rattle.format.specs.Fmt.{Out, Fmt}
 use Rattle.format.specs.laws.Extent.{opens-field}

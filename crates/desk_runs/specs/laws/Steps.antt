@@ -16,7 +16,6 @@ use Rattle.packet_reading.specs.laws.Accepted.{Fit, read-fit}
 use Rattle.places.specs.Places.{blank, held, lacks, opened, holding, freed, fourPlaces, placeAt, front, openAt, freeAt}
 use Rattle.places.specs.Desk.{cell, inCell, laid, alike, numberOf, applied, firstTests, stays, Accepting, turnedAway, taken, contradicts, joins, opens, received, accepting, turns, Asking, notAnswered, answers, asking, Dropping, dropping, missingBelow, joinedBelow}
 use Rattle.places.specs.declared.Place.{Place}
-use Rattle.places.specs.declared.Reply.{Reply}
 use Rattle.places.specs.declared.Reply.the-variants.{Done, Again, Joined, Missing, Refused}
 use Rattle.places.specs.laws.Alike.{alike-same}
 use Rattle.places.specs.laws.Front.{front-open, front-free, front-at, open-found, open-none, free-found}

@@ -1,16 +1,14 @@
 -- The report with one field changed has the values with that one changed, and where its fields stand is a table. Assumes nothing.
 use mathlib.Core.Path.{_≡_, refl, sym, ap, _∙_}
-use mathlib.Core.Bool.{Bool, true, false, cond}
+use mathlib.Core.Bool.{cond}
 use mathlib.Core.List.{List, [], _∷_}
-use Prim.Native.Nat.{ℕ, _%_, _≤_, _<_, _^_}
-use borrow.Author.Tests.{eqb-true}
+use Prim.Native.Nat.{ℕ, _≤_, _<_, _^_}
 use lib.Dec.{eqb, lit≤}
-use lib.IntN.{ℤ}
 use lib.ListN.{getD, set}
 use Rattle.format.specs.Fmt.{spot, none, found}
 use Rattle.number.specs.Sign.{intOf, spellOf}
 use Rattle.number.specs.laws.Sign.{spell-int}
-use Rattle.format.specs.laws.Spots.{spotsAlong, spot-along, rows, eachAt, set-each, kept-entry}
+use Rattle.format.specs.laws.Spots.{spotsAlong, spot-along, rows, eachAt, set-each, kept-entry, spelled-entry}
 use Rattle.distress_reading.specs.Changed.{spotOf, changed}
 use Rattle.distress_reading.specs.Report.{report, reports, valuesOf}
 use Rattle.distress_reading.specs.declared.report.Report.{Report}
@@ -30,27 +28,14 @@ pub spotted : (r : Report) (i : ℕ) → spot (reports .fmt) [] (valuesOf r) i �
 unfolding rows
 spotted r i = spot-along (reports .fmt) (valuesOf r) i ∙ ap (λ t. getD t i none) (along r)
 
--- a changed signed field is spelled by its new value
-spelled : (b : Bool) (full v : ℕ) (x : ℤ) → (b ≡ true → spellOf full (intOf full v) ≡ v) → spellOf full (cond b (intOf full v) x) ≡ cond b v (spellOf full x)
-spelled true full v x e = e refl
-spelled false full v x e = refl
-
-module _ (r : Report) (i v p w : ℕ) (e : spotOf i ≡ found p w) where
-  -- a signed field of u bits
-  signed : (k q u : ℕ) (x : ℤ) → spotOf k ≡ found q u → 2 ^ u ≤ 2_147_483_648 → 2 ^ u % 2 ≡ 0 → v < 2 ^ w → spellOf (2 ^ u) (cond (eqb i k) (intOf (2 ^ u) v) x) ≡ cond (eqb i k) v (spellOf (2 ^ u) x)
-  signed k q u x s small even l = spelled (eqb i k) (2 ^ u) v x (λ z.
-      let y : found q u ≡ found p w = sym s ∙ ap spotOf (sym (eqb-true i k z)) ∙ e in
-      let n : w ≡ u = cc in
-      spell-int (2 ^ u) v small even (rw n at l))
-
-  -- The changed record has the changed list of values.
-  pub changed-values : v < 2 ^ w → valuesOf (changed i v r) ≡ set (valuesOf r) i v
-  unfolding valuesOf changed eachAt
-  changed-values l =
-      let east = signed 2 48 25 (r .longitude) refl (lit≤ tt) refl l in
-      let north = signed 3 73 24 (r .latitude) refl (lit≤ tt) refl l in
-      let code = kept-entry spotOf i v e 0 0xBDC1 refl in
-      let fill = kept-entry spotOf i v e 10 0 refl in
-      let f : ℕ → ℕ → ℕ = λ k x. cond (eqb i k) v x in
-      (λ y. code y ∷ f 1 (r .mmsi) ∷ east y ∷ north y ∷ f 4 (r .day) ∷ f 5 (r .hour) ∷ f 6 (r .minute) ∷ f 7 (r .speed) ∷ f 8 (r .course) ∷ f 9 (r .kind) ∷ fill y ∷ [])
-      ∙ sym (set-each i v (valuesOf r))
+-- The changed record has the changed list of values.
+pub changed-values : (r : Report) (i v p w : ℕ) → spotOf i ≡ found p w → v < 2 ^ w → valuesOf (changed i v r) ≡ set (valuesOf r) i v
+unfolding valuesOf changed eachAt
+changed-values r i v p w e l =
+    let east = spelled-entry (spellOf (2 ^ 25)) (intOf (2 ^ 25)) spotOf i v e l 2 48 25 refl (spell-int (2 ^ 25) v (lit≤ tt) refl) (r .longitude) in
+    let north = spelled-entry (spellOf (2 ^ 24)) (intOf (2 ^ 24)) spotOf i v e l 3 73 24 refl (spell-int (2 ^ 24) v (lit≤ tt) refl) (r .latitude) in
+    let code = kept-entry spotOf i v e 0 0xBDC1 refl in
+    let fill = kept-entry spotOf i v e 10 0 refl in
+    let f : ℕ → ℕ → ℕ = λ k x. cond (eqb i k) v x in
+    (λ y. code y ∷ f 1 (r .mmsi) ∷ east y ∷ north y ∷ f 4 (r .day) ∷ f 5 (r .hour) ∷ f 6 (r .minute) ∷ f 7 (r .speed) ∷ f 8 (r .course) ∷ f 9 (r .kind) ∷ fill y ∷ [])
+    ∙ sym (set-each i v (valuesOf r))

@@ -3,12 +3,12 @@ use mathlib.Core.Path.{_≡_, refl, sym, ap, _∙_, subst}
 use mathlib.Core.List.{List, [], _∷_}
 use Prim.Native.Nat.{ℕ, _≤_, _<_, _^_}
 use lib.Dec.{lit≤}
-use native.Mathlib.Omega.{arith}
 use lib.ListN.{length, getD, take}
 use Rattle.bits.specs.Bits.{Bytes, putAt}
-use Rattle.format.specs.Fmt.{Out, accepted, refused, found}
+use Rattle.format.specs.Fmt.{accepted, found}
 use Rattle.format.specs.Message.{writeMessage}
 use Rattle.format.specs.Promises.{readRecord, Writes, Corrects}
+use Rattle.format.specs.laws.Answers.{good-read}
 use Rattle.format.specs.laws.Entries.{entries, held-entries}
 use Rattle.format.specs.laws.Family.{Family, one-size, written-front, accepted-correction, corrected-as-written}
 use Rattle.format.specs.laws.Held.{Held, exactly}
@@ -16,11 +16,11 @@ use Rattle.number.specs.laws.Sign.{spell-int}
 use Rattle.format.specs.laws.Zero.{Judged, only-numbered}
 use Rattle.distress_reading.specs.Changed.{spotOf, changed}
 use Rattle.distress_reading.specs.Promises.{Reads}
-use Rattle.distress_reading.specs.Report.{report, reports, valuesOf, reportOf, answerOf, again}
+use Rattle.distress_reading.specs.Report.{report, reports, valuesOf, reportOf, answerOf, outOf, again}
 use Rattle.distress_reading.specs.laws.Correction.{spotted, changed-values}
 use Rattle.distress_reading.specs.laws.Sound.{sound}
 use Rattle.distress_reading.specs.declared.report.Report.{Report}
-use Rattle.distress_reading.specs.declared.report.Answer.the-variants.{Good}
+use Rattle.distress_reading.specs.declared.report.Answer.the-variants.{Good, Refused}
 
 judged : Judged report
 unfolding report
@@ -73,11 +73,7 @@ family = record {
 
 -- an answer that is good is an accepted reading
 pub good : (s : List ℕ) (r : Report) → Reads s (Good r) → readRecord reports reportOf s ≡ accepted r
-good s r a = go (readRecord reports reportOf s) a
-  where
-    go : (o : Out Report) → Good r ≡ answerOf o → o ≡ accepted r
-    go (accepted q) e = let k : q ≡ r = cc in ap accepted k
-    go (refused c p) e = let z : _≡_ {A = ℕ} 0 1 = cc in absurd (omega arith)
+good s r = good-read Good Refused outOf (λ q. refl) (λ c. refl) (readRecord reports reportOf s)
 
 -- a report that is written has 17 bytes
 pub long : (vs m : List ℕ) → writeMessage reports vs ≡ accepted m → length m ≡ 17

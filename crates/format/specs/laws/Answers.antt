@@ -1,12 +1,13 @@
--- A family's own type of answer, from the walk's code and to its number: for any good answers and refusals with their numbers. Assumes nothing.
+-- A family's own type of answer, from the walk's code, to its number, and back to the reading that it answers: for any good answers and refusals with their numbers. Assumes nothing.
 use mathlib.Core.Path.{_≡_, refl, sym, ap, _∙_}
 use mathlib.Core.Bool.{Bool, true, false, cond}
-use mathlib.Core.List.{List}
+use mathlib.Core.List.{List, []}
 use Prim.Native.Nat.{ℕ}
 use lib.Dec.{eqb}
 use Rattle.format.specs.Fmt.{Out, accepted, refused, also}
 use Rattle.format.specs.Message.{Layout, codeOf, readMessage}
 use Rattle.format.specs.Promises.{answered, readRecord}
+use Rattle.format.specs.laws.Round.{clash, accepted-inj}
 
 module _ {R A : Type 0} (good : R → A) (bad : ℕ → A) (recordOf : List ℕ → R) where
   -- the answer of a walk that ended with the code c
@@ -26,3 +27,27 @@ module _ {R A : Type 0} (good : R → A) (bad : ℕ → A) (recordOf : List ℕ 
     -- the number n of the answer a of reading s
     pub read-code : (l : Layout) (s : List ℕ) {a : A} {n : ℕ} → a ≡ answered good bad (readRecord l recordOf s) → n ≡ numberOf a → n ≡ codeOf (readMessage l s)
     read-code l s reads is = is ∙ ap numberOf reads ∙ numbered (readMessage l s)
+
+-- ---- what an answer says of the reading o: `outOf` takes it apart
+
+module _ {Q A : Type 0} (good : Q → A) (bad : ℕ → A) (outOf : A → Out Q) (of-good : (q : Q) → outOf (good q) ≡ accepted q) (of-bad : (c : ℕ) → outOf (bad c) ≡ refused c 0) where
+  -- a good one tells a part of an accepted record
+  module _ {R : Type 0} (part : R → Q) where
+    pub good-accepts : (o : Out R) {q : Q} → good q ≡ answered (λ r. good (part r)) bad o → (r : R) × (o ≡ accepted r) × (part r ≡ q)
+    good-accepts (accepted r) {q} e = (r, refl, accepted-inj (sym (of-good (part r)) ∙ ap outOf (sym e) ∙ of-good q))
+    good-accepts (refused c p) {q} e = clash (sym (of-bad c) ∙ ap outOf (sym e) ∙ of-good q)
+
+    pub bad-refuses : (o : Out R) {c : ℕ} → bad c ≡ answered (λ r. good (part r)) bad o → (p : ℕ) × (o ≡ refused c p)
+    bad-refuses (accepted r) {c} e = clash (sym (of-bad c) ∙ ap outOf e ∙ of-good (part r))
+    bad-refuses (refused d p) {c} e = (p, ap (λ c. refused c p) (ap codeOf (sym (of-bad d) ∙ ap outOf (sym e) ∙ of-bad c)))
+
+  -- the whole of it
+  pub good-read : (o : Out Q) {q : Q} → good q ≡ answered good bad o → o ≡ accepted q
+  good-read o e = let (r, x, k) = good-accepts (λ r. r) o e in x ∙ ap accepted k
+
+  -- or all but the content c that is shown beside it
+  pub good-shown : (o : Out (Q × List ℕ)) {q : Q} {c : List ℕ} → good q ≡ answered (λ r. good (r .0)) bad o → c ≡ answered (λ r. r .1) (λ n. []) o → o ≡ accepted (q, c)
+  good-shown o e d =
+      let (r, x, k) = good-accepts (λ r. r .0) o e in
+      let shown = d ∙ ap (answered (λ r. r .1) (λ n. [])) x in
+      x ∙ (λ i. accepted (k i, sym shown i))

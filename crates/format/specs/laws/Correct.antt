@@ -10,7 +10,7 @@ use lib.ListN.{length, set, length-append}
 use lib.Seq.{drop-at, take-append-add, drop-append-add}
 use Rattle.bits.specs.Bits.{digits, splice}
 use Rattle.format.specs.Fmt.{Out, accepted, refused, Judge, Fmt, end, field, choice, bytes, also, writeField, read, sized, write, Spot, none, found, later, where?, spot}
-use Rattle.format.specs.laws.Round.{unjudged, lay, clash, accepted-inj, written, write-unjudged, sized-inv, sized-at, agree, write-lay, read-lay, read-write}
+use Rattle.format.specs.laws.Round.{unjudged, lay, written, write-unjudged, sized-inv, sized-at, agree, write-lay, read-lay, read-write}
 use Rattle.bits.specs.laws.Digits.{length-digits}
 
 -- a field found behind another
@@ -147,9 +147,3 @@ module _ (f : Fmt) (b : List Bool) (vs : List ℕ) (i v p w : ℕ) (e : read f [
 
   pub changed-wide : 2 ^ w ≤ v → write f [] 0 (set vs i v) ≡ refused 4 p
   changed-wide l = set-wide f [] 0 vs b i v p w (read-write f [] 0 vs b e) s l ∙ ap (refused 4) (zero-add p)
-
-  pub changed-bits : (c : List Bool) → write f [] 0 (set vs i v) ≡ accepted c → c ≡ splice p w v b
-  changed-bits c x =
-      let wide : ¬ (2 ^ w ≤ v) = λ l. clash (sym (changed-wide l) ∙ x) in
-      let narrow : v < 2 ^ w = omega arith in
-      accepted-inj (sym (write-lay f [] 0 (set vs i v) c x) ∙ laid-set narrow .laid)

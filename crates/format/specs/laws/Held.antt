@@ -9,8 +9,8 @@ use borrow.Author.Tests.{leb-true}
 use Rattle.bits.specs.Bits.{digits}
 use Rattle.bits.specs.laws.Digits.{length-digits, value-digits}
 use Rattle.format.specs.Fmt.{accepted, Fault, good, Fmt, end, field, choice, bytes, write}
-use Rattle.format.specs.Words.{Test, _‥_, only}
-use Rattle.format.specs.laws.Tells.{only-tells, blamed, Tells}
+use Rattle.format.specs.Words.{Test, _‥_, only, twice}
+use Rattle.format.specs.laws.Tells.{only-tells, twice-tells, blamed, Tells}
 use Rattle.format.specs.laws.Round.{clash, written, sized-inv}
 
 -- as many values as fields, each narrow enough and judged good
@@ -50,6 +50,15 @@ passed w c t h v l e = go (t h v) (told-good w v (only w (suc c) t h) (only-tell
     go : (x : Bool) → cond x 0 (suc c) ≡ 0 → x ≡ true
     go true z = refl
     go false z = absurd (omega (arith, z))
+
+-- and of two tests, one after the other, both
+pub passed-twice : (w c d : ℕ) (t u : Test) (h : List ℕ) (v : ℕ) → v < 2 ^ w → twice w (suc c) t (suc d) u h (digits w v) ≡ good → (t h v ≡ true) × (u h v ≡ true)
+passed-twice w c d t u h v l e = go (t h v) (u h v) (told-good w v (twice w (suc c) t (suc d) u h) (twice-tells w c d t u h) l e)
+  where
+    go : (x y : Bool) → cond x (cond y 0 (suc d)) (suc c) ≡ 0 → (x ≡ true) × (y ≡ true)
+    go true true z = (refl, refl)
+    go true false z = absurd (omega (arith, z))
+    go false y z = absurd (omega (arith, z))
 
 -- a number that passes the test of its range is in it
 pub ranged : (lo hi v : ℕ) → (leb lo v && leb v hi) ≡ true → (lo ≤ v) × (v ≤ hi)

@@ -2,10 +2,10 @@
 use mathlib.Core.Path.{_≡_, refl, sym, ap, _∙_}
 use mathlib.Core.Bool.{Bool, true, false, cond, _&&_, false≢true}
 use mathlib.Core.List.{List, [], _∷_}
-use Prim.Native.Nat.{ℕ, zero, suc, _+_, _≤_, _<_}
+use Prim.Native.Nat.{ℕ, zero, suc, _+_, _^_, _≤_, _<_}
 use native.Mathlib.Nat.{add-zero, zero-add, add-assoc}
 use native.Mathlib.Omega.{arith}
-use borrow.Author.Tests.{eq-eqb, ne-eqb, leb-true}
+use borrow.Author.Tests.{eq-eqb, ne-eqb, eqb-true, leb-true}
 use lib.Dec.{eqb, leb}
 use lib.ListN.{length, getD, set}
 use Rattle.format.specs.Correcting.{standing, ofKind}
@@ -20,7 +20,7 @@ spotsAlong (field w j m f) h (v ∷ vs) at = later at (where? (m h) w) ∷ spots
 spotsAlong (choice w j f) h (v ∷ vs) at = none ∷ spotsAlong (f v) (v ∷ h) vs (at + w)
 spotsAlong (bytes f) h (v ∷ vs) at = none ∷ spotsAlong (f v) (v ∷ h) vs at
 
-later-later : (a b : ℕ) (x : Spot) → later a (later b x) ≡ later (a + b) x
+pub later-later : (a b : ℕ) (x : Spot) → later a (later b x) ≡ later (a + b) x
 later-later a b none = refl
 later-later a b (found p u) = ap (λ q. found q u) (sym (add-assoc a b p))
 
@@ -66,6 +66,18 @@ set-each i v l = sym (each-from i v 0 l) ∙ ap (λ n. eachAt n v 0 l) (omega ar
 -- an entry that is kept is not the one that is changed
 pub kept-entry : (spotOf : ℕ → Spot) (i v : ℕ) {p w : ℕ} → spotOf i ≡ found p w → (k old : ℕ) → spotOf k ≡ none → old ≡ cond (eqb i k) v old
 kept-entry spotOf i v e k old n = rw (ne-eqb i k (λ z. none-clash (sym n ∙ ap spotOf (sym z) ∙ e))) refl
+
+-- an entry that is more than a number, and spelled by one, is changed to what its bits can spell
+pub spelled-entry : {A : Type 0} (spell : A → ℕ) (of : ℕ → A) (spotOf : ℕ → Spot) (i v : ℕ) {p w : ℕ} → spotOf i ≡ found p w → v < 2 ^ w
+    → (k q u : ℕ) → spotOf k ≡ found q u → (v < 2 ^ u → spell (of v) ≡ v) → (old : A) → spell (cond (eqb i k) (of v) old) ≡ cond (eqb i k) v (spell old)
+spelled-entry spell of spotOf i v {p} {w} e l k q u s back old = go (eqb i k) refl
+  where
+    go : (b : Bool) → eqb i k ≡ b → spell (cond b (of v) old) ≡ cond b v (spell old)
+    go true z =
+        let y : found q u ≡ found p w = sym s ∙ ap spotOf (sym (eqb-true i k z)) ∙ e in
+        let n : w ≡ u = cc in
+        back (rw n at l)
+    go false z = refl
 
 -- ---- a table of places and widths, in which code looks a field up
 

@@ -1,20 +1,18 @@
 -- Walks as values: a stretch of a walk over part of a layout, whatever follows. Stretches are joined, so that a loop over counted groups has one for its invariant. Assumes nothing.
-use mathlib.Core.Path.{_≡_, refl, sym, ap, _∙_, subst, subst⁻¹}
-use mathlib.Core.Bool.{Bool, true, false, cond, _&&_}
+use mathlib.Core.Path.{_≡_, refl, sym, ap, _∙_, subst}
+use mathlib.Core.Bool.{Bool, true, false}
 use mathlib.Core.List.{List, [], _∷_, _++_, append-assoc, append-nil}
 use Prim.Native.Nat.{ℕ, _+_, _≤_, _<_, _^_}
-use native.Mathlib.Omega.{arith}
 use native.Mathlib.Nat.{mod-eq-of-lt}
-use lib.Dec.{eqb}
 use lib.Seq.{append-snoc}
-use borrow.Author.Tests.{ne-eqb, eqb-true, eqb-false}
-use Rattle.format.specs.Fmt.{Out, accepted, refused, Judge, Fmt, field, also, read, spot}
+use borrow.Author.Tests.{ne-eqb}
+use Rattle.format.specs.Fmt.{Out, accepted, refused, Fmt, also, read, spot}
 use Rattle.bits.specs.Answers.{got}
 use Rattle.format.specs.Words.{_‥_, num, deciding}
 use Rattle.layout.specs.Reading.{ranged}
 use Rattle.layout.specs.Walk.{onward}
 use Rattle.layout.specs.laws.Reading.{step-num, step-decide}
-use Rattle.layout.specs.laws.Step.{sticky, Reading, Steps, step, clean}
+use Rattle.layout.specs.laws.Step.{sticky, Reading}
 use Rattle.layout.specs.declared.walk.Walk.{Walk}
 
 -- Reading stands at f where r says, after the values us, unless r was refused.
@@ -69,36 +67,6 @@ go-refused {r = r} g vs n x = record {
   };
 }
 
--- Over content or text, which the code judges only where nothing was refused before.
-pub go-wide : {o : Out (List ℕ)} {all : Fmt} {i : ℕ} {s : List ℕ} {f : Fmt} {r g : Walk} {w : ℕ} {j : Judge} {m : List ℕ → Bool} {c q : ℕ} (us : List ℕ) (u v : ℕ) → ((h : List ℕ) → m h ≡ false)
-    → Going o all i s (field w j m f) us r → (r .code ≡ 0 → (h : List ℕ) → Steps s (r .at) w j h false u c q) → g ≡ onward w false v c q r → Going o all i s f (us ++ u ∷ []) g
-unfolding onward
-go-wide {o} {all} {i} {s} {f} {r} {g} {w} {j} {m} {c} {q} us u v e x y d = judged (eqb (r .code) 0) refl
-  where
-    kept : (h : List ℕ) → (b : Bool) → m h ≡ b → b ≡ false → Steps s (r .at) w j h false u c q → Steps s (r .at) w j h (m h) u c q
-    kept h b p z t = subst⁻¹ (λ b. Steps s (r .at) w j h b u c q) (p ∙ z) t
-
-    slimmer : (a : Bool) → cond a 0 (r .width) ≤ 32
-    slimmer true = omega arith
-    slimmer false = x .so .slim
-
-    after : (r .code ≡ 0 → ⊥) → Going o all i s f (us ++ u ∷ []) (onward w false v c q r)
-    after n = record {
-      past = x .past;
-      so = record {
-        so = x .so .so ∙ rw (ne-eqb (r .code) 0 n, ne-eqb (r .code) 0 n) refl;
-        here = refl;
-        spots = λ z. absurd (n (clean (r .code) c z .0));
-        slim = slimmer (r .seek && eqb (r .left) 0);
-        within = λ z. absurd (n (clean (r .code) c z .0));
-      };
-    }
-
-    judged : (t : Bool) → eqb (r .code) 0 ≡ t → Going o all i s f (us ++ u ∷ []) g
-    judged true t = go us u x (λ h k. subst⁻¹ (λ g. Reading o all i s f (u ∷ h) (r .at + w) (λ vs. us ++ (u ∷ vs)) g) (d ∙ ap (λ b. onward w b v c q r) (sym (e h)))
-        (step v k (kept h (m h) refl (e h) (y (eqb-true (r .code) 0 t) h))))
-    judged false t = subst⁻¹ (λ g. Going o all i s f (us ++ u ∷ []) g) d (after (eqb-false (r .code) 0 t))
-
 -- ---- stretches are joined
 
 regroup : {o : Out (List ℕ)} {all : Fmt} {i : ℕ} {s : List ℕ} {f : Fmt} {r : Walk} (us vs ws : List ℕ) → Going o all i s f ((us ++ vs) ++ ws) r → Going o all i s f (us ++ (vs ++ ws)) r
@@ -127,7 +95,7 @@ module _ {s : List ℕ} {r q : Walk} (w : ℕ) (some : 0 < w) (small : w ≤ 32)
   pub along-decide : (g : ℕ → Fmt → Fmt) → q ≡ ranged s w false lo hi 4 r → Along s (λ f. deciding w (lo ‥ hi) λ n. g n f) (g (q .v)) r (q .v ∷ []) q
   along-decide g d = record { on = λ {o} {all} {i} {f} {us} x. go us (q .v) x (λ h e. step-decide w some small reach 3 lo hi (lo ‥ hi) (λ v. refl) e d) }
 
--- what a number's walk is: its value, its place, and that nothing was refused before it
+-- what a number's walk is: its value and its place
 module _ (s : List ℕ) (r : Walk) {q : Walk} (w : ℕ) (b : Bool) (lo hi c : ℕ) (d : q ≡ ranged s w b lo hi c r) where
   pub ranged-v : q .v ≡ got s (r .at) w
   unfolding onward
@@ -136,7 +104,3 @@ module _ (s : List ℕ) (r : Walk) {q : Walk} (w : ℕ) (b : Bool) (lo hi c : �
   pub ranged-at : r .at + w < 2 ^ 64 → q .at ≡ r .at + w
   unfolding onward
   ranged-at reach = ap (λ (q : Walk). q .at) d ∙ mod-eq-of-lt reach
-
-  pub ranged-clean : q .code ≡ 0 → r .code ≡ 0
-  unfolding onward
-  ranged-clean z = clean (r .code) _ (ap (λ (q : Walk). q .code) (sym d) ∙ z) .0

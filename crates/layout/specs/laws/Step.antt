@@ -1,10 +1,10 @@
 -- One step of the walk, over any judge: where reading stands at a field, it stands behind it afterwards. Assumes nothing.
-use mathlib.Core.Path.{_≡_, refl, sym, ap, _∙_}
+use mathlib.Core.Path.{_≡_, refl, ap, _∙_}
 use mathlib.Core.Bool.{Bool, true, false, cond, _&&_, false≢true}
 use mathlib.Core.List.{List, [], _∷_}
 use Prim.Native.Nat.{ℕ, zero, suc, _+_, _-_, _*_, _%_, _≤_, _<_, _^_}
 use native.Mathlib.Omega.{arith}
-use native.Mathlib.Nat.{add-zero, add-assoc, mod-eq-of-lt}
+use native.Mathlib.Nat.{add-zero, mod-eq-of-lt}
 use lib.Dec.{leb, eqb}
 use lib.ListN.{length, take, drop, length-take, length-drop}
 use lib.Seq.{length-take-le, drop-drop}
@@ -12,10 +12,11 @@ use borrow.Author.Tests.{le-leb, leb-true, leb-false, eq-eqb, ne-eqb, eqb-true, 
 use Rattle.bits.specs.Bits.{valueOf, bitsOf, fieldAt}
 use Rattle.bits.specs.Answers.{within, got}
 use Rattle.bits.specs.laws.Bytes.{length-bits}
-use Rattle.format.specs.Fmt.{Out, accepted, refused, Fault, good, bad, orBad, Judge, Fmt, field, choice, check, also, readField, read, Spot, none, found, later, where?, spot}
+use Rattle.format.specs.Fmt.{Out, accepted, refused, Fault, good, bad, orBad, Judge, Fmt, field, choice, check, also, readField, read, Spot, later, where?, spot}
 use Rattle.format.specs.Correcting.{standing}
 use Rattle.layout.specs.Walk.{onward}
 use Rattle.format.specs.Words.{orElse, kept}
+use Rattle.format.specs.laws.Spots.{later-later}
 use Rattle.format.specs.laws.Tells.{blamed, Tells}
 use Rattle.layout.specs.declared.walk.Walk.{Walk}
 
@@ -83,10 +84,6 @@ pub record Steps (s : List ℕ) (at w : ℕ) (j : Judge) (h : List ℕ) (m : Boo
   pub into : i ≤ w
   pub same : flaw w (j h) (drop at (bitsOf s)) ≡ blamed c i
   pub holds : c ≡ 0 → u ≡ valueOf (take w (drop at (bitsOf s)))
-
-later-later : (a b : ℕ) (x : Spot) → later a (later b x) ≡ later (a + b) x
-later-later a b none = refl
-later-later a b (found p u) = ap (λ q. found q u) (sym (add-assoc a b p))
 
 -- nothing refused behind a step: nothing was before, and the step found no fault
 pub clean : (a c : ℕ) → cond (eqb a 0) c a ≡ 0 → (a ≡ 0) × (c ≡ 0)

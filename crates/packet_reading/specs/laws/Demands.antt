@@ -1,14 +1,15 @@
 -- The packet is a family of format/specs/laws/Family, whose theorems are demands 2 and 3; said here of the packet's own promises. Assumes nothing.
-use mathlib.Core.Path.{_≡_, sym, ap, _∙_, subst}
+use mathlib.Core.Path.{_≡_, refl, sym, ap, _∙_, subst}
 use mathlib.Core.List.{List, [], _∷_, _++_}
 use Prim.Native.Nat.{ℕ, _+_, _*_, _/_, _≤_, _<_, _^_}
 use native.Mathlib.Omega.{arith}
 use lib.ListN.{length, getD, take, drop}
 use Rattle.bits.specs.Bits.{Bytes, digits, bitsOf, putAt}
 use Rattle.bits.specs.laws.Bytes.{length-bits, length-bytes, bytes-below}
-use Rattle.format.specs.Fmt.{accepted, Out, refused, found}
+use Rattle.format.specs.Fmt.{accepted, found}
 use Rattle.format.specs.Message.{writeMessage}
 use Rattle.format.specs.Promises.{answered, readRecord, Writes, Corrects}
+use Rattle.format.specs.laws.Answers.{good-shown}
 use Rattle.format.specs.laws.Entries.{entries}
 use Rattle.format.specs.laws.Extent.{extent-lay, extent-laid}
 use Rattle.format.specs.laws.Family.{Family, written-front, read-written, accepted-correction, corrected-as-written}
@@ -16,10 +17,10 @@ use Rattle.format.specs.laws.Held.{Held, exactly}
 use Rattle.format.specs.laws.Runs.{run-again, run-value}
 use Rattle.format.specs.laws.Whole.{made}
 use Rattle.format.specs.laws.Zero.{Judged, Counted, only-numbered}
-use Rattle.packet_reading.specs.declared.Answer.the-variants.{Good}
+use Rattle.packet_reading.specs.declared.Answer.the-variants.{Good, Refused}
 use Rattle.packet_reading.specs.Promises.{Reads, Shows}
 use Rattle.packet_reading.specs.Changed.{changed, spotOf}
-use Rattle.packet_reading.specs.Packet.{version, packet, packets, valuesOf, recordOf, answerOf}
+use Rattle.packet_reading.specs.Packet.{version, packet, packets, valuesOf, recordOf, answerOf, outOf}
 use Rattle.packet_reading.specs.laws.Correction.{spotted, changed-values}
 use Rattle.packet_reading.specs.laws.Sound.{listed, sound}
 use Rattle.packet_reading.specs.declared.Packet.{Packet}
@@ -62,11 +63,7 @@ family = record {
 
 -- an answer that is good, with the content that is shown, is an accepted reading
 pub good : (s : List ℕ) (r : Packet) (c : List ℕ) → Reads s (Good r) → Shows s c → readRecord packets recordOf s ≡ accepted (r, c)
-good s r c a b = go (readRecord packets recordOf s) a b
-  where
-    go : (o : Out (Packet × List ℕ)) → Good r ≡ answerOf o → c ≡ answered (λ r. r .1) (λ n. []) o → o ≡ accepted (r, c)
-    go (accepted q) e d = let k : q .0 ≡ r = cc in λ i. accepted (k i, sym d i)
-    go (refused n p) e d = let z : _≡_ {A = ℕ} 0 1 = cc in absurd (omega arith)
+good s r c = good-shown Good Refused outOf (λ q. refl) (λ c. refl) (readRecord packets recordOf s)
 
 -- a packet that is written has 4 bytes before its content
 pub written-long : (r : Packet × List ℕ) (m : List ℕ) → writeMessage packets (valuesOf r) ≡ accepted m → length m ≡ 4 + length (r .1)

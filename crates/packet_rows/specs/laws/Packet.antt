@@ -7,10 +7,10 @@ use lib.IntN.{ℤ}
 use lib.ListN.{length, take, drop, length-drop}
 use lib.Seq.{length-take-le}
 use Rattle.bits.specs.Bits.{Bytes}
-use Rattle.format.specs.Fmt.{Out, accepted, refused, also}
+use Rattle.format.specs.Fmt.{accepted, also}
 use Rattle.format.specs.Promises.{readRecord}
-use Rattle.format.specs.laws.Answers.{read-code}
-use Rattle.packet_reading.specs.Packet.{greatest, packets, recordOf, answerOf, numberOf}
+use Rattle.format.specs.laws.Answers.{read-code, bad-refuses}
+use Rattle.packet_reading.specs.Packet.{greatest, packets, recordOf, outOf, numberOf}
 use Rattle.packet_reading.specs.Promises.{Reads}
 use Rattle.packet_reading.specs.laws.Demands.{good}
 use Rattle.packet_reading.specs.laws.Shown.{shown}
@@ -34,8 +34,6 @@ module _ (s : List ℕ) (r : Packet) (reads : Reads s (Good r)) where
       ap (also (λ r. rowOf (r .0) (length (r .1)))) (good s r c reads is) ∙ ap (λ n. accepted (rowOf r n)) long
 
 pub refused-numbers : (s : List ℕ) (row : List ℤ) (d : ℕ) → Reads s (Refused d) → Fills (numbersOf s) row d row
-refused-numbers s row d e = let (p, is) = go (readRecord packets recordOf s) e in row-refused row (ap (also (λ r. rowOf (r .0) (length (r .1)))) is)
-  where
-    go : (o : Out (Packet × List ℕ)) → Refused d ≡ answerOf o → (p : ℕ) × (o ≡ refused d p)
-    go (accepted q) e = let z : _≡_ {A = ℕ} 0 1 = cc in absurd (omega arith)
-    go (refused c p) e = let k : c ≡ d = cc in (p, ap (λ c. refused c p) k)
+refused-numbers s row d e =
+    let (p, is) = bad-refuses Good Refused outOf (λ q. refl) (λ c. refl) (λ r. r .0) (readRecord packets recordOf s) e in
+    row-refused row (ap (also (λ r. rowOf (r .0) (length (r .1)))) is)

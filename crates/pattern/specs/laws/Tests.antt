@@ -1,5 +1,5 @@
 -- The tests of reading: what they show where they pass, and the definition's case at each way out. Assumes nothing.
-use mathlib.Core.Bool.{Bool, true, false, false≢true, cond, not, _&&_, and-false}
+use mathlib.Core.Bool.{Bool, true, false, false≢true, cond, not, _&&_, and-false, and-eq-true-iff}
 use mathlib.Core.List.{List, [], _∷_}
 use mathlib.Core.Path.{_≡_, refl, ap, _∙_}
 use Prim.Native.Nat.{ℕ, zero, suc, _+_, _-_, _≤_, _<_}
@@ -14,7 +14,7 @@ use Rattle.format.specs.Fmt.{Out, accepted, refused, orBad, check}
 use Rattle.format.specs.Message.{fault, between}
 use Rattle.spelling.specs.Spelling.{allDigits, spelt, unhexed, closingOf}
 use Rattle.pattern.specs.Pattern.{startMark, innerMark, sameBytes, addressGood, addressPart, innerPart, hexPart, summed, lastFive, addressLike, patternLike, leadOf, aroundSo}
-use Rattle.spelling.specs.laws.Digits.{both, spelt-some}
+use Rattle.spelling.specs.laws.Digits.{spelt-some}
 
 -- ---- tests
 
@@ -24,7 +24,7 @@ same-true [] [] e = refl
 same-true [] (d ∷ t) e = absurd (false≢true e)
 same-true (c ∷ s) [] e = absurd (false≢true e)
 same-true (c ∷ s) (d ∷ t) e =
-    let x = both (eqb c d) (sameBytes s t) e in
+    let x = and-eq-true-iff (eqb c d) (sameBytes s t) .0 e in
     let p = eqb-true c d (x .0) in
     let q = same-true s t (x .1) in
     cc
@@ -67,7 +67,7 @@ led s = go (between 54 60 (length s)) refl (sameBytes (take 7 s) startMark) refl
     go : (x : Bool) → between 54 60 (length s) ≡ x → (y : Bool) → sameBytes (take 7 s) startMark ≡ y
         → (z : Bool) → sameBytes (lastFive s) (closingOf (xorOf (summed s))) ≡ z → _≡_ {A = ℕ} (cond x (cond y (cond z 0 3) 2) 1) 0 → Led s
     go true d true e true f h =
-        let w = both (leb 54 (length s)) (leb (length s) 60) d in
+        let w = and-eq-true-iff (leb 54 (length s)) (leb (length s) 60) .0 d in
         record {
           least = leb-true 54 (length s) (w .0);
           most = leb-true (length s) 60 (w .1);
@@ -131,8 +131,8 @@ never-around s p e = go (leadOf s) (patternLike s) e
 pub pattern-both : (s : List ℕ) → patternLike s ≡ true → (sameBytes (innerPart s) innerMark ≡ true) × (allDigits 16 (hexPart s) ≡ true) × (addressLike (addressPart s) ≡ true)
 unfolding patternLike
 pattern-both s e =
-    let y = both (sameBytes (innerPart s) innerMark) (allDigits 16 (hexPart s) && addressLike (addressPart s)) e in
-    let z = both (allDigits 16 (hexPart s)) (addressLike (addressPart s)) (y .1) in
+    let y = and-eq-true-iff (sameBytes (innerPart s) innerMark) (allDigits 16 (hexPart s) && addressLike (addressPart s)) .0 e in
+    let z = and-eq-true-iff (allDigits 16 (hexPart s)) (addressLike (addressPart s)) .0 (y .1) in
     (y .0, z .0, z .1)
 
 -- ---- the address
@@ -147,9 +147,9 @@ pub addressed : (ds : List ℕ) → addressLike ds ≡ true → Addressed ds
 unfolding addressLike
 addressed ds e =
     let n = spelt 0 ds in
-    let x = both (allDigits 10 ds) (not (eqb (getD ds 0 0) 48) && addressGood n) e in
-    let y = both (not (eqb (getD ds 0 0) 48)) (addressGood n) (x .1) in
-    let z = both (leb 1 n) (leb n 2_097_151) (y .1) in
+    let x = and-eq-true-iff (allDigits 10 ds) (not (eqb (getD ds 0 0) 48) && addressGood n) .0 e in
+    let y = and-eq-true-iff (not (eqb (getD ds 0 0) 48)) (addressGood n) .0 (x .1) in
+    let z = and-eq-true-iff (leb 1 n) (leb n 2_097_151) .0 (y .1) in
     record {
       figures = x .0;
       leading = eqb-false (getD ds 0 0) 48 (not-true (eqb (getD ds 0 0) 48) (y .0));

@@ -1,13 +1,14 @@
 -- A sentence's answers as numbers: what `read` and `write` give decides them, by the answer's case.
 use Prim.Native.Nat.{ℕ}
-use mathlib.Core.Path.{_≡_, refl, ap, ap₂, subst}
+use mathlib.Core.Path.{_≡_, refl, ap, subst}
 use mathlib.Core.List.{List, _∷_}
 use native.Mathlib.Omega.{arith}
 use lib.IntN.{ℤ, pos}
 use lib.ListN.{length}
 use Rattle.format.specs.Fmt.{Out, accepted, refused, also}
 use Rattle.format.specs.Message.{codeOf, leaves}
-use Rattle.sentence.specs.Sentence.{readSentence, heardOf, sentOf, Hears, Sends}
+use Rattle.format.specs.laws.Answers.{good-read, bad-refuses}
+use Rattle.sentence.specs.Sentence.{readSentence, outOf, sentOf, Hears, Sends}
 use Rattle.distress_reading.specs.declared.report.Report.{Report}
 use Rattle.sentence.specs.declared.Heard.the-variants.{Good, Refused}
 use Rattle.sentence.specs.declared.Sent.{Sent}
@@ -18,21 +19,12 @@ use Rattle.report_rows.specs.Sentence.{sentenceNumbers, sentenceInto, Se
 use Rattle.rows.specs.laws.Row.{row-refused}
 
 pub heard-numbers : (s : List ℕ) (a : ℕ) (r : Report) → Hears s (Good a r) → sentenceNumbers s ≡ accepted (pos a ∷ rowOf r)
-heard-numbers s a r e = go (readSentence s) e
-  where
-    go : (o : Out (ℕ × Report)) → Good a r ≡ heardOf o → also (λ x. pos (x .0) ∷ rowOf (x .1)) o ≡ accepted (pos a ∷ rowOf r)
-    go (accepted x) e =
-        let to : x .0 ≡ a = cc in
-        let told : x .1 ≡ r = cc in
-        ap₂ (λ (a : ℕ) (r : Report). accepted (pos a ∷ rowOf r)) to told
-    go (refused c p) e = let z : _≡_ {A = ℕ} 0 1 = cc in absurd (omega arith)
+heard-numbers s a r e = ap (also (λ x. pos (x .0) ∷ rowOf (x .1))) (good-read (λ x. Good (x .0) (x .1)) Refused outOf (λ q. refl) (λ c. refl) (readSentence s) {q = (a, r)} e)
 
 pub refused-sentence : (s : List ℕ) (row : List ℤ) (c : ℕ) → Hears s (Refused c) → Fills (sentenceNumbers s) row c row
-refused-sentence s row c e = go (readSentence s) e
-  where
-    go : (o : Out (ℕ × Report)) → Refused c ≡ heardOf o → Fills (also (λ x. pos (x .0) ∷ rowOf (x .1)) o) row c row
-    go (accepted x) e = let z : _≡_ {A = ℕ} 0 1 = cc in absurd (omega arith)
-    go (refused d p) e = let k : d ≡ c = cc in row-refused row {p = p} (ap (λ c. refused c p) k)
+refused-sentence s row c e =
+    let (p, is) = bad-refuses (λ x. Good (x .0) (x .1)) Refused outOf (λ q. refl) (λ c. refl) (λ x. x) (readSentence s) e in
+    row-refused row (ap (also (λ x. pos (x .0) ∷ rowOf (x .1))) is)
 
 module _ (buf : List ℕ) (size address : ℕ) {r r′ : Report} (told : r ≡ r′) {sent : Sent} {t : List ℕ} (sends : Sends buf address r sent t) where
   -- the call's promise, from what the answer says of each writing

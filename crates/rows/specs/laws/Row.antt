@@ -10,23 +10,20 @@ use lib.ListN.{length, take, drop, getD, set}
 use lib.Seq.{take-length, paste-suc}
 use borrow.Author.Tests.{le-leb, lt-leb}
 use Rattle.format.specs.Fmt.{Out, accepted, refused, also}
-use Rattle.format.specs.Message.{codeOf, into, leaves}
+use Rattle.format.specs.Message.{codeOf, into, leaves, refuses, accepts}
 use Rattle.format.specs.Promises.{answered}
+use Rattle.format.specs.laws.Family.{refused-stands}
 use Rattle.rows.specs.Row.{Fills}
-
--- the call's number and the row that it leaves, from its answer
-gives : (o : Out (List ℤ)) (row : List ℤ) (a : Out (List ℤ)) → into row o ≡ a → Fills o row (codeOf a) (leaves a row)
-gives o row a e = (ap codeOf (sym e), ap (λ a. leaves a row) (sym e))
 
 module _ {o : Out (List ℤ)} (row : List ℤ) where
   pub row-refused : {c p : ℕ} → o ≡ refused c p → Fills o row c row
-  row-refused {c} {p} e = gives o row (refused c p) (ap (into row) e)
+  row-refused {c} {p} e = refuses {p = p} (ap (into row) e)
 
   pub row-short : {xs : List ℤ} → o ≡ accepted xs → length row < length xs → Fills o row 6 row
-  row-short {xs} e h = gives o row (refused 6 0) (ap (into row) e ∙ rw (lt-leb (length xs) (length row) h) refl)
+  row-short {xs} e h = refuses {p = 0} (ap (into row) e ∙ rw (lt-leb (length xs) (length row) h) refl)
 
   pub row-full : {xs : List ℤ} → o ≡ accepted xs → length xs ≤ length row → Fills o row 0 (xs ++ drop (length xs) row)
-  row-full {xs} e h = gives o row (accepted (xs ++ drop (length xs) row)) (ap (into row) e ∙ rw (le-leb (length xs) (length row) h) refl)
+  row-full {xs} e h = accepts row (ap (into row) e ∙ rw (le-leb (length xs) (length row) h) refl)
 
 -- i numbers stand already, and the next one is stored
 pub row-more : (row xs : List ℤ) (i : ℕ) → i < length row → i < length xs
@@ -42,6 +39,10 @@ row-stored row xs i e h {t} p =
 -- two answers that the promise allows are equal
 pub one-filling : (o : Out (List ℤ)) (row : List ℤ) (c d : ℕ) (t u : List ℤ) → Fills o row c t → Fills o row d u → (c ≡ d) × (t ≡ u)
 one-filling o row c d t u f g = (f .0 ∙ sym (g .0), f .1 ∙ sym (g .1))
+
+-- a refusal leaves the row
+pub refused-filling : (o : Out (List ℤ)) (row : List ℤ) (c : ℕ) (t : List ℤ) → Fills o row c t → (c ≡ 0 → ⊥) → t ≡ row
+refused-filling o row c t f = refused-stands (into row o) row t c (f .0) (f .1)
 
 -- ---- a family's reading, from its own type of answer
 
@@ -69,11 +70,3 @@ module _ {R Q A : Type 0} (part : R → Q) (good : Q → A) (bad : ℕ → A) (r
 
   pub fills-refused : {c : ℕ} → a ≡ bad c → Fills (also (λ r. rowOf (part r)) o) row c row
   fills-refused {c} e = fills-answer (row-refused row (ap (also rowOf) (ap outOf e ∙ of-bad c)))
-
-  -- What the promise of a reading call says, from the family's answer: a good one gives 0 and its numbers where the row has room, a refused one its number and the row as it was.
-  module _ {c : ℕ} {t : List ℤ} (f : Fills (also (λ r. rowOf (part r)) o) row c t) where
-    pub told-row : (q : Q) → a ≡ good q → length (rowOf q) ≤ length row → (c ≡ 0) × (t ≡ rowOf q ++ drop (length (rowOf q)) row)
-    told-row q e h = one-filling (also (λ r. rowOf (part r)) o) row c 0 t (rowOf q ++ drop (length (rowOf q)) row) f (fills-good e refl (row-full {o = accepted (rowOf q)} row refl h))
-
-    pub refused-row : (d : ℕ) → a ≡ bad d → (c ≡ d) × (t ≡ row)
-    refused-row d e = one-filling (also (λ r. rowOf (part r)) o) row c d t row f (fills-refused e)

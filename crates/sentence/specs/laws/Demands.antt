@@ -1,5 +1,5 @@
 -- Demand 2 for the sentence, from the promises of its two calls alone. Assumes nothing.
-use mathlib.Core.Bool.{Bool, true, false}
+use mathlib.Core.Bool.{Bool, true, false, and-eq-true-iff}
 use mathlib.Core.List.{List, _++_}
 use mathlib.Core.Path.{_≡_, refl, sym, ap, _∙_}
 use Prim.Native.Nat.{ℕ, _≤_}
@@ -19,7 +19,6 @@ use Rattle.distress_reading.specs.Report.{reports, valuesOf, reportOf, answerOf
 use Rattle.pattern.specs.Pattern.{sentence, addressGood, aroundSo}
 use Rattle.sentence.specs.Sentence.{readSentence, writeSentence, roomFor, heardOf, sentOf, laidOver, Hears, Sends}
 use Rattle.sentence.specs.laws.Calls.{heard-fails, heardAs, heard-inside, bytewise, all-sent}
-use Rattle.spelling.specs.laws.Digits.{both}
 use Rattle.pattern.specs.laws.Parts.{sentenced, sentence-accepted}
 use Rattle.pattern.specs.laws.Tests.{never-around}
 use Rattle.distress_reading.specs.declared.report.Report.{Report}
@@ -106,7 +105,7 @@ sent-as s a r n t (d, l) = go (addressGood a) refl (writeMessage reports (values
             → SentAs s a r n t
         room false d l = let z : _≡_ {A = ℕ} 0 1 = cc in absurd (omega arith)
         room true d l =
-            let g = both (leb 1 a) (leb a 2_097_151) e in
+            let g = and-eq-true-iff (leb 1 a) (leb a 2_097_151) .0 e in
             record {
               text = sentence a bs;
               is = record { least = leb-true 1 a (g .0); most = leb-true a 2_097_151 (g .1); report = bs; wrote = f; is = refl };

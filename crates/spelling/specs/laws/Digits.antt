@@ -1,5 +1,5 @@
 -- One digit, and decimal numbers over every count of digits: spelt and read back, one way each. Assumes nothing.
-use mathlib.Core.Bool.{Bool, true, false, false≢true, _&&_, and-assoc}
+use mathlib.Core.Bool.{Bool, true, false, _&&_, and-assoc, and-eq-true-iff}
 use mathlib.Core.List.{List, [], _∷_, _++_}
 use mathlib.Core.Path.{_≡_, refl, sym, ap, _∙_}
 use Prim.Native.Nat.{ℕ, zero, suc, _+_, _*_, _-_, _/_, _%_, _^_, _≤_, _<_}
@@ -12,10 +12,6 @@ use borrow.Author.Tests.{lt-ltb, le-ltb, le-leb, lt-leb, ltb-true, ltb-false, le
 use Rattle.spelling.specs.Spelling.{figureOf, lower, digitValue, allDigits, decimal, Spells, spelt}
 
 -- ---- one digit
-
-pub both : (x y : Bool) → x && y ≡ true → (x ≡ true) × (y ≡ true)
-both true y e = (refl, e)
-both false y e = absurd (false≢true e)
 
 pub figure-low : (ten n : ℕ) → n < 10 → figureOf ten n ≡ 48 + n
 unfolding figureOf
@@ -85,8 +81,8 @@ all-append base (c ∷ s) t = rw (all-append base s t, and-assoc)
 pub digit-at : (base : ℕ) (s : List ℕ) (i : ℕ) → allDigits base s ≡ true → i < length s → digitValue (getD s i 0) < base
 unfolding allDigits
 digit-at base [] i e h = absurd (omega arith)
-digit-at base (c ∷ s) zero e h = ltb-true (digitValue c) base (both (ltb (digitValue c) base) (allDigits base s) e .0)
-digit-at base (c ∷ s) (suc i) e h = digit-at base s i (both (ltb (digitValue c) base) (allDigits base s) e .1) (omega arith)
+digit-at base (c ∷ s) zero e h = ltb-true (digitValue c) base (and-eq-true-iff (ltb (digitValue c) base) (allDigits base s) .0 e .0)
+digit-at base (c ∷ s) (suc i) e h = digit-at base s i (and-eq-true-iff (ltb (digitValue c) base) (allDigits base s) .0 e .1) (omega arith)
 
 -- ---- decimal
 
@@ -214,7 +210,7 @@ decimal-spelt (suc k) (c ∷ t) l a z =
     let x = getD s n 0 in
     let w : s ≡ i ++ (x ∷ []) = sym (take-all (suc n) s (omega arith)) ∙ take-suc s n 0 (omega arith) in
     let li : length i ≡ n = length-take-le n s (omega arith) in
-    let a2 = both (allDigits 10 i) (allDigits 10 (x ∷ [])) (sym (all-append 10 i (x ∷ [])) ∙ ap (allDigits 10) (sym w) ∙ a) in
+    let a2 = and-eq-true-iff (allDigits 10 i) (allDigits 10 (x ∷ [])) .0 (sym (all-append 10 i (x ∷ [])) ∙ ap (allDigits 10) (sym w) ∙ a) in
     let xs = digit-at 10 s n a (omega arith) in
     let v : spelt 0 s ≡ spelt 0 i * 10 + digitValue x = ap (spelt 0) w ∙ spelt-append 0 i (x ∷ []) ∙ spelt-one (spelt 0 i) x in
     let d : spelt 0 s / 10 ≡ spelt 0 i = omega (arith, v, xs) in

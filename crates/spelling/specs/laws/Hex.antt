@@ -1,5 +1,5 @@
 -- Bytes as hex digits and digits as bytes, over every count of bytes, one way each. Assumes nothing.
-use mathlib.Core.Bool.{true, _&&_}
+use mathlib.Core.Bool.{true, _&&_, and-eq-true-iff}
 use mathlib.Core.List.{List, [], _∷_}
 use mathlib.Core.Path.{_≡_, refl, ap}
 use Prim.Native.Nat.{ℕ, zero, suc, _+_, _*_, _-_, _/_, _%_, _<_}
@@ -9,7 +9,7 @@ use lib.ListN.{length}
 use borrow.Author.Tests.{lt-ltb, ltb-true}
 use Rattle.bits.specs.Bits.{Bytes}
 use Rattle.spelling.specs.Spelling.{digitValue, allDigits, hexOf, unhexed}
-use Rattle.spelling.specs.laws.Digits.{both, value-figure, figure-value}
+use Rattle.spelling.specs.laws.Digits.{value-figure, figure-value}
 
 pub hex-length : (s : List ℕ) → length (hexOf s) ≡ 2 * length s
 unfolding hexOf
@@ -48,8 +48,8 @@ hex-unhexed zero (c ∷ s) l a = absurd (omega arith)
 hex-unhexed (suc n) [] l a = absurd (omega arith)
 hex-unhexed (suc n) (c ∷ []) l a = absurd (omega arith)
 hex-unhexed (suc n) (c ∷ d ∷ s) l a =
-    let x = both (ltb (digitValue c) 16) (ltb (digitValue d) 16 && allDigits 16 s) a in
-    let y = both (ltb (digitValue d) 16) (allDigits 16 s) (x .1) in
+    let x = and-eq-true-iff (ltb (digitValue c) 16) (ltb (digitValue d) 16 && allDigits 16 s) .0 a in
+    let y = and-eq-true-iff (ltb (digitValue d) 16) (allDigits 16 s) .0 (x .1) in
     pair (ltb-true (digitValue c) 16 (x .0)) (ltb-true (digitValue d) 16 (y .0)) (hex-unhexed n s (omega arith) (y .1))
   where
     pair : digitValue c < 16 → digitValue d < 16 → Unhexed s n → Unhexed (c ∷ d ∷ s) (suc n)

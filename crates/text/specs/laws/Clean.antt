@@ -1,5 +1,5 @@
 -- No line end, no other control character and no 0x7F is in a text of either language: each byte of a text is plain or belongs to a pair of level one, by the definitions' own cases. Assumes nothing.
-use mathlib.Core.Bool.{Bool, true, false, _&&_, cond, false≢true}
+use mathlib.Core.Bool.{Bool, true, false, _&&_, cond, and-eq-true-iff}
 use mathlib.Core.List.{List, [], _∷_}
 use mathlib.Core.Path.{_≡_, refl}
 use Prim.Native.Nat.{ℕ, zero, suc, _≤_, _<_}
@@ -8,10 +8,6 @@ use borrow.Author.Tests.{leb-true}
 use lib.Dec.{leb, eqb}
 use lib.ListN.{length, getD}
 use Rattle.text.specs.Text.{plain, levelOne, english, chinese, inLanguage}
-
-both : (a b : Bool) → (a && b) ≡ true → (a ≡ true) × (b ≡ true)
-both true b h = (refl, h)
-both false b h = absurd (false≢true h)
 
 -- x is no control character: 0x20 to 0x7E, or above 0x7F
 abbrev Printing : ℕ → Type 0
@@ -23,7 +19,7 @@ Clean t = (i : ℕ) → i < length t → Printing (getD t i 0)
 
 plain-printing : (x : ℕ) → plain x ≡ true → Printing x
 plain-printing x h =
-    let p = both _ _ h in
+    let p = and-eq-true-iff _ _ .0 h in
     let low = leb-true _ x (p .0) in
     let high = leb-true x _ (p .1) in
     (omega arith, λ e. omega arith)
@@ -31,9 +27,9 @@ plain-printing x h =
 pair-printing : (x y : ℕ) → levelOne x y ≡ true → Printing x × Printing y
 unfolding levelOne
 pair-printing x y h =
-    let p = both (leb 0xB0 x && leb x 0xD7 && leb 0xA1 y) (leb y (cond (eqb x 0xD7) 0xF9 0xFE)) h in
-    let q = both (leb 0xB0 x && leb x 0xD7) (leb 0xA1 y) (p .0) in
-    let r = both (leb 0xB0 x) (leb x 0xD7) (q .0) in
+    let p = and-eq-true-iff (leb 0xB0 x && leb x 0xD7 && leb 0xA1 y) (leb y (cond (eqb x 0xD7) 0xF9 0xFE)) .0 h in
+    let q = and-eq-true-iff (leb 0xB0 x && leb x 0xD7) (leb 0xA1 y) .0 (p .0) in
+    let r = and-eq-true-iff (leb 0xB0 x) (leb x 0xD7) .0 (q .0) in
     let first = leb-true 0xB0 x (r .0) in
     let second = leb-true 0xA1 y (q .1) in
     ((omega arith, λ e. omega arith), (omega arith, λ e. omega arith))
@@ -49,7 +45,7 @@ english-clean : (t : List ℕ) → english t ≡ true → Clean t
 unfolding english
 english-clean [] h = clean-none
 english-clean (x ∷ t) h =
-    let p = both (plain x) (english t) h in
+    let p = and-eq-true-iff (plain x) (english t) .0 h in
     clean-more x t (plain-printing x (p .0)) (english-clean t (p .1))
 
 -- either way that a text goes on from its first byte
@@ -57,7 +53,7 @@ goes-on : (x y : ℕ) (t : List ℕ) (p : Bool) → plain x ≡ p → cond p (ch
     → (chinese (y ∷ t) ≡ true → Clean (y ∷ t)) → (chinese t ≡ true → Clean t) → Clean (x ∷ y ∷ t)
 goes-on x y t true e h one two = clean-more x (y ∷ t) (plain-printing x e) (one h)
 goes-on x y t false e h one two =
-    let p = both (levelOne x y) (chinese t) h in
+    let p = and-eq-true-iff (levelOne x y) (chinese t) .0 h in
     let q = pair-printing x y (p .0) in
     clean-more x (y ∷ t) (q .0) (clean-more y t (q .1) (two (p .1)))
 

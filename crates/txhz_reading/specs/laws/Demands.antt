@@ -9,8 +9,9 @@ use lib.ListN.{length, getD, take, drop}
 use Rattle.bits.specs.Bits.{Bytes}
 use Rattle.frame.specs.laws.Head.{head-numbered}
 use Rattle.frame.specs.laws.Sound.{frame-sound}
-use Rattle.format.specs.Fmt.{Out, accepted, refused, end, read, found}
+use Rattle.format.specs.Fmt.{accepted, end, read, found}
 use Rattle.format.specs.Promises.{readRecord, Writes, Corrects}
+use Rattle.format.specs.laws.Answers.{good-read}
 use Rattle.format.specs.laws.Entries.{entries, held-entries}
 use Rattle.format.specs.laws.Extent.{extent-laid}
 use Rattle.format.specs.laws.Family.{Family, one-size, written-front, read-written, corrected-as-written}
@@ -18,12 +19,12 @@ use Rattle.format.specs.laws.Held.{Held, held, exactly}
 use Rattle.format.specs.laws.Round.{read-write}
 use Rattle.format.specs.laws.Zero.{Judged, only-numbered}
 use Rattle.txhz_reading.specs.Changed.{spotOf, changed}
-use Rattle.txhz_reading.specs.Txhz.{letters, receipt, body, txhz, txhzs, times, receiptOf, valuesOf, recordOf, answerOf}
+use Rattle.txhz_reading.specs.Txhz.{letters, receipt, body, txhz, txhzs, times, receiptOf, valuesOf, recordOf, answerOf, outOf}
 use Rattle.txhz_reading.specs.Promises.{Reads}
 use Rattle.txhz_reading.specs.laws.Correction.{spotted, changed-values}
 use Rattle.txhz_reading.specs.laws.Receipts.{receipt-numbered}
 use Rattle.txhz_reading.specs.declared.Txhz.{Txhz}
-use Rattle.txhz_reading.specs.declared.Answer.the-variants.{Good}
+use Rattle.txhz_reading.specs.declared.Answer.the-variants.{Good, Refused}
 
 -- accepted values are those of their record: `$`, letters and length are as they must be
 same-values : (vs : List ℕ) → Held txhz [] vs → valuesOf (recordOf vs) ≡ vs
@@ -73,11 +74,7 @@ family = record {
 
 -- an answer that is good is an accepted reading
 pub good : (s : List ℕ) (r : Txhz) → Reads s (Good r) → readRecord txhzs recordOf s ≡ accepted r
-good s r a = go (readRecord txhzs recordOf s) a
-  where
-    go : (o : Out Txhz) → Good r ≡ answerOf o → o ≡ accepted r
-    go (accepted q) e = let k : q ≡ r = cc in ap accepted k
-    go (refused c p) e = let z : _≡_ {A = ℕ} 0 1 = cc in absurd (omega arith)
+good s r = good-read Good Refused outOf (λ q. refl) (λ c. refl) (readRecord txhzs recordOf s)
 
 -- What is written is read back as the same record.
 pub written-reads : (s : List ℕ) (r : Txhz) (t : List ℕ) → Writes txhzs s 0 t (valuesOf r) → Reads (take 35 t) (Good r)

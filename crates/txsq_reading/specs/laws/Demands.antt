@@ -12,24 +12,24 @@ use Rattle.frame.specs.Frame.{bytesFor, contentOf}
 use Rattle.frame.specs.laws.Content.{fits-content, declared-fits, content-again, content-first, content-fill, content-long, content-bytes}
 use Rattle.frame.specs.laws.Head.{head-numbered}
 use Rattle.frame.specs.laws.Sound.{frame-sound}
-use Rattle.format.specs.Fmt.{accepted, good as Fmt·good, pad, read, Out, refused, found}
+use Rattle.format.specs.Fmt.{accepted, good as Fmt·good, pad, read, found}
 use Rattle.format.specs.Words.{code, twice, ago}
+use Rattle.format.specs.laws.Answers.{good-shown}
 use Rattle.format.specs.laws.Entries.{entries, held-entries}
 use Rattle.format.specs.laws.Extent.{extent, extent-laid}
 use Rattle.format.specs.laws.Family.{Family, written-front, read-written, corrected-as-written}
-use Rattle.format.specs.laws.Held.{Held, held, exactly, told-good}
+use Rattle.format.specs.laws.Held.{Held, held, exactly, passed-twice}
 use Rattle.format.specs.laws.Round.{read-write}
-use Rattle.format.specs.laws.Tells.{twice-tells}
 use Rattle.format.specs.laws.Zero.{Judged, only-numbered, twice-numbered}
 use Rattle.format.specs.Promises.{answered, readRecord, Writes, Corrects}
 use Rattle.format.specs.Message.{writeMessage}
 use Rattle.format.specs.laws.Whole.{was, write-read-message}
 use Rattle.bits.specs.laws.Bytes.{length-bits}
 use lib.Seq.{length-take-le}
-use Rattle.txsq_reading.specs.declared.Answer.the-variants.{Good}
+use Rattle.txsq_reading.specs.declared.Answer.the-variants.{Good, Refused}
 use Rattle.txsq_reading.specs.Promises.{Reads, Shows}
 use Rattle.txsq_reading.specs.Changed.{changed, spotOf}
-use Rattle.txsq_reading.specs.Txsq.{letters, rest, body, allowed, limits, filling, txsq, txsqs, valuesOf, recordOf, answerOf}
+use Rattle.txsq_reading.specs.Txsq.{letters, rest, body, allowed, limits, filling, txsq, txsqs, valuesOf, recordOf, answerOf, outOf}
 use Rattle.txsq_reading.specs.laws.Correction.{spotted, changed-values}
 use Rattle.txsq_reading.specs.declared.Txsq.{Txsq}
 
@@ -49,12 +49,7 @@ allowed-below with most n some l = go (eqb with 0)
 
 -- a good bit length makes the frame's length
 sized : (h : List ℕ) (l : ℕ) → l < 2 ^ 16 → twice 16 4 limits 1 filling h (digits 16 l) ≡ Fmt·good → ago 6 h ≡ 18 + bytesFor l
-sized h l n e = go (limits h l) (filling h l) refl (told-good 16 l (twice 16 4 limits 1 filling h) (twice-tells 16 3 0 limits filling h) n e)
-  where
-    go : (x y : Bool) → filling h l ≡ y → _≡_ {A = ℕ} (cond x (cond y 0 1) 4) 0 → ago 6 h ≡ 18 + bytesFor l
-    go true true e z = eqb-true (ago 6 h) (18 + bytesFor l) e
-    go true false e z = absurd (omega (arith, z))
-    go false y e z = absurd (omega (arith, z))
+sized h l n e = eqb-true (ago 6 h) (18 + bytesFor l) (passed-twice 16 3 0 limits filling h l n e .1)
 
 -- accepted values, entry by entry
 pub listed : (vs : List ℕ) → Held txsq [] vs → entries 0 13 vs ≡ vs
@@ -132,11 +127,7 @@ family = record {
 
 -- an answer that is good, with the content that is shown, is an accepted reading
 pub good : (s : List ℕ) (r : Txsq) (c : List ℕ) → Reads s (Good r) → Shows s c → readRecord txsqs recordOf s ≡ accepted (r, c)
-good s r c a b = go (readRecord txsqs recordOf s) a b
-  where
-    go : (o : Out (Txsq × List ℕ)) → Good r ≡ answerOf o → c ≡ answered (λ r. r .1) (λ n. []) o → o ≡ accepted (r, c)
-    go (accepted q) e d = let k : q .0 ≡ r = cc in λ i. accepted (k i, sym d i)
-    go (refused n p) e d = let z : _≡_ {A = ℕ} 0 1 = cc in absurd (omega arith)
+good s r c = good-shown Good Refused outOf (λ q. refl) (λ c. refl) (readRecord txsqs recordOf s)
 
 -- a frame that is written has 18 bytes besides its content
 written-long : (r : Txsq × List ℕ) (m : List ℕ) → writeMessage txsqs (valuesOf r) ≡ accepted m → length m ≡ 18 + length (r .1)

@@ -1,10 +1,10 @@
 -- The frame TXXX is a family of format/specs/laws/Family, whose theorems are demands 2 and 3; said here of the frame's own promises. Assumes nothing.
 use mathlib.Core.Path.{_≡_, refl, sym, ap, _∙_, subst}
-use mathlib.Core.Bool.{Bool, true, false, cond}
+use mathlib.Core.Bool.{Bool}
 use mathlib.Core.List.{List, [], _∷_, _++_}
 use Prim.Native.Nat.{ℕ, _+_, _*_, _≤_, _<_, _^_, _-_}
 use native.Mathlib.Omega.{arith}
-use lib.Dec.{leb, lit<}
+use lib.Dec.{lit<}
 use lib.ListN.{length, getD, take, drop}
 use borrow.Author.Tests.{leb-true, eqb-true}
 use Rattle.bits.specs.Bits.{Bytes, digits, bitsOf}
@@ -12,24 +12,24 @@ use Rattle.frame.specs.Frame.{bytesFor, contentOf}
 use Rattle.frame.specs.laws.Content.{fits-content, declared-fits, content-again, content-first, content-fill, content-long, content-bytes}
 use Rattle.frame.specs.laws.Head.{head-numbered}
 use Rattle.frame.specs.laws.Sound.{frame-sound}
-use Rattle.format.specs.Fmt.{accepted, good as Fmt·good, pad, read, Out, refused, found}
+use Rattle.format.specs.Fmt.{accepted, good as Fmt·good, pad, read, found}
 use Rattle.format.specs.Words.{code, twice, ago}
+use Rattle.format.specs.laws.Answers.{good-shown}
 use Rattle.format.specs.laws.Entries.{entries, held-entries}
 use Rattle.format.specs.laws.Extent.{extent, extent-laid}
 use Rattle.format.specs.laws.Family.{Family, written-front, read-written, corrected-as-written}
-use Rattle.format.specs.laws.Held.{Held, held, exactly, told-good}
+use Rattle.format.specs.laws.Held.{Held, held, exactly, passed-twice}
 use Rattle.format.specs.laws.Round.{read-write}
-use Rattle.format.specs.laws.Tells.{twice-tells}
 use Rattle.format.specs.laws.Zero.{Judged, only-numbered, twice-numbered}
 use Rattle.format.specs.Promises.{answered, readRecord, Writes, Corrects}
 use Rattle.format.specs.Message.{readMessage, writeMessage}
 use Rattle.format.specs.laws.Whole.{was, made, write-read-message}
 use Rattle.bits.specs.laws.Bytes.{length-bits}
 use lib.Seq.{length-take-le}
-use Rattle.txxx_reading.specs.declared.Answer.the-variants.{Good}
+use Rattle.txxx_reading.specs.declared.Answer.the-variants.{Good, Refused}
 use Rattle.txxx_reading.specs.Promises.{Reads, Shows}
 use Rattle.txxx_reading.specs.Changed.{changed, spotOf}
-use Rattle.txxx_reading.specs.Txxx.{letters, rest, body, limits, filling, txxx, txxxs, valuesOf, recordOf, answerOf}
+use Rattle.txxx_reading.specs.Txxx.{letters, rest, body, limits, filling, txxx, txxxs, valuesOf, recordOf, answerOf, outOf}
 use Rattle.txxx_reading.specs.laws.Correction.{spotted, changed-values}
 use Rattle.txxx_reading.specs.declared.Txxx.{Txxx}
 
@@ -42,12 +42,7 @@ numbers =
 
 -- a good bit length is at most 1,680 and makes the frame's length
 sized : (h : List ℕ) (l : ℕ) → l < 2 ^ 16 → twice 16 4 limits 1 filling h (digits 16 l) ≡ Fmt·good → (l ≤ 1_680) × (ago 5 h ≡ 20 + bytesFor l)
-sized h l n e = go (leb l 1_680) (filling h l) refl refl (told-good 16 l (twice 16 4 limits 1 filling h) (twice-tells 16 3 0 limits filling h) n e)
-  where
-    go : (x y : Bool) → leb l 1_680 ≡ x → filling h l ≡ y → _≡_ {A = ℕ} (cond x (cond y 0 1) 4) 0 → (l ≤ 1_680) × (ago 5 h ≡ 20 + bytesFor l)
-    go true true ex ey z = (leb-true l 1_680 ex, eqb-true (ago 5 h) (20 + bytesFor l) ey)
-    go true false ex ey z = absurd (omega (arith, z))
-    go false y ex ey z = absurd (omega (arith, z))
+sized h l n e = let (most, long) = passed-twice 16 3 0 limits filling h l n e in (leb-true l 1_680 most, eqb-true (ago 5 h) (20 + bytesFor l) long)
 
 -- accepted values, entry by entry
 pub listed : (vs : List ℕ) → Held txxx [] vs → entries 0 12 vs ≡ vs
@@ -131,11 +126,7 @@ read-long s vs e =
 
 -- an answer that is good, with the content that is shown, is an accepted reading
 pub good : (s : List ℕ) (r : Txxx) (c : List ℕ) → Reads s (Good r) → Shows s c → readRecord txxxs recordOf s ≡ accepted (r, c)
-good s r c a b = go (readRecord txxxs recordOf s) a b
-  where
-    go : (o : Out (Txxx × List ℕ)) → Good r ≡ answerOf o → c ≡ answered (λ r. r .1) (λ n. []) o → o ≡ accepted (r, c)
-    go (accepted q) e d = let k : q .0 ≡ r = cc in λ i. accepted (k i, sym d i)
-    go (refused n p) e d = let z : _≡_ {A = ℕ} 0 1 = cc in absurd (omega arith)
+good s r c = good-shown Good Refused outOf (λ q. refl) (λ c. refl) (readRecord txxxs recordOf s)
 
 -- a frame that is written has 20 bytes besides its content
 written-long : (r : Txxx × List ℕ) (m : List ℕ) → writeMessage txxxs (valuesOf r) ≡ accepted m → length m ≡ 20 + length (r .1)

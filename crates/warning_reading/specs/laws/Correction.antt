@@ -1,20 +1,18 @@
 -- A warning with one field changed has the values with that one changed, and where its fields stand is a table by their numbers. Assumes nothing.
 use mathlib.Core.Path.{_≡_, refl, sym, ap, _∙_}
-use mathlib.Core.Bool.{Bool, true, false, cond}
+use mathlib.Core.Bool.{cond}
 use mathlib.Core.List.{List, [], _∷_}
 use Prim.Native.Nat.{ℕ, suc, _≤_, _<_, _^_}
-use borrow.Author.Tests.{eqb-true}
 use lib.Dec.{eqb}
 use lib.ListN.{length, getD, set}
 use Rattle.bodies.specs.Bodies.{Kind, cyclone, gale, waves, fog, surge, typeOf, bodyKind, bodyValues}
 use Rattle.bodies.specs.declared.Body.{Body}
 use Rattle.bodies.specs.declared.Body.the-variants.{Cyclone, Gale, Waves, Fog, Surge}
 use Rattle.format.specs.Correcting.{standing, ofKind}
-use Rattle.format.specs.Fmt.{Spot, none, found, spot}
+use Rattle.format.specs.Fmt.{none, found, spot}
 use Rattle.format.specs.Words.{wide}
-use Rattle.format.specs.laws.Spots.{spotsAlong, spot-along, rows, slim, eachAt, set-each, kept-entry, picks, ofKinds, named-stands, named-slim}
+use Rattle.format.specs.laws.Spots.{spotsAlong, spot-along, rows, slim, eachAt, set-each, kept-entry, spelled-entry, picks, ofKinds, named-stands, named-slim}
 use Rattle.time.specs.Time.{spellTime, timeOf}
-use Rattle.time.specs.declared.Time.{Time}
 use Rattle.time.specs.laws.Spelling.{spell-time}
 use Rattle.warning_reading.specs.Changed.{spots, spotOf, fields, changedBody, changed}
 use Rattle.warning_reading.specs.Warning.{timeAt, hoursAt, warning, warnings, valuesAs, valuesOf}
@@ -69,11 +67,6 @@ spotted r i = spot-along (warnings .fmt) (valuesOf r) i ∙ ap (λ t. getD t i n
 
 -- ---- the changed record
 
--- a changed time is spelled by its new value
-spelled : (b : Bool) (v : ℕ) (x : Time) → (b ≡ true → v < 2 ^ 20) → spellTime (cond b (timeOf v) x) ≡ cond b v (spellTime x)
-spelled true v x l = spell-time v (l refl)
-spelled false v x l = refl
-
 -- The changed record has the changed list of values.
 pub changed-values : (r : Warning) (i v p w : ℕ) → spotOf (bodyKind (r .body)) i ≡ found p w → v < 2 ^ w → valuesOf (changed i v r) ≡ set (valuesOf r) i v
 unfolding valuesAs changed eachAt
@@ -81,13 +74,6 @@ changed-values r i v p w e l = go (r .body) e ∙ sym (set-each i v (valuesOf r)
   where
     f : ℕ → ℕ → ℕ
     f k x = cond (eqb i k) v x
-
-    -- the time, which stands at k
-    timed : (spotAt : ℕ → Spot) (k : ℕ) → spotAt i ≡ found p w → spotAt k ≡ found 156 20 → spellTime (cond (eqb i k) (timeOf v) (r .time)) ≡ f k (spellTime (r .time))
-    timed spotAt k e s = spelled (eqb i k) v (r .time) (λ z.
-        let y : found 156 20 ≡ found p w = sym s ∙ ap spotAt (sym (eqb-true i k z)) ∙ e in
-        let n : w ≡ 20 = cc in
-        rw n at l)
 
     -- the values in front of a body
     head : ℕ → List ℕ → List ℕ
@@ -102,7 +88,7 @@ changed-values r i v p w e l = go (r .body) e ∙ sym (set-each i v (valuesOf r)
     -- and behind it: time, hours and fill, from number k on
     tailed : (t : Kind) (k : ℕ) → spotOf t i ≡ found p w → spotOf t k ≡ found 156 20 → spotOf t (suc (suc k)) ≡ none
         → spellTime (cond (eqb i k) (timeOf v) (r .time)) ∷ f (suc k) (r .hours) ∷ 0 ∷ [] ≡ f k (spellTime (r .time)) ∷ f (suc k) (r .hours) ∷ f (suc (suc k)) 0 ∷ []
-    tailed t k e s z = let time = timed (spotOf t) k e s in λ y. time y ∷ f (suc k) (r .hours) ∷ kept-entry (spotOf t) i v e (suc (suc k)) 0 z y ∷ []
+    tailed t k e s z = let time = spelled-entry spellTime timeOf (spotOf t) i v e l k 156 20 s (spell-time v) (r .time) in λ y. time y ∷ f (suc k) (r .hours) ∷ kept-entry (spotOf t) i v e (suc (suc k)) 0 z y ∷ []
 
     go : (b : Body) → spotOf (bodyKind b) i ≡ found p w
         → 8 ∷ f 1 (r .repeat) ∷ f 2 (r .source) ∷ 0 ∷ 412 ∷ 3 ∷ typeOf (bodyKind (changedBody i v b)) ∷ f 7 (r .longitude) ∷ f 8 (r .latitude)

@@ -15,10 +15,11 @@ use Rattle.bodies.specs.declared.Body.{Body}
 use Rattle.bodies.specs.declared.Body.the-variants.{Cyclone, Gale, Waves, Fog, Surge}
 use Rattle.bodies.specs.laws.Walking.{body-numbered}
 use Rattle.format.specs.Correcting.{standing, ofKind}
-use Rattle.format.specs.Fmt.{Out, accepted, refused, end, found, spot}
+use Rattle.format.specs.Fmt.{accepted, end, found, spot}
 use Rattle.format.specs.Message.{codeOf, leaves, readMessage}
 use Rattle.format.specs.Promises.{readRecord, Writes, Corrects}
 use Rattle.format.specs.Words.{_‥_, wide, num, fill}
+use Rattle.format.specs.laws.Answers.{good-read}
 use Rattle.format.specs.laws.Entries.{entries, entries-behind}
 use Rattle.format.specs.laws.Family.{Family, record-values, one-size, written-front, read-written, corrected-as-written, correction-none}
 use Rattle.format.specs.laws.Held.{Held, exactly, ranged}
@@ -29,12 +30,12 @@ use Rattle.time.specs.laws.Spelling.{time-spell, spell-time}
 use Rattle.time.specs.laws.Walking.{time-numbered}
 use Rattle.warning_reading.specs.Changed.{spotOf, fields, fieldOf, changed}
 use Rattle.warning_reading.specs.Promises.{Reads}
-use Rattle.warning_reading.specs.Warning.{tail, warning, warnings, valuesAs, valuesOf, recordAs, recordOf, answerOf}
+use Rattle.warning_reading.specs.Warning.{tail, warning, warnings, valuesAs, valuesOf, recordAs, recordOf, answerOf, outOf}
 use Rattle.warning_reading.specs.laws.Correction.{places, widths, kinds, stands, spotted, changed-values}
 use Rattle.warning_reading.specs.laws.Sound.{front, bytes, type-at, sound}
 use Rattle.warning_reading.specs.laws.Told.{recorded, kind-type}
 use Rattle.warning_reading.specs.declared.Warning.{Warning}
-use Rattle.warning_reading.specs.declared.Answer.the-variants.{Good}
+use Rattle.warning_reading.specs.declared.Answer.the-variants.{Good, Refused}
 
 -- ---- records and values are one another's
 
@@ -216,11 +217,7 @@ module _ (s : List ℕ) {k : ℕ} (is : k ≡ got s 56 4) (n : ℕ) {p w : ℕ} 
 
 -- an answer that is good is an accepted reading
 pub good : (s : List ℕ) (r : Warning) → Reads s (Good r) → readRecord warnings recordOf s ≡ accepted r
-good s r a = go (readRecord warnings recordOf s) a
-  where
-    go : (o : Out Warning) → Good r ≡ answerOf o → o ≡ accepted r
-    go (accepted q) e = let k : q ≡ r = cc in ap accepted k
-    go (refused c p) e = let z : _≡_ {A = ℕ} 0 1 = cc in absurd (omega arith)
+good s r = good-read Good Refused outOf (λ q. refl) (λ c. refl) (readRecord warnings recordOf s)
 
 -- What is written is read back as the same record.
 pub written-reads : (s : List ℕ) (r : Warning) (t : List ℕ) → Writes warnings s 0 t (valuesOf r) → Reads (take 23 t) (Good r)
