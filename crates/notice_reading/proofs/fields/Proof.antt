@@ -1,12 +1,15 @@
 -- `fields` is the walk over the head, the areas and the text, joined, behind the size's test.
 use Prim.Native.Nat.{_+_, _-_}
-use mathlib.Core.Path.{sym, ap, _∙_}
+use mathlib.Core.Path.{sym, ap, _∙_, subst⁻¹}
 use mathlib.Core.List.{_++_}
 use native.Mathlib.Omega.{arith}
 use borrow.Author.Needs.{needs}
 use Rattle.bits.specs.Bits.{bytesAt}
 use Rattle.layout.specs.laws.Walked.{same-values}
+use Rattle.layout.specs.laws.Along.{Along}
+use Rattle.notice_areas.specs.Areas.{areas}
 use Rattle.notice_areas.specs.Standing.{areasAt}
+use Rattle.notice_areas.specs.laws.Walking.{areas-along}
 use Rattle.notice_reading.specs.Record.{headed, texted}
 use Rattle.notice_reading.specs.laws.Told.{sizes-small, read-on, fields-not}
 use borrow.Author.Needs.{needs}
@@ -45,8 +48,8 @@ returns-2 c = let e = c .before in
     let a = l .before .before .args in
     let s = a .s .now in
     let head = h .head .ensures (a .english) in
-    let areas = w .walk .ensures (head .few) (omega (arith, head .here)) in
-    let going = areas .along .on (head .going) in
+    let front = h .head .result in
+    let going = subst⁻¹ (Along s (areas (front .notice .count)) (λ f. f) (front .walk) (areasAt s (front .notice .count) (front .walk .at))) (w .walk .ensures) (areas-along s (front .notice .count) (front .walk) (omega (arith, head .few, head .here))) .on (head .going) in
     let closed = e .close .ensures in
     let all = same-values (ap (λ p. headed (h .head .result .notice) (areasAt s (h .head .result .notice .count) p ++ texted (bytesAt s (w .walk .result .at) (e .close .result .text)))) (head .here)) (closed .on going) in
     record {
