@@ -1,9 +1,10 @@
 // Writing a notice's areas from a row of numbers (paper 01, "Notice and packet"): judged in bit order, then put.
 ghost use mathlib.Core.Path.{_≡_};
-ghost use Prim.Native.Nat.{_≤_};
+ghost use Prim.Native.Nat.{_+_, _*_, _≤_};
 ghost use lib.ListN.{getD};
 ghost use Rattle.areas_making.specs.Making.{pointsJudged, areaJudged, areasJudged, pointsPut, areaPut, areasPut};
-ghost use Rattle.notice_areas.specs.Standing.{front};
+ghost use Rattle.notice_areas.specs.Row.{longMost};
+ghost use Rattle.notice_areas.specs.Standing.{front, areaMost};
 ghost use Rattle.notice_parts.specs.Steps.{bare};
 use layout::walk::Walk;
 use notice_areas::CIRCLE;
@@ -59,7 +60,7 @@ pub fn judge(row: &[u32], count: u8) -> Stepped
 
 // The area whose numbers begin with k.
 fn judge_area(from: Walk, row: &[u32], k: usize) -> Stepped
-    requires { ⌜ k ≤ 10_000 ⌝ }
+    requires { ⌜ k ≤ 255 * longMost ⌝ }
     ensures { λ r. ⌜ r ≡ areaJudged (now (row .entry)) k from ⌝ }
 {
     let kind = entry(row, k);
@@ -92,7 +93,7 @@ fn judge_area(from: Walk, row: &[u32], k: usize) -> Stepped
 
 // Latitude and longitude of n points.
 fn judge_points(from: Walk, row: &[u32], k: usize, n: usize) -> Walk
-    requires { ⌜ (n ≤ 15) × (k ≤ 20_000) ⌝ }
+    requires { ⌜ (n ≤ 15) × (k ≤ 256 * longMost) ⌝ }
     ensures { λ r. ⌜ r ≡ pointsJudged (now (row .entry)) n k from ⌝ }
 {
     let mut w = from;
@@ -127,7 +128,7 @@ pub fn put(buf: &mut [u8], row: &[u32], count: u8) -> usize
 
 // The area whose numbers begin with k.
 fn put_area(buf: &mut [u8], at: usize, row: &[u32], k: usize) -> Laid
-    requires { ⌜ (k ≤ 10_000) × (at ≤ 200_000) ⌝ }
+    requires { ⌜ (k ≤ 255 * longMost) × (at ≤ front + 255 * areaMost) ⌝ }
     ensures { λ r. ⌜ (r, now (buf .exit)) ≡ areaPut (now (row .entry)) k at (now (buf .entry)) ⌝ }
 {
     let kind = entry(row, k);
@@ -161,7 +162,7 @@ fn put_area(buf: &mut [u8], at: usize, row: &[u32], k: usize) -> Laid
 
 // Latitude and longitude of n points.
 fn put_points(buf: &mut [u8], at: usize, row: &[u32], k: usize, n: usize)
-    requires { ⌜ (n ≤ 15) × (k ≤ 20_000) × (at ≤ 300_000) ⌝ }
+    requires { ⌜ (n ≤ 15) × (k ≤ 256 * longMost) × (at ≤ front + 256 * areaMost) ⌝ }
     ensures { λ _. ⌜ now (buf .exit) ≡ pointsPut (now (row .entry)) n k at (now (buf .entry)) ⌝ }
 {
     let mut j: usize = 0;

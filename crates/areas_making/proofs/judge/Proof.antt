@@ -5,6 +5,7 @@ use mathlib.Core.Bool.{cond}
 use borrow.Author.Tests.{eq-eqb, ne-eqb}
 use native.Mathlib.Omega.{arith}
 use borrow.Author.Needs.{needs}
+use Rattle.notice_areas.specs.Row.{longMost}
 use Rattle.notice_areas.specs.Standing.{front}
 use Rattle.notice_parts.specs.Steps.{bare}
 use Rattle.areas_making.specs.Making.{areasJudged}
@@ -13,7 +14,7 @@ use Rattle.areas_making.proofs.judge.Statement.{statement}
 use Rattle.areas_making.proofs.judge.Tie as tie
 
 abbrev Inv-loop : tie.InvT-loop
-Inv-loop row count most w₀ k₀ i₀ w k i = (i ≤ count) × (areasJudged row count 0 (bare front 0 0) ≡ areasJudged row (count - i) k w) × (k ≤ i * 32)
+Inv-loop row count most w₀ k₀ i₀ w k i = (i ≤ count) × (areasJudged row count 0 (bare front 0 0) ≡ areasJudged row (count - i) k w) × (k ≤ i * longMost)
 
 abbrev μ-loop : tie.MeasureT-loop
 μ-loop row count most w₀ k₀ i₀ w k i = count - i

@@ -3,6 +3,7 @@ use Prim.Native.Nat.{_+_, _-_, _*_, _≤_}
 use mathlib.Core.Path.{_≡_, refl, sym, ap, _∙_}
 use native.Mathlib.Omega.{arith}
 use lib.ListN.{length}
+use Rattle.notice_areas.specs.Row.{longMost}
 use Rattle.notice_areas.specs.Standing.{front, areaMost}
 use Rattle.areas_making.specs.Making.{areasPut}
 use Rattle.areas_making.specs.laws.Putting.{areas-turn, area-small}
@@ -10,7 +11,7 @@ use Rattle.areas_making.proofs.put.Statement.{statement}
 use Rattle.areas_making.proofs.put.Tie as tie
 
 abbrev Inv-loop : tie.InvT-loop
-Inv-loop buf₀ row count most at₀ k₀ i₀ buf at k i = (i ≤ count) × (length buf ≡ length buf₀) × (areasPut row count 0 front buf₀ ≡ areasPut row (count - i) k at buf) × (at ≤ front + i * areaMost) × (k ≤ i * 32)
+Inv-loop buf₀ row count most at₀ k₀ i₀ buf at k i = (i ≤ count) × (length buf ≡ length buf₀) × (areasPut row count 0 front buf₀ ≡ areasPut row (count - i) k at buf) × (at ≤ front + i * areaMost) × (k ≤ i * longMost)
 
 abbrev μ-loop : tie.MeasureT-loop
 μ-loop buf₀ row count most at₀ k₀ i₀ buf at k i = count - i

@@ -18,7 +18,7 @@ use Rattle.notice_parts.specs.Parts.{latitudeBits, longitudeBits, pointBits}
 use Rattle.notice_parts.specs.Steps.{latitudeJudged, longitudeJudged}
 use Rattle.notice_parts.specs.laws.Walking.{latitude-judged, longitude-judged}
 use Rattle.notice_areas.specs.Areas.{Kind, sea, circle, several, kindOf, points, inside, areas}
-use Rattle.notice_areas.specs.Row.{first, areaLong, areasLong, areasTold}
+use Rattle.notice_areas.specs.Row.{first, longMost, areaLong, areasLong, areasTold}
 use Rattle.notice_areas.specs.Standing.{areaMost}
 use Rattle.notice_areas.specs.laws.Row.{areaFrom, points-front, sea-from, circle-from, several-from, sea-long, circle-long, several-long, long-front, told-front}
 use Rattle.areas_making.specs.Making.{pointsJudged, insideJudged, areaJudged, areasJudged}
@@ -224,7 +224,7 @@ unfolding areasJudged
 areas-turn row n k r e d = ap (λ m. areasJudged row m k r) e ∙ sym (ap (λ (a : Stepped). cond (eqb (a .walk .code) 0) (areasJudged row n (a .next) (a .walk)) a) d)
 
 -- an area takes no more numbers than one of 15 points, whatever the row
-inside-small : (j : Kind) (row : List ℕ) (k : ℕ) (w : Walk) → insideJudged j row k w .next ≤ k + 32
+inside-small : (j : Kind) (row : List ℕ) (k : ℕ) (w : Walk) → insideJudged j row k w .next ≤ k + longMost
 unfolding insideJudged
 inside-small sea row k w = omega arith
 inside-small circle row k w = omega arith
@@ -236,9 +236,9 @@ inside-small (several l) row k w = go (eqb (c .code) 0) refl
     c : Walk
     c = valued 4 n l 15 w
 
-    go : (t : Bool) → eqb (c .code) 0 ≡ t → cond {A = Stepped} t (record { walk = pointsJudged row n (k + 2) c; next = k + 2 + n * 2 }) (record { walk = c; next = k + 2 }) .next ≤ k + 32
+    go : (t : Bool) → eqb (c .code) 0 ≡ t → cond {A = Stepped} t (record { walk = pointsJudged row n (k + 2) c; next = k + 2 + n * 2 }) (record { walk = c; next = k + 2 }) .next ≤ k + longMost
     go true t = omega (arith, valued-between w 4 n l 15 refl (eqb-true (c .code) 0 t) .1)
     go false t = omega arith
 
-pub area-small : (row : List ℕ) (k : ℕ) (r : Walk) {a : Stepped} → a ≡ areaJudged row k r → a .next ≤ k + 32
-area-small row k r d = subst⁻¹ (λ (a : Stepped). a .next ≤ k + 32) d (inside-small (kindOf (getD row k 0)) row k (valued 3 (getD row k 0) 0 4 r))
+pub area-small : (row : List ℕ) (k : ℕ) (r : Walk) {a : Stepped} → a ≡ areaJudged row k r → a .next ≤ k + longMost
+area-small row k r d = subst⁻¹ (λ (a : Stepped). a .next ≤ k + longMost) d (inside-small (kindOf (getD row k 0)) row k (valued 3 (getD row k 0) 0 4 r))

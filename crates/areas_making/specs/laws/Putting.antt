@@ -15,7 +15,7 @@ use Rattle.format.specs.laws.Putting.{Putting, put-number}
 use Rattle.format.specs.laws.Round.{written}
 use Rattle.layout.specs.laws.Loops.{PutsAlong, puts-then, puts-under}
 use Rattle.notice_areas.specs.Areas.{Kind, sea, circle, several, kindOf, points, inside, areas}
-use Rattle.notice_areas.specs.Row.{first, areaLong, areasLong, areasTold}
+use Rattle.notice_areas.specs.Row.{first, longMost, areaLong, areasLong, areasTold}
 use Rattle.notice_areas.specs.Standing.{areaMost}
 use Rattle.notice_areas.specs.laws.Row.{areaFrom, points-front, sea-from, circle-from, several-from, sea-long, circle-long, several-long, told-front}
 use Rattle.notice_parts.specs.Parts.{latitudeBits, longitudeBits, pointBits}
@@ -168,14 +168,14 @@ unfolding areasPut
 areas-turn row n k at t e d = ap (λ m. areasPut row m k at t) e ∙ sym (ap (λ (a : Put). areasPut row n (a .0 .next) (a .0 .at) (a .1)) d)
 
 -- an area goes no further than 15 points do, whatever the row
-inside-small : (j : Kind) (row : List ℕ) (k at : ℕ) (u : List ℕ) → let a = insidePut j row k at u in (a .0 .at ≤ at + areaMost) × (a .0 .next ≤ k + 32)
+inside-small : (j : Kind) (row : List ℕ) (k at : ℕ) (u : List ℕ) → let a = insidePut j row k at u in (a .0 .at ≤ at + areaMost) × (a .0 .next ≤ k + longMost)
 unfolding insidePut
 inside-small sea row k at u = (omega arith, omega arith)
 inside-small circle row k at u = (omega arith, omega arith)
 inside-small (several l) row k at u = (omega arith, omega arith)
 
-pub area-small : (row : List ℕ) (k at : ℕ) (t : List ℕ) {a : Put} → a ≡ areaPut row k at t → (a .0 .at ≤ at + areaMost) × (a .0 .next ≤ k + 32)
-area-small row k at t d = subst⁻¹ (λ (a : Put). (a .0 .at ≤ at + areaMost) × (a .0 .next ≤ k + 32)) d (inside-small (kindOf (getD row k 0)) row k at (putIn t at 3 (getD row k 0)))
+pub area-small : (row : List ℕ) (k at : ℕ) (t : List ℕ) {a : Put} → a ≡ areaPut row k at t → (a .0 .at ≤ at + areaMost) × (a .0 .next ≤ k + longMost)
+area-small row k at t d = subst⁻¹ (λ (a : Put). (a .0 .at ≤ at + areaMost) × (a .0 .next ≤ k + longMost)) d (inside-small (kindOf (getD row k 0)) row k at (putIn t at 3 (getD row k 0)))
 
 pub areas-near : (row : List ℕ) (n k at : ℕ) (t : List ℕ) → areasPut row n k at t .0 ≤ at + n * areaMost
 unfolding areasPut

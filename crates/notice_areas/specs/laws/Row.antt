@@ -82,10 +82,10 @@ exact-told n row = ap (areasLong n) (sym (append-nil (areasTold n row))) ∙ lon
 -- ---- the numbers from k on, by the kind of the area that begins there
 
 module _ (row : List ℕ) (k : ℕ) where
-  pub kind-at : getD (drop k row) 0 0 ≡ getD row k 0
+  kind-at : getD (drop k row) 0 0 ≡ getD row k 0
   kind-at = getD-drop k row 0 0 ∙ ap (λ n. getD row n 0) (omega arith)
 
-  pub next-at : getD (drop k row) 1 0 ≡ getD row (k + 1) 0
+  next-at : getD (drop k row) 1 0 ≡ getD row (k + 1) 0
   next-at = getD-drop k row 1 0
 
   pair-from : first 2 (drop k row) ≡ getD row k 0 ∷ getD row (k + 1) 0 ∷ []

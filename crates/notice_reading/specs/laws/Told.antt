@@ -97,7 +97,7 @@ sizes-small s = go (leb 8 (length s)) (leb (length s) joined) refl
     go true false e z = absurd (omega (arith, z))
     go false false e z = absurd (omega (arith, z))
 
-pub read-on : (english : Bool) (s : List ℕ) → sizes s ≡ 0 → readMessage (notices english) s ≡ fieldsRead english s
+read-on : (english : Bool) (s : List ℕ) → sizes s ≡ 0 → readMessage (notices english) s ≡ fieldsRead english s
 unfolding notices
 read-on english s z = read-first (notices english) s refl ∙ ap (λ c. check (fault c) 0 (fieldsRead english s)) z
 
