@@ -12,7 +12,7 @@ use Rattle.format.specs.Fmt.{Fmt}
 use Rattle.format.specs.Words.{_‥_, _▹_, num, deciding}
 use Rattle.layout.specs.Judging.{valued}
 use Rattle.layout.specs.laws.Judging.{judge-num, judge-deciding, valued-between}
-use Rattle.layout.specs.laws.Loops.{JudgesAlong, going, judges-refused, judges-then, judges-under, step-near}
+use Rattle.layout.specs.laws.Loops.{JudgesAlong, going, judges-stay, judges-refused, judges-then, judges-under, step-near}
 use Rattle.layout.specs.declared.walk.Walk.{Walk}
 use Rattle.notice_parts.specs.Parts.{latitudeBits, longitudeBits, pointBits}
 use Rattle.notice_parts.specs.Steps.{latitudeJudged, longitudeJudged}
@@ -61,7 +61,7 @@ record PointsAre (row : List ℕ) (n k : ℕ) (r₀ r : Walk) : Type 0 where
 
 points-are : (row : List ℕ) (n k : ℕ) (r : Walk) → r .at + n * pointBits < 2 ^ 64 → PointsAre row n k r (pointsJudged row n k r)
 unfolding points first pointsJudged
-points-are row zero k r reach = record { along = record { on = λ x. x }; near = omega arith }
+points-are row zero k r reach = record { along = judges-stay; near = omega arith }
 points-are row (suc n) k r reach =
     let a = getD row k 0 in
     let b = getD row (k + 1) 0 in
@@ -172,7 +172,7 @@ pub record AreasAre (row : List ℕ) (n k : ℕ) (r₀ : Walk) (r : Stepped) : T
 
 pub areas-are : (row : List ℕ) (n k : ℕ) (r : Walk) → r .at + n * areaMost < 2 ^ 64 → AreasAre row n k r (areasJudged row n k r)
 unfolding areas first areasLong areasJudged
-areas-are row zero k r reach = record { along = record { on = λ x. x }; near = omega arith; next = λ z. omega arith }
+areas-are row zero k r reach = record { along = judges-stay; near = omega arith; next = λ z. omega arith }
 areas-are row (suc n) k r reach =
     let x = area-is row k r (omega arith) in
     stepped (eqb (a .walk .code) 0) refl x (areas-are row n (a .next) (a .walk) (omega (arith, x .near)))

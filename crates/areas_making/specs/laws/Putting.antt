@@ -13,7 +13,7 @@ use Rattle.format.specs.Words.{Test, _▹_, _‥_, num, deciding, wide}
 use Rattle.format.specs.laws.Extent.{opens-field, opens-choice}
 use Rattle.format.specs.laws.Putting.{Putting, put-number}
 use Rattle.format.specs.laws.Round.{written}
-use Rattle.layout.specs.laws.Loops.{PutsAlong, puts-then, puts-under}
+use Rattle.layout.specs.laws.Loops.{PutsAlong, puts-stay, puts-then, puts-under}
 use Rattle.notice_areas.specs.Areas.{Kind, sea, circle, several, kindOf, points, inside, areas}
 use Rattle.notice_areas.specs.Row.{first, longMost, areaLong, areasLong, areasTold}
 use Rattle.notice_areas.specs.Standing.{areaMost}
@@ -50,7 +50,7 @@ point-along m at t a b =
 
 points-along : (row : List ℕ) (n k at : ℕ) (t : List ℕ) → PutsAlong (points n) (λ f. f) at (first (n * 2) (drop k row)) t (at + n * pointBits) (pointsPut row n k at t)
 unfolding points first pointsPut
-points-along row zero k at t = let e : at ≡ at + 0 * pointBits = omega arith in told-as refl e (record { on = λ x. x })
+points-along row zero k at t = let e : at ≡ at + 0 * pointBits = omega arith in told-as refl e puts-stay
 points-along row (suc n) k at t =
     let a = getD row k 0 in
     let b = getD row (k + 1) 0 in
@@ -139,7 +139,7 @@ module _ (row : List ℕ) (k at : ℕ) (t : List ℕ) where
 
 pub areas-along : (row : List ℕ) (n k at : ℕ) (t : List ℕ) → let a = areasPut row n k at t in PutsAlong (areas n) (λ f. f) at (areasTold n (drop k row)) t (a .0) (a .1)
 unfolding areas first areasLong areasPut
-areas-along row zero k at t = record { on = λ x. x }
+areas-along row zero k at t = puts-stay
 areas-along row (suc n) k at t = record {
   on = λ {s} {b} {f} {vs} x.
       let a = areaPut row k at t in
