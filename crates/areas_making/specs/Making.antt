@@ -1,46 +1,69 @@
--- What judging and putting the areas that a row of numbers tells gives: stretches of writing, over points, one area and all of them. Assumes nothing.
-use Prim.Native.Nat.{ℕ, suc, _+_, _*_, _^_, _≤_}
-use mathlib.Core.Path.{_≡_}
+-- What judging and putting the areas that a row of numbers tells gives: over points, one area by its kind, and all of them. Assumes nothing.
+use Prim.Native.Nat.{ℕ, zero, suc, _+_, _*_, _%_}
+use mathlib.Core.Bool.{cond}
 use mathlib.Core.List.{List}
-use lib.ListN.{drop}
-use Rattle.layout.specs.laws.Loops.{JudgesAlong, PutsAlong}
+use lib.Dec.{eqb}
+use lib.ListN.{getD}
+use Rattle.format.specs.Correcting.{putIn}
+use Rattle.layout.specs.Judging.{valued}
 use Rattle.layout.specs.declared.walk.Walk.{Walk}
-use Rattle.notice_areas.specs.Areas.{points, areas}
-use Rattle.notice_areas.specs.Row.{first, areaLong, areasLong, areasTold}
-use Rattle.notice_parts.specs.Parts.{pointBits}
+use Rattle.notice_areas.specs.Areas.{Kind, sea, circle, several, kindOf}
+use Rattle.notice_parts.specs.Parts.{latitudeBits, longitudeBits, pointBits}
+use Rattle.notice_parts.specs.Steps.{latitudeJudged, longitudeJudged}
 use Rattle.areas_making.specs.declared.Stepped.{Stepped}
 use Rattle.areas_making.specs.declared.Laid.{Laid}
 
--- the numbers of the area that begins with number k
-abbrev pub areaFrom : List ℕ → ℕ → List ℕ
-areaFrom row k = first (areaLong (drop k row)) (drop k row)
-
 -- ---- judged
 
-pub record PointsJudged (row : List ℕ) (k n : ℕ) (r₀ r : Walk) : Type 0 where
-  pub along : JudgesAlong (points n) (λ f. f) r₀ (first (n * 2) (drop k row)) r
-  pub near : r .at ≤ r₀ .at + n * pointBits
+-- n points, which begin with number k of the row
+unfoldable pub pointsJudged : List ℕ → ℕ → ℕ → Walk → Walk
+pointsJudged row zero k r = r
+pointsJudged row (suc n) k r = pointsJudged row n (k + 2) (longitudeJudged (getD row (k + 1) 0) (latitudeJudged (getD row k 0) r))
 
-pub record AreaJudged (row : List ℕ) (k : ℕ) (r₀ : Walk) (r : Stepped) : Type 0 where
-  pub along : (m : ℕ) → JudgesAlong (areas (suc m)) (areas m) r₀ (areaFrom row k) (r .walk)
-  pub near : r .walk .at ≤ r₀ .at + 700
-  pub next : r .walk .code ≡ 0 → (r .next ≡ k + areaLong (drop k row)) × (r .next ≤ k + 32)
+-- behind the kind, which is number k; a refused count of points is not walked
+unfoldable pub insideJudged : Kind → List ℕ → ℕ → Walk → Stepped
+insideJudged sea row k r = record { walk = valued 8 (getD row (k + 1) 0) 0 255 r; next = k + 2 }
+insideJudged circle row k r = record { walk = valued 2 (getD row (k + 4) 0) 0 3 (valued 10 (getD row (k + 3) 0) 0 1_023 (pointsJudged row 1 (k + 1) r)); next = k + 5 }
+insideJudged (several least) row k r =
+    let n = getD row (k + 1) 0 in
+    let c = valued 4 n least 15 r in
+    cond (eqb (c .code) 0) (record { walk = pointsJudged row n (k + 2) c; next = k + 2 + n * 2 }) (record { walk = c; next = k + 2 })
 
-pub record AreasJudged (row : List ℕ) (n : ℕ) (r₀ : Walk) (r : Stepped) : Type 0 where
-  pub along : JudgesAlong (areas n) (λ f. f) r₀ (areasTold n row) (r .walk)
-  pub near : r .walk .at ≤ r₀ .at + n * 700
-  pub next : r .walk .code ≡ 0 → r .next ≡ areasLong n row
+-- the area that begins with number k
+abbrev pub areaJudged : List ℕ → ℕ → Walk → Stepped
+areaJudged row k r = let kind = getD row k 0 in insideJudged (kindOf kind) row k (valued 3 kind 0 4 r)
+
+-- n areas; the first refused one ends it
+unfoldable pub areasJudged : List ℕ → ℕ → ℕ → Walk → Stepped
+areasJudged row zero k r = record { walk = r; next = k }
+areasJudged row (suc n) k r = let a = areaJudged row k r in cond (eqb (a .walk .code) 0) (areasJudged row n (a .next) (a .walk)) a
 
 -- ---- put
 
-abbrev pub PointsPut : List ℕ → ℕ → ℕ → ℕ → List ℕ → List ℕ → Type 0
-PointsPut row k n at t t′ = PutsAlong (points n) (λ f. f) at (first (n * 2) (drop k row)) t (at + n * pointBits) t′
+-- n points, from bit `at` of t on
+unfoldable pub pointsPut : List ℕ → ℕ → ℕ → ℕ → List ℕ → List ℕ
+pointsPut row zero k at t = t
+pointsPut row (suc n) k at t = pointsPut row n (k + 2) (at + pointBits) (putIn (putIn t at latitudeBits (getD row k 0)) (at + latitudeBits) longitudeBits (getD row (k + 1) 0))
 
-pub record AreaPut (row : List ℕ) (k at : ℕ) (t : List ℕ) (r : Laid) (t′ : List ℕ) : Type 0 where
-  pub along : (m : ℕ) → PutsAlong (areas (suc m)) (areas m) at (areaFrom row k) t (r .at) t′
-  pub next : r .next ≡ k + areaLong (drop k row)
-  pub near : (r .at ≤ at + 2 ^ 40) × (r .next ≤ k + 2 ^ 40)
+-- where the next area begins, and the bytes
+abbrev pub Put : Type 0
+Put = Laid × List ℕ
 
-pub record AreasPut (row : List ℕ) (n at : ℕ) (t : List ℕ) (to : ℕ) (t′ : List ℕ) : Type 0 where
-  pub along : PutsAlong (areas n) (λ f. f) at (areasTold n row) t to t′
-  pub near : to ≤ at + n * 2 ^ 40
+-- behind the kind, which is number k and stands at bit `at`; of a count of points no more than its four bits is put
+unfoldable pub insidePut : Kind → List ℕ → ℕ → ℕ → List ℕ → Put
+insidePut sea row k at t = (record { at = at + 11; next = k + 2 }, putIn t (at + 3) 8 (getD row (k + 1) 0))
+insidePut circle row k at t = (
+  record { at = at + 3 + pointBits + 12; next = k + 5 },
+  putIn (putIn (pointsPut row 1 (k + 1) (at + 3) t) (at + 3 + pointBits) 10 (getD row (k + 3) 0)) (at + 3 + pointBits + 10) 2 (getD row (k + 4) 0),
+)
+insidePut (several least) row k at t =
+    let c = getD row (k + 1) 0 in
+    let n = c % 16 in
+    (record { at = at + 7 + n * pointBits; next = k + 2 + n * 2 }, pointsPut row n (k + 2) (at + 7) (putIn t (at + 3) 4 c))
+
+abbrev pub areaPut : List ℕ → ℕ → ℕ → List ℕ → Put
+areaPut row k at t = let kind = getD row k 0 in insidePut (kindOf kind) row k at (putIn t at 3 kind)
+
+unfoldable pub areasPut : List ℕ → ℕ → ℕ → ℕ → List ℕ → ℕ × List ℕ
+areasPut row zero k at t = (at, t)
+areasPut row (suc n) k at t = let a = areaPut row k at t in areasPut row n (a .0 .next) (a .0 .at) (a .1)

@@ -1,9 +1,10 @@
 // Writing a notice's areas from a row of numbers (paper 01, "Notice and packet"): judged in bit order, then put.
 ghost use mathlib.Core.Path.{_≡_};
-ghost use Prim.Native.Nat.{_^_, _≤_, _<_};
+ghost use Prim.Native.Nat.{_+_, _*_, _≤_};
 ghost use lib.ListN.{getD};
-ghost use Rattle.areas_making.specs.Making.{PointsJudged, AreaJudged, AreasJudged, PointsPut, AreaPut, AreasPut};
-ghost use Rattle.notice_areas.specs.Standing.{front};
+ghost use Rattle.areas_making.specs.Making.{pointsJudged, areaJudged, areasJudged, pointsPut, areaPut, areasPut};
+ghost use Rattle.notice_areas.specs.Row.{longMost};
+ghost use Rattle.notice_areas.specs.Standing.{front, areaMost};
 ghost use Rattle.notice_parts.specs.Steps.{bare};
 use layout::walk::Walk;
 use notice_areas::CIRCLE;
@@ -12,6 +13,9 @@ use notice_areas::SEA;
 use notice_parts::LATITUDE;
 use notice_parts::LONGITUDE;
 use notice_parts::POINT;
+
+// What the four bits of a count can tell: 0 to 15 points.
+const COUNTS: u64 = 16;
 
 // The walk behind an area or behind all of them, and which number of the row comes next.
 pub struct Stepped {
@@ -25,9 +29,9 @@ pub struct Laid {
     pub next: usize,
 }
 
-// A number of the row, 0 past its end; as it has 32 bits, what a caller counts by it stays small.
+// A number of the row, 0 past its end.
 fn entry(row: &[u32], k: usize) -> u64
-    ensures { λ r. ⌜ (r ≡ getD (now (row .entry)) k 0) × (r < 2 ^ 32) ⌝ }
+    ensures { λ r. ⌜ r ≡ getD (now (row .entry)) k 0 ⌝ }
 {
     if k < row.len() { row[k] as u64 } else { 0 }
 }
@@ -36,7 +40,7 @@ fn entry(row: &[u32], k: usize) -> u64
 
 // The numbers of a notice's first `count` areas, where nothing was refused in front of them; a refused count of points is not walked.
 pub fn judge(row: &[u32], count: u8) -> Stepped
-    ensures { λ r. ⌜ AreasJudged (now (row .entry)) count (bare front 0 0) r ⌝ }
+    ensures { λ r. ⌜ r ≡ areasJudged (now (row .entry)) count 0 (bare front 0 0) ⌝ }
 {
     let most = count as usize;
     let mut w = notice_parts::unsought(FRONT as usize, 0, 0);
@@ -56,8 +60,8 @@ pub fn judge(row: &[u32], count: u8) -> Stepped
 
 // The area whose numbers begin with k.
 fn judge_area(from: Walk, row: &[u32], k: usize) -> Stepped
-    requires { ⌜ (k ≤ 10_000) × (from .at ≤ 200_000) ⌝ }
-    ensures { λ r. ⌜ AreaJudged (now (row .entry)) k from r ⌝ }
+    requires { ⌜ k ≤ 255 * longMost ⌝ }
+    ensures { λ r. ⌜ r ≡ areaJudged (now (row .entry)) k from ⌝ }
 {
     let kind = entry(row, k);
     let w = from.value(3, kind, 0, 4);
@@ -73,20 +77,24 @@ fn judge_area(from: Walk, row: &[u32], k: usize) -> Stepped
     }
     let n = entry(row, k + 1);
     let c = w.value(4, n, notice_areas::least(kind), 15);
+    let points = k + 2;
     if c.code != 0 {
-        return Stepped { walk: c, next: k };
+        return Stepped {
+            walk: c,
+            next: points,
+        };
     }
-    let walk = judge_points(c, row, k + 2, n as usize);
+    let walk = judge_points(c, row, points, n as usize);
     Stepped {
         walk,
-        next: k + 2 + n as usize * 2,
+        next: points + n as usize * 2,
     }
 }
 
 // Latitude and longitude of n points.
 fn judge_points(from: Walk, row: &[u32], k: usize, n: usize) -> Walk
-    requires { ⌜ (n ≤ 15) × (k ≤ 20_000) × (from .at ≤ 300_000) ⌝ }
-    ensures { λ r. ⌜ PointsJudged (now (row .entry)) k n from r ⌝ }
+    requires { ⌜ (n ≤ 15) × (k ≤ 256 * longMost) ⌝ }
+    ensures { λ r. ⌜ r ≡ pointsJudged (now (row .entry)) n k from ⌝ }
 {
     let mut w = from;
     let mut j: usize = 0;
@@ -100,9 +108,10 @@ fn judge_points(from: Walk, row: &[u32], k: usize, n: usize) -> Walk
 
 // ---- putting what was judged
 
-// The numbers of a notice's first `count` areas: the bit behind them.
+// The numbers of a notice's first `count` areas: the bit behind them. Of a row that was not judged, a count of points is taken
+// by its four bits, so that it ends soon for every row.
 pub fn put(buf: &mut [u8], row: &[u32], count: u8) -> usize
-    ensures { λ r. ⌜ AreasPut (now (row .entry)) count front (now (buf .entry)) r (now (buf .exit)) ⌝ }
+    ensures { λ r. ⌜ (r, now (buf .exit)) ≡ areasPut (now (row .entry)) count 0 front (now (buf .entry)) ⌝ }
 {
     let most = count as usize;
     let mut at = FRONT as usize;
@@ -119,8 +128,8 @@ pub fn put(buf: &mut [u8], row: &[u32], count: u8) -> usize
 
 // The area whose numbers begin with k.
 fn put_area(buf: &mut [u8], at: usize, row: &[u32], k: usize) -> Laid
-    requires { ⌜ (k ≤ 2 ^ 50) × (at ≤ 2 ^ 50) ⌝ }
-    ensures { λ r. ⌜ AreaPut (now (row .entry)) k at (now (buf .entry)) r (now (buf .exit)) ⌝ }
+    requires { ⌜ (k ≤ 255 * longMost) × (at ≤ front + 255 * areaMost) ⌝ }
+    ensures { λ r. ⌜ (r, now (buf .exit)) ≡ areaPut (now (row .entry)) k at (now (buf .entry)) ⌝ }
 {
     let kind = entry(row, k);
     bits::put(buf, at, 3, kind);
@@ -140,19 +149,21 @@ fn put_area(buf: &mut [u8], at: usize, row: &[u32], k: usize) -> Laid
             next: k + 5,
         };
     }
-    let n = entry(row, k + 1);
-    bits::put(buf, at + 3, 4, n);
-    put_points(buf, at + 7, row, k + 2, n as usize);
+    let counted = entry(row, k + 1);
+    bits::put(buf, at + 3, 4, counted);
+    let n = (counted % COUNTS) as usize;
+    let points = k + 2;
+    put_points(buf, at + 7, row, points, n);
     Laid {
-        at: at + 7 + n as usize * POINT,
-        next: k + 2 + n as usize * 2,
+        at: at + 7 + n * POINT,
+        next: points + n * 2,
     }
 }
 
 // Latitude and longitude of n points.
 fn put_points(buf: &mut [u8], at: usize, row: &[u32], k: usize, n: usize)
-    requires { ⌜ (n < 2 ^ 32) × (k ≤ 2 ^ 51) × (at ≤ 2 ^ 51) ⌝ }
-    ensures { λ _. ⌜ PointsPut (now (row .entry)) k n at (now (buf .entry)) (now (buf .exit)) ⌝ }
+    requires { ⌜ (n ≤ 15) × (k ≤ 256 * longMost) × (at ≤ front + 256 * areaMost) ⌝ }
+    ensures { λ _. ⌜ now (buf .exit) ≡ pointsPut (now (row .entry)) n k at (now (buf .entry)) ⌝ }
 {
     let mut j: usize = 0;
     while j < n {

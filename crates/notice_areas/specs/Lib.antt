@@ -3,5 +3,4 @@ pub mod Areas
 pub mod Standing
 pub mod Row
 pub mod Steps
-pub mod Walks
 pub mod laws

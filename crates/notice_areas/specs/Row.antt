@@ -24,6 +24,10 @@ insideCount (several least) c = c
 abbrev pub areaLong : List ℕ → ℕ
 areaLong row = suc (insideLong (kindOf (getD row 0 0)) (getD row 1 0))
 
+-- at most: the kind, a count and 15 points
+abbrev pub longMost : ℕ
+longMost = 2 + 15 * 2
+
 unfoldable pub areasLong : ℕ → List ℕ → ℕ
 areasLong zero row = 0
 areasLong (suc n) row = areaLong row + areasLong n (drop (areaLong row) row)

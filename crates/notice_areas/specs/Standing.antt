@@ -39,6 +39,13 @@ areaAt s at = got s at 3 ∷ insideAt (kindOf (got s at 3)) s (at + 3)
 abbrev pub areaWide : List ℕ → ℕ → ℕ
 areaWide s at = 3 + insideWide (kindOf (got s at 3)) s (at + 3)
 
+-- at most: 15 points behind their count
+abbrev pub insideMost : ℕ
+insideMost = 4 + 15 * pointBits
+
+abbrev pub areaMost : ℕ
+areaMost = 3 + insideMost
+
 -- n areas
 unfoldable pub areasAt : List ℕ → ℕ → ℕ → List ℕ
 areasAt s zero at = []

@@ -1,8 +1,7 @@
 // The areas of a notice (paper 01, "Notice and packet"): walked in bit order, the first fault ends the walk.
 ghost use mathlib.Core.Path.{_≡_};
 ghost use Rattle.notice_areas.specs.Areas.{leastOf, kindOf};
-ghost use Rattle.notice_areas.specs.Steps.{openedAs, closedAs};
-ghost use Rattle.notice_areas.specs.Walks.{Walks};
+ghost use Rattle.notice_areas.specs.Steps.{openedAs, closedAs, areasWalked};
 use layout::walk::Walk;
 
 // The kinds of area whose number decides what they hold; all others are counted points.
@@ -21,7 +20,7 @@ pub struct Opened {
 
 // Over `count` areas: the first bad point leaves both loops.
 pub fn walk(s: &[u8], from: Walk, count: u8) -> Walk
-    ensures { λ r. ⌜ Walks (now (s .entry)) count from r ⌝ }
+    ensures { λ r. ⌜ r ≡ areasWalked (now (s .entry)) count from ⌝ }
 {
     let most = count as u64;
     let mut w = from;

@@ -1,20 +1,20 @@
 -- What the code's walk over a notice gives: its head, its text and the end, and all of it. Assumes nothing.
-use Prim.Native.Nat.{ℕ, _+_, _*_, _≤_}
-use mathlib.Core.Path.{_≡_}
-use mathlib.Core.Bool.{Bool}
-use mathlib.Core.List.{List, [], _++_}
+use Prim.Native.Nat.{ℕ, _*_}
+use mathlib.Core.Bool.{Bool, true, false, cond, _&&_}
+use mathlib.Core.List.{List, []}
+use lib.Dec.{eqb}
 use lib.ListN.{length}
+use Rattle.bits.specs.Answers.{spanned}
 use Rattle.bits.specs.Bits.{bitsOf, bytesAt}
-use Rattle.format.specs.Fmt.{Out, Fmt, end, read}
-use Rattle.format.specs.Message.{readMessage}
-use Rattle.format.specs.Words.{_▹_}
-use Rattle.layout.specs.Walk.{begun}
-use Rattle.layout.specs.laws.Along.{Going}
-use Rattle.layout.specs.laws.Walked.{Walked}
+use Rattle.field.specs.Faults.{wholly}
+use Rattle.format.specs.Fmt.{Out, read}
+use Rattle.layout.specs.Reading.{ranged, ended}
+use Rattle.layout.specs.Walk.{begun, onward}
 use Rattle.layout.specs.declared.walk.Walk.{Walk}
-use Rattle.notice_areas.specs.Standing.{front, areasAt}
-use Rattle.notice_reading.specs.Notice.{text, rest, notice, sizes, notices}
-use Rattle.notice_reading.specs.Record.{headed, texted}
+use Rattle.notice_areas.specs.Steps.{areasWalked}
+use Rattle.notice_parts.specs.Steps.{leastSubtype, mostSubtype, expiryRead}
+use Rattle.text.specs.Text.{inLanguage}
+use Rattle.notice_reading.specs.Notice.{notice, sizes}
 use Rattle.notice_reading.specs.declared.Opening.{Opening}
 use Rattle.notice_reading.specs.declared.Ending.{Ending}
 use Rattle.notice_reading.specs.declared.Course.{Course}
@@ -23,20 +23,33 @@ use Rattle.notice_reading.specs.declared.Course.{Course}
 abbrev pub fieldsRead : Bool → List ℕ → Out (List ℕ)
 fieldsRead english s = read (notice english) [] 0 (bitsOf s)
 
--- reading stands at the areas
-pub record HeadIs (english : Bool) (i : ℕ) (s : List ℕ) (h : Opening) : Type 0 where
-  pub going : Going (fieldsRead english s) (notice english) i s (rest english (h .notice .count)) (headed (h .notice) []) (h .walk)
-  pub here : h .walk .at ≡ front
-  pub few : h .notice .count ≤ 15
+-- up to the areas, with field i sought
+unfoldable pub openingOf : ℕ → List ℕ → Opening
+openingOf i s =
+    let source = ranged s 5 true 1 21 4 (begun 0 i) in
+    let station = ranged s 4 true 1 3 4 source in
+    let serial = ranged s 14 true 1 9_999 4 station in
+    let year = ranged s 7 true 0 99 4 serial in
+    let kind = ranged s 4 true 1 8 4 year in
+    let subtype = ranged s 4 true (leastSubtype (kind .v)) (mostSubtype (kind .v)) 4 kind in
+    let expiry = expiryRead s subtype in
+    let count = ranged s 4 false 0 15 4 expiry in
+    record {
+      walk = count;
+      notice = record { source = source .v; station = station .v; serial = serial .v; year = year .v; kind = kind .v; subtype = subtype .v; expiry = expiry .v; count = count .v };
+    }
 
--- in either language
-abbrev pub Heads : ℕ → List ℕ → Opening → Type 0
-Heads i s h = (english : Bool) → HeadIs english i s h
+-- over a text of n bytes, and the end
+abbrev pub textWalked : Bool → List ℕ → ℕ → Walk → Walk
+textWalked english s n r =
+    let fault : ℕ = cond (spanned (length s) (r .at) n && inLanguage english (bytesAt s (r .at) n)) 0 4 in
+    ended s (onward (n * 8) false 0 fault 0 (onward 0 false n 0 0 r))
 
--- the text from r on, and the end
-pub record ClosedIs (english : Bool) (s : List ℕ) (r : Walk) (t : Ending) : Type 0 where
-  pub on : {o : Out (List ℕ)} {all : Fmt} {i : ℕ} {us : List ℕ} → Going o all i s (text english ▹ end) us r → Walked o all i (us ++ texted (bytesAt s (r .at) (t .text))) (t .walk)
-  pub fits : t .walk .code ≡ 0 → (r .code ≡ 0) × (r .at ≤ length s * 8 → r .at + t .text * 8 ≤ length s * 8)
+-- behind the areas: all whole bytes that are left are text; after a refusal nothing is looked at
+unfoldable pub endingOf : Bool → List ℕ → Walk → Ending
+endingOf english s r =
+    let n = wholly s (r .at) in
+    cond (eqb (r .code) 0) (record { walk = textWalked english s n r; text = n }) (record { walk = r; text = 0 })
 
 -- what is left of a notice whose size is refused by the number c
 abbrev pub unreadBy : ℕ → Course
@@ -47,9 +60,13 @@ unreadBy c = record {
   text = 0;
 }
 
--- the whole notice, sought for field i; one of another size is not walked
-pub record FieldsAre (english : Bool) (i : ℕ) (s : List ℕ) (f : Course) : Type 0 where
-  pub walked : Walked (readMessage (notices english) s) (notice english) i (headed (f .notice) (areasAt s (f .notice .count) front ++ texted (bytesAt s (f .at) (f .text)))) (f .walk)
-  pub few : f .notice .count ≤ 15
-  pub fits : f .walk .code ≡ 0 → f .at + f .text * 8 ≤ length s * 8
-  pub early : (sizes s ≡ 0 → ⊥) → f ≡ unreadBy (sizes s)
+-- from the head on
+abbrev pub behind : Bool → List ℕ → Opening → Course
+behind english s h =
+    let areas = areasWalked s (h .notice .count) (h .walk) in
+    let ending = endingOf english s areas in
+    record { walk = ending .walk; notice = h .notice; at = areas .at; text = ending .text }
+
+-- the whole notice, with field i sought; one of another size is not walked
+unfoldable pub courseOf : Bool → ℕ → List ℕ → Course
+courseOf english i s = cond (eqb (sizes s) 0) (behind english s (openingOf i s)) (unreadBy (sizes s))

@@ -5,7 +5,7 @@ ghost use lib.ListN.{length};
 ghost use Rattle.format.specs.Message.{codeOf, readMessage};
 ghost use Rattle.notice_reading.specs.Notice.{notices, sizes};
 ghost use Rattle.notice_reading.specs.Promises.{Reads, numberOf};
-ghost use Rattle.notice_reading.specs.Steps.{Heads, ClosedIs, unreadBy, FieldsAre};
+ghost use Rattle.notice_reading.specs.Steps.{openingOf, endingOf, unreadBy, courseOf};
 ghost use Rattle.packet_reading.specs.Packet.{joined};
 use layout::walk::Walk;
 use number::choosing::choose;
@@ -138,7 +138,7 @@ pub fn refusal(s: &[u8], english: bool) -> u8
 
 // The size, then the fields in bit order; on the way, field number `want` is found. Of another size nothing is walked.
 pub fn fields(s: &[u8], want: usize, english: bool) -> Course
-    ensures { λ r. ⌜ FieldsAre english want (now (s .entry)) r ⌝ }
+    ensures { λ r. ⌜ r ≡ courseOf english want (now (s .entry)) ⌝ }
 {
     let size = lead(s);
     if size != 0 {
@@ -196,7 +196,7 @@ fn unread(code: u8) -> Course
 
 // Up to the areas.
 fn head(s: &[u8], want: usize) -> Opening
-    ensures { λ r. ⌜ Heads want (now (s .entry)) r ⌝ }
+    ensures { λ r. ⌜ r ≡ openingOf want (now (s .entry)) ⌝ }
 {
     let w = Walk::begin(0, want).num(s, 5, 1, 21);
     let source = w.v as u8;
@@ -235,7 +235,7 @@ fn head(s: &[u8], want: usize) -> Opening
 // Behind the areas: the text, all whole bytes that are left, and the fill.
 fn close(s: &[u8], w: Walk, english: bool) -> Ending
     requires { ⌜ length (now s) ≤ joined ⌝ }
-    ensures { λ r. ⌜ ClosedIs english (now (s .entry)) w r ⌝ }
+    ensures { λ r. ⌜ r ≡ endingOf english (now (s .entry)) w ⌝ }
 {
     if w.code != 0 {
         return Ending { walk: w, text: 0 };

@@ -17,10 +17,10 @@ cast-result : tie.Need-cast-result
 cast-result c = let a = c .before .before .args in omega (arith, c .shared-slice-known .given (a .k) .fits)
 
 returns : tie.Need-returns
-returns c = (refl, omega (arith, c .shared-slice-known .given (c .before .before .args .k) .fits))
+returns c = refl
 
 returns-2 : tie.Need-returns-2
-returns-2 c = let a = c .before .args in (sym (List·getD-eq-default (a .row .now) 0 {n = a .k} (omega arith)), omega arith)
+returns-2 c = let a = c .before .args in sym (List·getD-eq-default (a .row .now) 0 {n = a .k} (omega arith))
 
 pub entry-spec : {M : Type 1} → statement M
 entry-spec = tie.close (tie.spec mul-result shared-slice-read-result cast-result returns returns-2)

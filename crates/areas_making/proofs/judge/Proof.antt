@@ -1,16 +1,20 @@
--- `judge` meets its contract: i areas are judged; a refused one ends it.
-use Prim.Native.Nat.{_+_, _-_, _≤_}
-use mathlib.Core.Path.{_≡_, refl, subst, subst⁻¹}
+-- `judge` meets its contract: what is left to judge behind i areas is what there was to judge; a refused one leaves nothing.
+use Prim.Native.Nat.{_+_, _-_, _*_, _≤_}
+use mathlib.Core.Path.{_≡_, sym, ap, ap₂, _∙_}
+use mathlib.Core.Bool.{cond}
+use borrow.Author.Tests.{eq-eqb, ne-eqb}
 use native.Mathlib.Omega.{arith}
 use borrow.Author.Needs.{needs}
+use Rattle.notice_areas.specs.Row.{longMost}
 use Rattle.notice_areas.specs.Standing.{front}
 use Rattle.notice_parts.specs.Steps.{bare}
-use Rattle.areas_making.specs.laws.Judging.{Passed, no-areas, one-area, broken, all-areas}
+use Rattle.areas_making.specs.Making.{areasJudged}
+use Rattle.areas_making.specs.laws.Judging.{areas-turn, area-small}
 use Rattle.areas_making.proofs.judge.Statement.{statement}
 use Rattle.areas_making.proofs.judge.Tie as tie
 
 abbrev Inv-loop : tie.InvT-loop
-Inv-loop row count most w₀ k₀ i₀ w k i = (i ≤ count) × Passed row count i (bare front 0 0) w k
+Inv-loop row count most w₀ k₀ i₀ w k i = (i ≤ count) × (areasJudged row count 0 (bare front 0 0) ≡ areasJudged row (count - i) k w) × (k ≤ i * longMost)
 
 abbrev μ-loop : tie.MeasureT-loop
 μ-loop row count most w₀ k₀ i₀ w k i = count - i
@@ -24,13 +28,11 @@ unsought-requires c κs = search needs
 loop-holds : tie.Need-loop-holds Inv-loop μ-loop
 loop-holds c =
     let a = c .before .before .args in
-    (omega arith, subst⁻¹ (λ w. Passed (a .row .now) (a .count) 0 (bare front 0 0) w 0) (c .unsought .ensures) (no-areas (a .row .now) (a .count)))
+    let m : a .count ≡ a .count - 0 = omega arith in
+    (omega arith, ap₂ (λ m w. areasJudged (a .row .now) m 0 w) m (sym (c .unsought .ensures)), omega arith)
 
 judge-area-requires : tie.Need-judge-area-requires Inv-loop μ-loop
-judge-area-requires c κs =
-    let l = c .before in
-    let x = l .loop .inv .1 in
-    (omega (arith, x .next .1), omega (arith, x .near))
+judge-area-requires c κs = omega arith
 
 add-i : tie.Need-add-i Inv-loop μ-loop
 add-i c = omega arith
@@ -43,21 +45,31 @@ loop-again c =
     let j = c .before .before .before in
     let l = j .before .before in
     let a = l .before .before .before .args in
-    (omega arith, one-area (a .row .now) (a .count) (l .loop .i) (omega arith) (l .loop .inv .1) (j .judge-area .ensures) (l .loop .i + 1) refl (c .if1 .left))
+    let r = j .judge-area .result in
+    let n = a .count - (l .loop .i + 1) in (
+      omega arith,
+      l .loop .inv .1 ∙ areas-turn (a .row .now) n (l .loop .k) (l .loop .w) (omega arith) (j .judge-area .ensures)
+          ∙ ap (λ b. cond b (areasJudged (a .row .now) n (r .next) (r .walk)) r) (eq-eqb (r .walk .code) 0 (c .if1 .left)),
+      omega (arith, area-small (a .row .now) (l .loop .k) (l .loop .w) (j .judge-area .ensures)),
+    )
 
 returns : tie.Need-returns Inv-loop μ-loop
+unfolding areasJudged
 returns c =
     let l = c .before in
     let a = l .before .before .before .args in
-    let all : l .loop .i ≡ a .count = omega arith in
-    all-areas (a .row .now) (a .count) (subst (λ i. Passed (a .row .now) (a .count) i (bare front 0 0) (l .loop .w) (l .loop .k)) all (l .loop .inv .1))
+    let none : a .count - l .loop .i ≡ 0 = omega arith in
+    sym (l .loop .inv .1 ∙ ap (λ m. areasJudged (a .row .now) m (l .loop .k) (l .loop .w)) none)
 
 returns-2 : tie.Need-returns-2 Inv-loop μ-loop
 returns-2 c =
     let j = c .before .before .before in
     let l = j .before .before in
     let a = l .before .before .before .args in
-    broken (a .row .now) (a .count) (l .loop .i) (omega arith) (l .loop .inv .1) (j .judge-area .ensures) (c .if1 .taken)
+    let r = j .judge-area .result in
+    let n = a .count - (l .loop .i + 1) in
+    sym (l .loop .inv .1 ∙ areas-turn (a .row .now) n (l .loop .k) (l .loop .w) (omega arith) (j .judge-area .ensures)
+    ∙ ap (λ b. cond b (areasJudged (a .row .now) n (r .next) (r .walk)) r) (ne-eqb (r .walk .code) 0 (c .if1 .taken)))
 
 pub judge-spec : {M : Type 1} → statement M
 judge-spec =

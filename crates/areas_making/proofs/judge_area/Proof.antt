@@ -1,13 +1,17 @@
 -- `judge_area` meets its contract: by the number of the kind, as `kindOf` goes.
-use Prim.Native.Nat.{_-_}
-use mathlib.Core.Path.{ap, _∙_}
+use Prim.Native.Nat.{_+_, _-_, _*_}
+use mathlib.Core.Path.{sym, ap, ap₂, _∙_}
+use mathlib.Core.Bool.{cond}
 use native.Mathlib.Omega.{arith}
 use borrow.Author.Needs.{needs}
+use borrow.Author.Tests.{eq-eqb, ne-eqb}
 use Rattle.layout.specs.Judging.{valued}
 use Rattle.layout.specs.laws.Judging.{valued-between}
+use Rattle.layout.specs.declared.walk.Walk.{Walk}
 use Rattle.notice_areas.specs.Areas.{leastOf}
 use Rattle.notice_areas.specs.laws.Kinds.{kind-sea, kind-circle, kind-several}
-use Rattle.areas_making.specs.laws.Judging.{valued-near, sea-judged, circle-judged, several-judged, several-refused}
+use Rattle.areas_making.specs.Making.{pointsJudged, insideJudged}
+use Rattle.areas_making.specs.laws.Judging.{area-turn, several-turn}
 use Rattle.areas_making.proofs.judge_area.Statement.{statement}
 use Rattle.areas_making.proofs.judge_area.Tie as tie
 
@@ -26,17 +30,19 @@ entry-requires-2 c κs = search needs
 value-requires-2 : tie.Need-value-requires-2
 value-requires-2 c κs = search needs
 
-add-t15 : tie.Need-add-t15
-add-t15 c = search needs
+add-t16 : tie.Need-add-t16
+add-t16 c = search needs
 
 returns : tie.Need-returns
+unfolding insideJudged
 returns c =
     let e2 = c .before in
     let i = e2 .before in
     let v = i .before in
     let e = v .before in
     let a = e .before .before .args in
-    sea-judged (a .row .now) (a .k) (a .from) (omega arith) (e .entry .ensures .0) (v .value .ensures) (kind-sea (i .if1 .taken)) (e2 .entry2 .ensures .0) (c .value2 .ensures)
+    ap (λ (w : Walk). record { walk = w; next = a .k + 2 }) (c .value2 .ensures ∙ ap (λ n. valued 8 n 0 255 (v .value .result)) (e2 .entry2 .ensures))
+    ∙ sym (area-turn (a .row .now) (a .k) (a .from) (e .entry .ensures) (v .value .ensures) (kind-sea (i .if1 .taken)))
 
 add-judge-points : tie.Need-add-judge-points
 add-judge-points c = search needs
@@ -46,7 +52,7 @@ judge-points-requires c κs =
     let v = c .before .before in
     let e = v .before in
     let a = e .before .before .args in
-    (omega arith, omega arith, omega (arith, valued-near (a .from) 3 (e .entry .result) 0 4 (v .value .ensures)))
+    (omega arith, omega arith)
 
 add-entry-2 : tie.Need-add-entry-2
 add-entry-2 c = search needs
@@ -66,10 +72,11 @@ entry-requires-4 c κs = search needs
 value-requires-4 : tie.Need-value-requires-4
 value-requires-4 c κs = search needs
 
-add-t16 : tie.Need-add-t16
-add-t16 c = let st = c .before .before .before .before .before .before .before .before .before .before in omega (arith, st .pre)
+add-t17 : tie.Need-add-t17
+add-t17 c = let st = c .before .before .before .before .before .before .before .before .before .before in omega (arith, st .pre)
 
 returns-2 : tie.Need-returns-2
+unfolding insideJudged
 returns-2 c =
     let e4 = c .before in
     let v3 = e4 .before in
@@ -79,7 +86,9 @@ returns-2 c =
     let v = i .before .before in
     let e = v .before in
     let a = e .before .before .args in
-    circle-judged (a .row .now) (a .k) (a .from) (omega arith) (e .entry .ensures .0) (v .value .ensures) (kind-circle (i .if2 .taken)) (p .judge-points .ensures) (e3 .entry3 .ensures .0) (e4 .entry4 .ensures .0) (v3 .value3 .ensures) (c .value4 .ensures)
+    let radius = v3 .value3 .ensures ∙ ap₂ (λ n p. valued 10 n 0 1_023 p) (e3 .entry3 .ensures) (p .judge-points .ensures) in
+    ap (λ (w : Walk). record { walk = w; next = a .k + 5 }) (c .value4 .ensures ∙ ap₂ (λ n q. valued 2 n 0 3 q) (e4 .entry4 .ensures) radius)
+    ∙ sym (area-turn (a .row .now) (a .k) (a .from) (e .entry .ensures) (v .value .ensures) (kind-circle (i .if2 .taken)))
 
 add-entry-4 : tie.Need-add-entry-4
 add-entry-4 c = search needs
@@ -93,6 +102,9 @@ least-requires c κs = search needs
 value-requires-5 : tie.Need-value-requires-5
 value-requires-5 c κs = search needs
 
+add-points : tie.Need-add-points
+add-points c = search needs
+
 returns-3 : tie.Need-returns-3
 returns-3 c =
     let v5 = c .before .before in
@@ -102,12 +114,11 @@ returns-3 c =
     let v = i .before .before in
     let e = v .before in
     let a = e .before .before .args in
-    let kind = e .entry .result in
-    several-refused (a .row .now) (a .k) (a .from) (omega arith) (e .entry .ensures .0) (v .value .ensures) (leastOf kind) (kind-several (i .before .if1 .left) (i .if2 .left)) (e5 .entry5 .ensures .0)
-    (v5 .value5 .ensures ∙ ap (λ l. valued 4 (e5 .entry5 .result) l 15 (v .value .result)) (le .least .ensures)) (c .if3 .taken)
-
-add-judge-points-2 : tie.Need-add-judge-points-2
-add-judge-points-2 c = search needs
+    let n = e5 .entry5 .result in
+    let r = v5 .value5 .result in
+    let counted = v5 .value5 .ensures ∙ ap (λ l. valued 4 n l 15 (v .value .result)) (le .least .ensures) in
+    sym (several-turn (a .row .now) (a .k) (a .from) (leastOf (e .entry .result)) (e .entry .ensures) (v .value .ensures) (kind-several (i .before .if1 .left) (i .if2 .left)) (e5 .entry5 .ensures) counted
+    ∙ ap (λ b. cond b (record { walk = pointsJudged (a .row .now) n (a .k + 2) r; next = a .k + 2 + n * 2 }) (record { walk = r; next = a .k + 2 })) (ne-eqb (r .code) 0 (c .if3 .taken)))
 
 judge-points-requires-2 : tie.Need-judge-points-requires-2
 judge-points-requires-2 c κs =
@@ -118,16 +129,21 @@ judge-points-requires-2 c κs =
     let e = v .before in
     let a = e .before .before .args in
     let few = valued-between (v .value .result) 4 (e5 .entry5 .result) (le .least .result) 15 (v5 .value5 .ensures) (c .if3 .left) .1 in
-    (few, omega arith, omega (arith, valued-near (a .from) 3 (e .entry .result) 0 4 (v .value .ensures), valued-near (v .value .result) 4 (e5 .entry5 .result) (le .least .result) 15 (v5 .value5 .ensures)))
-
-add-t18 : tie.Need-add-t18
-add-t18 c = search needs
+    (few, omega arith)
 
 mul-t21 : tie.Need-mul-t21
-mul-t21 c = search needs
+mul-t21 c =
+    let v5 = c .before .before .before in
+    let le = v5 .before in
+    let e5 = le .before in
+    omega (arith, valued-between (e5 .before .before .before .value .result) 4 (e5 .entry5 .result) (le .least .result) 15 (v5 .value5 .ensures) (c .before .if3 .left) .1)
 
 add-t22 : tie.Need-add-t22
-add-t22 c = search needs
+add-t22 c =
+    let v5 = c .before .before .before in
+    let le = v5 .before in
+    let e5 = le .before in
+    omega (arith, valued-between (e5 .before .before .before .value .result) 4 (e5 .entry5 .result) (le .least .result) 15 (v5 .value5 .ensures) (c .before .if3 .left) .1)
 
 returns-4 : tie.Need-returns-4
 returns-4 c =
@@ -138,10 +154,12 @@ returns-4 c =
     let v = i .before .before in
     let e = v .before in
     let a = e .before .before .args in
-    let kind = e .entry .result in
-    let few = valued-between (v .value .result) 4 (e5 .entry5 .result) (le .least .result) 15 (v5 .value5 .ensures) (c .before .if3 .left) .1 in
-    several-judged (a .row .now) (a .k) (a .from) (omega arith) (e .entry .ensures .0) (v .value .ensures) (leastOf kind) (kind-several (i .before .if1 .left) (i .if2 .left)) (e5 .entry5 .ensures .0)
-    (v5 .value5 .ensures ∙ ap (λ l. valued 4 (e5 .entry5 .result) l 15 (v .value .result)) (le .least .ensures)) few (c .judge-points2 .ensures)
+    let n = e5 .entry5 .result in
+    let r = v5 .value5 .result in
+    let counted = v5 .value5 .ensures ∙ ap (λ l. valued 4 n l 15 (v .value .result)) (le .least .ensures) in
+    sym (several-turn (a .row .now) (a .k) (a .from) (leastOf (e .entry .result)) (e .entry .ensures) (v .value .ensures) (kind-several (i .before .if1 .left) (i .if2 .left)) (e5 .entry5 .ensures) counted
+    ∙ ap (λ b. cond b (record { walk = pointsJudged (a .row .now) n (a .k + 2) r; next = a .k + 2 + n * 2 }) (record { walk = r; next = a .k + 2 })) (eq-eqb (r .code) 0 (c .before .if3 .left))
+    ∙ ap (λ (w : Walk). record { walk = w; next = a .k + 2 + n * 2 }) (sym (c .judge-points2 .ensures)))
 
 pub judge-area-spec : {M : Type 1} → statement M
 judge-area-spec =
@@ -152,7 +170,7 @@ judge-area-spec =
     add-entry
     entry-requires-2
     value-requires-2
-    add-t15
+    add-t16
     returns
     add-judge-points
     judge-points-requires
@@ -162,16 +180,15 @@ judge-area-spec =
     add-entry-3
     entry-requires-4
     value-requires-4
-    add-t16
+    add-t17
     returns-2
     add-entry-4
     entry-requires-5
     least-requires
     value-requires-5
+    add-points
     returns-3
-    add-judge-points-2
     judge-points-requires-2
-    add-t18
     mul-t21
     add-t22
     returns-4)

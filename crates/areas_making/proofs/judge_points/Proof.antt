@@ -1,20 +1,25 @@
--- `judge_points` meets its contract: j points are judged.
-use Prim.Native.Nat.{_+_, _-_, _≤_}
-use mathlib.Core.Path.{_≡_, refl, subst}
+-- `judge_points` meets its contract: what is left to judge behind j points is what there was to judge.
+use Prim.Native.Nat.{_+_, _-_, _*_, _≤_}
+use mathlib.Core.Path.{_≡_, sym, ap, ap₂, _∙_}
 use native.Mathlib.Omega.{arith}
 use borrow.Author.Needs.{needs}
-use Rattle.areas_making.specs.laws.Judging.{Some, no-points, one-point, all-points}
+use Rattle.areas_making.specs.Making.{pointsJudged}
+use Rattle.areas_making.specs.laws.Judging.{point-turn}
 use Rattle.areas_making.proofs.judge_points.Statement.{statement}
 use Rattle.areas_making.proofs.judge_points.Tie as tie
 
 abbrev Inv-loop : tie.InvT-loop
-Inv-loop row k n w₀ j₀ w j = (j ≤ n) × Some row k n j w₀ w
+Inv-loop row k n w₀ j₀ w j = (j ≤ n) × (pointsJudged row n k w₀ ≡ pointsJudged row (n - j) (k + j * 2) w)
 
 abbrev μ-loop : tie.MeasureT-loop
 μ-loop row k n w₀ j₀ w j = n - j
 
 loop-holds : tie.Need-loop-holds Inv-loop μ-loop
-loop-holds c = let a = c .before .args in (omega arith, no-points (a .row .now) (a .k) (a .n))
+loop-holds c =
+    let a = c .before .args in
+    let m : a .n ≡ a .n - 0 = omega arith in
+    let k : a .k ≡ a .k + 0 * 2 = omega arith in
+    (omega arith, ap₂ (λ m k. pointsJudged (a .row .now) m k (a .from)) m k)
 
 mul-entry : tie.Need-mul-entry Inv-loop μ-loop
 mul-entry c = omega arith
@@ -55,18 +60,17 @@ loop-again c =
     let la = e2 .before in
     let e1 = la .before in
     let l = e1 .before .before in
-    let st = l .before .before in
-    let a = st .args in (
-      omega arith,
-      one-point (a .row .now) (a .k) (a .n) (l .loop .j) (l .loop .j + 1) refl (omega arith) (omega arith) (omega arith) (l .loop .inv .1) (e1 .entry .ensures .0) (e2 .entry2 .ensures .0) (la .judged-latitude .ensures) (c .judged-longitude .ensures),
-    )
+    let a = l .before .before .args in
+    let j = l .loop .j in
+    (omega arith, l .loop .inv .1 ∙ point-turn (a .row .now) (a .n - (j + 1)) (a .k + j * 2) (l .loop .w) (omega arith) (omega arith) (e1 .entry .ensures) (e2 .entry2 .ensures) (la .judged-latitude .ensures) (c .judged-longitude .ensures))
 
 returns : tie.Need-returns Inv-loop μ-loop
+unfolding pointsJudged
 returns c =
     let l = c .before in
     let a = l .before .before .args in
-    let all : l .loop .j ≡ a .n = omega arith in
-    all-points (a .row .now) (a .k) (a .n) (subst (λ j. Some (a .row .now) (a .k) (a .n) j (a .from) (l .loop .w)) all (l .loop .inv .1))
+    let none : a .n - l .loop .j ≡ 0 = omega arith in
+    sym (l .loop .inv .1 ∙ ap (λ m. pointsJudged (a .row .now) m (a .k + l .loop .j * 2) (l .loop .w)) none)
 
 pub judge-points-spec : {M : Type 1} → statement M
 judge-points-spec =

@@ -1,15 +1,17 @@
--- `put` meets its contract: i areas are put.
-use Prim.Native.Nat.{_+_, _-_, _≤_}
-use mathlib.Core.Path.{_≡_, refl, _∙_, subst}
+-- `put` meets its contract: what is left to put behind i areas is what there was to put.
+use Prim.Native.Nat.{_+_, _-_, _*_, _≤_}
+use mathlib.Core.Path.{_≡_, refl, sym, ap, _∙_}
 use native.Mathlib.Omega.{arith}
 use lib.ListN.{length}
-use Rattle.notice_areas.specs.Standing.{front}
-use Rattle.areas_making.specs.laws.Putting.{Passed, no-areas, one-area, all-areas}
+use Rattle.notice_areas.specs.Row.{longMost}
+use Rattle.notice_areas.specs.Standing.{front, areaMost}
+use Rattle.areas_making.specs.Making.{areasPut}
+use Rattle.areas_making.specs.laws.Putting.{areas-turn, area-small}
 use Rattle.areas_making.proofs.put.Statement.{statement}
 use Rattle.areas_making.proofs.put.Tie as tie
 
 abbrev Inv-loop : tie.InvT-loop
-Inv-loop buf₀ row count most at₀ k₀ i₀ buf at k i = (i ≤ count) × (length buf ≡ length buf₀) × Passed row count i front buf₀ buf at k
+Inv-loop buf₀ row count most at₀ k₀ i₀ buf at k i = (i ≤ count) × (length buf ≡ length buf₀) × (areasPut row count 0 front buf₀ ≡ areasPut row (count - i) k at buf) × (at ≤ front + i * areaMost) × (k ≤ i * longMost)
 
 abbrev μ-loop : tie.MeasureT-loop
 μ-loop buf₀ row count most at₀ k₀ i₀ buf at k i = count - i
@@ -18,14 +20,13 @@ cast-at : tie.Need-cast-at Inv-loop μ-loop
 cast-at c = omega arith
 
 loop-holds : tie.Need-loop-holds Inv-loop μ-loop
-loop-holds c = let st = c .before .before in let a = st .args in (omega arith, refl, no-areas (a .row .now) (a .count) front)
+loop-holds c =
+    let a = c .before .before .args in
+    let m : a .count ≡ a .count - 0 = omega arith in
+    (omega arith, refl, ap (λ m. areasPut (a .row .now) m 0 front (a .buf .now)) m, omega arith, omega arith)
 
 put-area-requires : tie.Need-put-area-requires Inv-loop μ-loop
-put-area-requires c κs =
-    let l = c .before .before in
-    let a = l .before .before .before .args in
-    let x = l .loop .inv .2 in
-    (omega (arith, x .near), omega (arith, x .near))
+put-area-requires c κs = (omega arith, omega arith)
 
 add-i : tie.Need-add-i Inv-loop μ-loop
 add-i c = omega arith
@@ -38,17 +39,25 @@ loop-again c =
     let p = c .before .before in
     let l = p .before .before .before in
     let a = l .before .before .before .args in
-    (omega arith, p .put-area .kept .0 ∙ l .loop .inv .1, one-area (a .row .now) (a .count) (l .loop .i) (l .loop .i + 1) front refl (omega arith) (l .loop .inv .2) (p .put-area .ensures))
+    let row = a .row .now in
+    let (far, small) = area-small row (l .loop .k) (l .loop .at) (l .loop .buf) (p .put-area .ensures) in (
+      omega arith,
+      p .put-area .kept .0 ∙ l .loop .inv .1,
+      l .loop .inv .2 ∙ areas-turn row (a .count - (l .loop .i + 1)) (l .loop .k) (l .loop .at) (l .loop .buf) (omega arith) (p .put-area .ensures),
+      omega (arith, far),
+      omega (arith, small),
+    )
 
 same-length : tie.Need-same-length Inv-loop μ-loop
 same-length c = c .before .loop .inv .1
 
 returns : tie.Need-returns Inv-loop μ-loop
+unfolding areasPut
 returns c =
     let l = c .before in
     let a = l .before .before .before .args in
-    let all : l .loop .i ≡ a .count = omega arith in
-    all-areas (a .row .now) (a .count) front (subst (λ i. Passed (a .row .now) (a .count) i front (a .buf .now) (l .loop .buf) (l .loop .at) (l .loop .k)) all (l .loop .inv .2))
+    let none : a .count - l .loop .i ≡ 0 = omega arith in
+    sym (l .loop .inv .2 ∙ ap (λ m. areasPut (a .row .now) m (l .loop .k) (l .loop .at) (l .loop .buf)) none)
 
 pub put-spec : {M : Type 1} → statement M
 put-spec =

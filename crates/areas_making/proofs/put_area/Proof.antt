@@ -1,11 +1,14 @@
 -- `put_area` meets its contract: by the number of the kind, as `kindOf` goes.
-use Prim.Native.Nat.{_+_, _-_}
+use Prim.Native.Nat.{ℕ, _+_, _-_, _*_, _%_}
+use mathlib.Core.Path.{sym, ap, ap₂, _∙_}
+use mathlib.Core.List.{List}
 use borrow.Author.Needs.{needs}
-use Rattle.format.specs.Correcting.{put-in}
-use Rattle.notice_parts.specs.Parts.{pointBits}
-use Rattle.notice_areas.specs.Areas.{leastOf}
+use Rattle.format.specs.Correcting.{putIn, put-in}
+use Rattle.notice_areas.specs.Areas.{several, leastOf}
 use Rattle.notice_areas.specs.laws.Kinds.{kind-sea, kind-circle, kind-several}
-use Rattle.areas_making.specs.laws.Putting.{sea-put, circle-put, several-put}
+use Rattle.notice_parts.specs.Parts.{pointBits}
+use Rattle.areas_making.specs.Making.{pointsPut, Put, insidePut}
+use Rattle.areas_making.specs.laws.Putting.{area-turn}
 use Rattle.areas_making.proofs.put_area.Statement.{statement}
 use Rattle.areas_making.proofs.put_area.Tie as tie
 
@@ -27,16 +30,17 @@ entry-requires-2 c κs = search needs
 put-requires-2 : tie.Need-put-requires-2
 put-requires-2 c κs = search needs
 
-add-t13 : tie.Need-add-t13
-add-t13 c = search needs
-
 add-t15 : tie.Need-add-t15
 add-t15 c = search needs
+
+add-t17 : tie.Need-add-t17
+add-t17 c = search needs
 
 same-length : tie.Need-same-length
 same-length c = search needs
 
 returns : tie.Need-returns
+unfolding insidePut
 returns c =
     let p2 = c .before .before in
     let e2 = p2 .before in
@@ -44,8 +48,9 @@ returns c =
     let p1 = i .before .before .before in
     let e = p1 .before .before in
     let a = e .before .before .before .args in
-    sea-put (a .row .now) (a .k) (a .at) (a .buf .now) (e .entry .ensures .0) (put-in (a .buf .now) (a .at) 3 (e .entry .result) (p1 .put .ensures)) (kind-sea (i .if1 .taken)) (e2 .entry2 .ensures .0)
-    (put-in _ (a .at + 3) 8 (e2 .entry2 .result) (p2 .put2 .ensures))
+    let u = p1 .put .last .0 in
+    ap (λ t. (record { at = a .at + 11; next = a .k + 2 }, t)) (put-in u (a .at + 3) 8 (e2 .entry2 .result) (p2 .put2 .ensures) ∙ ap (λ v. putIn u (a .at + 3) 8 v) (e2 .entry2 .ensures))
+    ∙ sym (area-turn (a .row .now) (a .k) (a .at) (a .buf .now) (e .entry .ensures) (put-in (a .buf .now) (a .at) 3 (e .entry .result) (p1 .put .ensures)) (kind-sea (i .if1 .taken)))
 
 add-put-points : tie.Need-add-put-points
 add-put-points c = search needs
@@ -89,22 +94,23 @@ entry-requires-4 c κs = search needs
 put-requires-4 : tie.Need-put-requires-4
 put-requires-4 c κs = search needs
 
-add-t25 : tie.Need-add-t25
-add-t25 c = search needs
+add-t27 : tie.Need-add-t27
+add-t27 c = search needs
 
-add-t28 : tie.Need-add-t28
-add-t28 c = search needs
+add-t30 : tie.Need-add-t30
+add-t30 c = search needs
 
-add-t19 : tie.Need-add-t19
-add-t19 c = search needs
+add-t21 : tie.Need-add-t21
+add-t21 c = search needs
 
-add-t20 : tie.Need-add-t20
-add-t20 c = search needs
+add-t22 : tie.Need-add-t22
+add-t22 c = search needs
 
 same-length-2 : tie.Need-same-length-2
 same-length-2 c = search needs
 
 returns-2 : tie.Need-returns-2
+unfolding insidePut
 returns-2 c =
     let p4 = c .before .before in
     let e4 = p4 .before in
@@ -115,8 +121,11 @@ returns-2 c =
     let p1 = i .before .before .before .before in
     let e = p1 .before .before in
     let a = e .before .before .before .args in
-    circle-put (a .row .now) (a .k) (a .at) (a .buf .now) (e .entry .ensures .0) (put-in (a .buf .now) (a .at) 3 (e .entry .result) (p1 .put .ensures)) (kind-circle (i .if2 .taken)) (ps .put-points .ensures) (e3 .entry3 .ensures .0) (e4 .entry4 .ensures .0)
-    (put-in _ (a .at + 3 + pointBits) 10 (e3 .entry3 .result) (p3 .put3 .ensures)) (put-in _ (a .at + 3 + pointBits + 10) 2 (e4 .entry4 .result) (p4 .put4 .ensures))
+    let radius = a .at + 3 + pointBits in
+    let u = p3 .put3 .last .0 in
+    let one = put-in (ps .put-points .last .0) radius 10 (e3 .entry3 .result) (p3 .put3 .ensures) ∙ ap₂ (λ t v. putIn t radius 10 v) (ps .put-points .ensures) (e3 .entry3 .ensures) in
+    ap (λ t. (record { at = radius + 12; next = a .k + 5 }, t)) (put-in u (radius + 10) 2 (e4 .entry4 .result) (p4 .put4 .ensures) ∙ ap₂ (λ t v. putIn t (radius + 10) 2 v) one (e4 .entry4 .ensures))
+    ∙ sym (area-turn (a .row .now) (a .k) (a .at) (a .buf .now) (e .entry .ensures) (put-in (a .buf .now) (a .at) 3 (e .entry .result) (p1 .put .ensures)) (kind-circle (i .if2 .taken)))
 
 add-entry-4 : tie.Need-add-entry-4
 add-entry-4 c = search needs
@@ -130,26 +139,23 @@ add-put-7 c = search needs
 put-requires-5 : tie.Need-put-requires-5
 put-requires-5 c κs = search needs
 
+add-points : tie.Need-add-points
+add-points c = search needs
+
 add-put-points-3 : tie.Need-add-put-points-3
 add-put-points-3 c = search needs
-
-add-put-points-4 : tie.Need-add-put-points-4
-add-put-points-4 c = search needs
 
 put-points-requires-2 : tie.Need-put-points-requires-2
 put-points-requires-2 c κs = search needs
 
-add-t29 : tie.Need-add-t29
-add-t29 c = search needs
+add-t31 : tie.Need-add-t31
+add-t31 c = search needs
 
-mul-t35 : tie.Need-mul-t35
-mul-t35 c = search needs
+mul-t38 : tie.Need-mul-t38
+mul-t38 c = search needs
 
-add-t37 : tie.Need-add-t37
-add-t37 c = search needs
-
-add-t38 : tie.Need-add-t38
-add-t38 c = search needs
+add-t39 : tie.Need-add-t39
+add-t39 c = search needs
 
 mul-t40 : tie.Need-mul-t40
 mul-t40 c = search needs
@@ -161,6 +167,7 @@ same-length-3 : tie.Need-same-length-3
 same-length-3 c = search needs
 
 returns-3 : tie.Need-returns-3
+unfolding insidePut
 returns-3 c =
     let ps = c .before .before in
     let p5 = ps .before .before .before .before in
@@ -168,11 +175,14 @@ returns-3 c =
     let i = e5 .before in
     let p1 = i .before .before .before .before in
     let e = p1 .before .before in
-    let st = e .before .before .before in
-    let a = st .args in
-    let several = kind-several (i .before .if1 .left) (i .if2 .left) in
-    several-put (a .row .now) (a .k) (a .at) (a .buf .now) (e .entry .ensures .0) (put-in (a .buf .now) (a .at) 3 (e .entry .result) (p1 .put .ensures)) (leastOf (e .entry .result)) (e5 .entry5 .ensures .1) several (e5 .entry5 .ensures .0)
-    (put-in _ (a .at + 3) 4 (e5 .entry5 .result) (p5 .put5 .ensures)) (ps .put-points2 .ensures)
+    let a = e .before .before .before .args in
+    let row = a .row .now in
+    let n = e5 .entry5 .result in
+    let u = p1 .put .last .0 in
+    let points : ℕ → List ℕ → List ℕ = λ n t. pointsPut row (n % 16) (a .k + 2) (a .at + 7) t in
+    let laid : ℕ → List ℕ → Put = λ n t. (record { at = a .at + 7 + n % 16 * pointBits; next = a .k + 2 + n % 16 * 2 }, t) in
+    ap (laid n) (ps .put-points2 .ensures ∙ ap (points n) (put-in u (a .at + 3) 4 n (p5 .put5 .ensures))) ∙ ap (λ n. laid n (points n (putIn u (a .at + 3) 4 n))) (e5 .entry5 .ensures)
+    ∙ sym (area-turn row (a .k) (a .at) (a .buf .now) {j = several (leastOf (e .entry .result))} (e .entry .ensures) (put-in (a .buf .now) (a .at) 3 (e .entry .result) (p1 .put .ensures)) (kind-several (i .before .if1 .left) (i .if2 .left)))
 
 pub put-area-spec : {M : Type 1} → statement M
 put-area-spec =
@@ -184,8 +194,8 @@ put-area-spec =
     add-entry
     entry-requires-2
     put-requires-2
-    add-t13
     add-t15
+    add-t17
     same-length
     returns
     add-put-points
@@ -202,23 +212,22 @@ put-area-spec =
     add-entry-3
     entry-requires-4
     put-requires-4
-    add-t25
-    add-t28
-    add-t19
-    add-t20
+    add-t27
+    add-t30
+    add-t21
+    add-t22
     same-length-2
     returns-2
     add-entry-4
     entry-requires-5
     add-put-7
     put-requires-5
+    add-points
     add-put-points-3
-    add-put-points-4
     put-points-requires-2
-    add-t29
-    mul-t35
-    add-t37
-    add-t38
+    add-t31
+    mul-t38
+    add-t39
     mul-t40
     add-t41
     same-length-3

@@ -1,23 +1,29 @@
--- `put_points` meets its contract: j points are put.
+-- `put_points` meets its contract: what is left to put behind j points is what there was to put.
 use Prim.Native.Nat.{_+_, _-_, _*_, _≤_}
-use mathlib.Core.Path.{_≡_, refl, _∙_, subst}
+use mathlib.Core.Path.{_≡_, refl, sym, ap, _∙_}
 use native.Mathlib.Omega.{arith}
 use lib.ListN.{length}
 use borrow.Author.Needs.{needs}
 use Rattle.format.specs.Correcting.{put-in}
 use Rattle.notice_parts.specs.Parts.{latitudeBits, longitudeBits, pointBits}
-use Rattle.areas_making.specs.laws.Putting.{Some, no-points, one-point, all-points}
+use Rattle.areas_making.specs.Making.{pointsPut}
+use Rattle.areas_making.specs.laws.Putting.{point-turn}
 use Rattle.areas_making.proofs.put_points.Statement.{statement}
 use Rattle.areas_making.proofs.put_points.Tie as tie
 
 abbrev Inv-loop : tie.InvT-loop
-Inv-loop buf₀ at row k n j₀ buf j = (j ≤ n) × (length buf ≡ length buf₀) × Some row k n j at buf₀ buf
+Inv-loop buf₀ at row k n j₀ buf j = (j ≤ n) × (length buf ≡ length buf₀) × (pointsPut row n k at buf₀ ≡ pointsPut row (n - j) (k + j * 2) (at + j * pointBits) buf)
 
 abbrev μ-loop : tie.MeasureT-loop
 μ-loop buf₀ at row k n j₀ buf j = n - j
 
 loop-holds : tie.Need-loop-holds Inv-loop μ-loop
-loop-holds c = let a = c .before .before .args in (omega arith, refl, no-points (a .row .now) (a .k) (a .n) (a .at))
+loop-holds c =
+    let a = c .before .before .args in
+    let m : a .n ≡ a .n - 0 = omega arith in
+    let k : a .k ≡ a .k + 0 * 2 = omega arith in
+    let at : a .at ≡ a .at + 0 * pointBits = omega arith in
+    (omega arith, refl, λ i. pointsPut (a .row .now) (m i) (k i) (at i) (a .buf .now))
 
 mul-put : tie.Need-mul-put Inv-loop μ-loop
 mul-put c = omega arith
@@ -78,7 +84,7 @@ loop-again c =
     let j = l .loop .j in (
       omega arith,
       p2 .put2 .kept .0 ∙ p1 .put .kept .0 ∙ l .loop .inv .1,
-      one-point (a .row .now) (a .k) (a .n) j (j + 1) (a .at) refl (omega arith) (l .loop .inv .2) (e1 .entry .ensures .0) (e2 .entry2 .ensures .0)
+      l .loop .inv .2 ∙ point-turn (a .row .now) (a .n - (j + 1)) (a .k + j * 2) (a .at + j * pointBits) (l .loop .buf) (omega arith) (omega arith) (omega arith) (e1 .entry .ensures) (e2 .entry2 .ensures)
           (put-in (l .loop .buf) (a .at + j * pointBits) latitudeBits (e1 .entry .result) (p1 .put .ensures)) (put-in _ (a .at + j * pointBits + latitudeBits) longitudeBits (e2 .entry2 .result) (p2 .put2 .ensures)),
     )
 
@@ -86,11 +92,12 @@ same-length : tie.Need-same-length Inv-loop μ-loop
 same-length c = c .before .loop .inv .1
 
 returns : tie.Need-returns Inv-loop μ-loop
+unfolding pointsPut
 returns c =
     let l = c .before in
     let a = l .before .before .before .args in
-    let all : l .loop .j ≡ a .n = omega arith in
-    all-points (a .row .now) (a .k) (a .n) (a .at) (subst (λ j. Some (a .row .now) (a .k) (a .n) j (a .at) (a .buf .now) (l .loop .buf)) all (l .loop .inv .2))
+    let none : a .n - l .loop .j ≡ 0 = omega arith in
+    sym (l .loop .inv .2 ∙ ap (λ m. pointsPut (a .row .now) m (a .k + l .loop .j * 2) (a .at + l .loop .j * pointBits) (l .loop .buf)) none)
 
 pub put-points-spec : {M : Type 1} → statement M
 put-points-spec =

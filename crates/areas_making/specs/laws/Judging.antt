@@ -1,26 +1,27 @@
--- Areas judged: one number, one point, what an area holds by its kind, one area more; each is a stretch of judging, and the stretches are joined. Assumes nothing.
-use Prim.Native.Nat.{ℕ, suc, _+_, _-_, _*_, _≤_, _<_, _^_}
+-- Areas judged: points, what an area holds by its kind, one area, all of them; each is a stretch of judging, and the stretches are joined from the front. And one turn of each loop. Assumes nothing.
+use Prim.Native.Nat.{ℕ, zero, suc, _+_, _*_, _≤_, _<_, _^_}
 use mathlib.Core.Path.{_≡_, refl, sym, ap, ap₂, _∙_, subst, subst⁻¹}
-use mathlib.Core.Bool.{true}
+use mathlib.Core.Bool.{Bool, true, false, cond}
 use mathlib.Core.List.{List, [], _∷_, _++_}
 use native.Mathlib.Omega.{arith}
-use native.Mathlib.Numerals.{add-one}
-use lib.Dec.{lit<}
+use lib.Dec.{eqb, lit<}
 use lib.ListN.{drop, getD}
+use borrow.Author.Tests.{eqb-true, eqb-false}
 use Rattle.pieces.specs.Pieces.{pieced}
 use Rattle.format.specs.Fmt.{Fmt}
 use Rattle.format.specs.Words.{_‥_, _▹_, num, deciding}
 use Rattle.layout.specs.Judging.{valued}
-use Rattle.layout.specs.laws.Judging.{judge-num, judge-deciding}
+use Rattle.layout.specs.laws.Judging.{judge-num, judge-deciding, valued-between}
 use Rattle.layout.specs.laws.Loops.{JudgesAlong, going, judges-stay, judges-refused, judges-then, judges-under, step-near}
 use Rattle.layout.specs.declared.walk.Walk.{Walk}
+use Rattle.notice_parts.specs.Parts.{latitudeBits, longitudeBits, pointBits}
 use Rattle.notice_parts.specs.Steps.{latitudeJudged, longitudeJudged}
 use Rattle.notice_parts.specs.laws.Walking.{latitude-judged, longitude-judged}
 use Rattle.notice_areas.specs.Areas.{Kind, sea, circle, several, kindOf, points, inside, areas}
-use Rattle.notice_areas.specs.Row.{first, areaLong, areasLong, areasTold}
-use Rattle.notice_areas.specs.laws.Row.{points-from, sea-from, circle-from, several-from, sea-long, circle-long, several-long, told-add, long-more, told-more}
-use Rattle.notice_parts.specs.Parts.{latitudeBits, longitudeBits, pointBits}
-use Rattle.areas_making.specs.Making.{areaFrom, PointsJudged, AreaJudged, AreasJudged}
+use Rattle.notice_areas.specs.Row.{first, longMost, areaLong, areasLong, areasTold}
+use Rattle.notice_areas.specs.Standing.{areaMost}
+use Rattle.notice_areas.specs.laws.Row.{areaFrom, points-front, sea-from, circle-from, several-from, sea-long, circle-long, several-long, long-front, told-front}
+use Rattle.areas_making.specs.Making.{pointsJudged, insideJudged, areaJudged, areasJudged}
 use Rattle.areas_making.specs.declared.Stepped.{Stepped}
 
 -- ---- one number
@@ -32,8 +33,8 @@ module _ {r q : Walk} (w : ℕ) (reach : r .at + w < 2 ^ 64) (lo hi : ℕ) (fits
   judges-decide : (g : ℕ → Fmt → Fmt) → q ≡ valued w v lo hi r → JudgesAlong (λ f. deciding w (lo ‥ hi) λ n. g n f) (g v) r (v ∷ []) q
   judges-decide g d = record { on = λ x. going (judge-deciding w reach lo hi fits (x .is) d) }
 
-pub valued-near : (r : Walk) (w v lo hi : ℕ) {q : Walk} → q ≡ valued w v lo hi r → q .at ≤ r .at + w
-valued-near r w v lo hi d = step-near r w true v _ 0 d
+valued-near : (r : Walk) (w v lo hi : ℕ) → valued w v lo hi r .at ≤ r .at + w
+valued-near r w v lo hi = step-near r w true v _ 0 refl
 
 -- the values told in another way
 told-as : {g g′ : Fmt → Fmt} {r r′ : Walk} {us vs : List ℕ} → us ≡ vs → JudgesAlong g g′ r us r′ → JudgesAlong g g′ r vs r′
@@ -41,143 +42,203 @@ told-as {g} {g′} {r} {r′} e a = subst (λ l. JudgesAlong g g′ r l r′) e 
 
 -- ---- points
 
-point-near : (r : Walk) {p q : Walk} (a b : ℕ) → p ≡ latitudeJudged a r → q ≡ longitudeJudged b p → q .at ≤ r .at + pointBits
-unfolding pieced
-point-near r {p} {q} a b d e = let x : p .at ≤ r .at + latitudeBits = step-near r latitudeBits true a _ _ d in let y : q .at ≤ p .at + longitudeBits = step-near p longitudeBits true b _ _ e in omega (arith, x, y)
+module _ (r : Walk) (a b : ℕ) where
+  point-near : longitudeJudged b (latitudeJudged a r) .at ≤ r .at + pointBits
+  unfolding pieced
+  point-near =
+      let p = latitudeJudged a r in
+      let x : p .at ≤ r .at + latitudeBits = step-near r latitudeBits true a _ _ refl in
+      let y : longitudeJudged b p .at ≤ p .at + longitudeBits = step-near p longitudeBits true b _ _ refl in
+      omega (arith, x, y)
 
-point-judged : (m : ℕ) {r p q : Walk} (a b : ℕ) → r .at + pointBits < 2 ^ 64 → p ≡ latitudeJudged a r → q ≡ longitudeJudged b p → JudgesAlong (points (suc m)) (points m) r (a ∷ b ∷ []) q
-unfolding points
-point-judged m {r} a b reach d e = record { on = λ x. going (longitude-judged (omega arith) (latitude-judged (omega arith) (x .is) d) e) }
+  point-along : (m : ℕ) → r .at + pointBits < 2 ^ 64 → JudgesAlong (points (suc m)) (points m) r (a ∷ b ∷ []) (longitudeJudged b (latitudeJudged a r))
+  unfolding points
+  point-along m reach = record { on = λ x. going (longitude-judged (omega arith) (latitude-judged (omega arith) (x .is) refl) refl) }
 
--- j of n points
-pub record Some (row : List ℕ) (k n j : ℕ) (r₀ r : Walk) : Type 0 where
-  pub along : JudgesAlong (points n) (points (n - j)) r₀ (first (j * 2) (drop k row)) r
-  pub near : r .at ≤ r₀ .at + j * pointBits
+record PointsAre (row : List ℕ) (n k : ℕ) (r₀ r : Walk) : Type 0 where
+  along : JudgesAlong (points n) (λ f. f) r₀ (first (n * 2) (drop k row)) r
+  near : r .at ≤ r₀ .at + n * pointBits
 
-pub no-points : (row : List ℕ) (k n : ℕ) {r : Walk} → Some row k n 0 r r
-unfolding first
-no-points row k n {r} = record { along = let e : n ≡ n - 0 = omega arith in subst (λ m. JudgesAlong (points n) (points m) r [] r) e judges-stay; near = omega arith }
-
-pub one-point : (row : List ℕ) (k n j i : ℕ) {r₀ r p q : Walk} {a b : ℕ} → i ≡ j + 1 → j < n → r₀ .at ≤ 300_000 → n ≤ 15 → Some row k n j r₀ r → a ≡ getD row (k + j * 2) 0 → b ≡ getD row (k + j * 2 + 1) 0
-    → p ≡ latitudeJudged a r → q ≡ longitudeJudged b p → Some row k n i r₀ q
-one-point row k n j i {r₀} {r} {p} {q} {a} {b} is l low few x ea eb d e =
-    let less : suc (n - suc j) ≡ n - j = omega arith in
-    subst (λ i. Some row k n i r₀ q) (sym (is ∙ add-one j)) (record {
-      along = told-as (ap₂ (λ a b. first (j * 2) (drop k row) ++ (a ∷ b ∷ [])) ea eb ∙ sym (points-from row k j))
-          (judges-then (x .along) (subst (λ m. JudgesAlong (points m) (points (n - suc j)) r (a ∷ b ∷ []) q) less (point-judged (n - suc j) a b (omega (arith, x .near)) d e)));
-      near = omega (arith, x .near, point-near r a b d e);
-    })
-
-pub all-points : (row : List ℕ) (k n : ℕ) {r₀ r : Walk} → Some row k n n r₀ r → PointsJudged row k n r₀ r
-unfolding points
-all-points row k n {r₀} {r} x =
-    let e : n - n ≡ 0 = omega arith in
-    let y = subst (λ m. JudgesAlong (points n) (points m) r₀ (first (n * 2) (drop k row)) r) e (x .along) in
-    record { along = record { on = λ z. y .on z }; near = x .near }
+points-are : (row : List ℕ) (n k : ℕ) (r : Walk) → r .at + n * pointBits < 2 ^ 64 → PointsAre row n k r (pointsJudged row n k r)
+unfolding points first pointsJudged
+points-are row zero k r reach = record { along = judges-stay; near = omega arith }
+points-are row (suc n) k r reach =
+    let a = getD row k 0 in
+    let b = getD row (k + 1) 0 in
+    let near = point-near r a b in
+    let x = points-are row n (k + 2) (longitudeJudged b (latitudeJudged a r)) (omega (arith, near)) in
+    record {
+      along = told-as (sym (points-front row k n)) (judges-then (point-along r a b n (omega arith)) (x .along));
+      near = omega (arith, near, x .near);
+    }
 
 -- ---- one area, by its kind
 
--- past the kind, then what it holds
-held : (m : ℕ) (is : Kind) {r w q : Walk} (kind : ℕ) {us : List ℕ} → r .at ≤ 200_000 → kindOf kind ≡ is → w ≡ valued 3 kind 0 4 r → JudgesAlong (inside is) (λ f. f) w us q
-    → JudgesAlong (areas (suc m)) (areas m) r (kind ∷ us) q
-unfolding areas
-held m is {r} {w} {q} kind {us} low e d x =
-    let y = judges-decide 3 (omega arith) 0 4 (lit< tt) kind (λ k f. inside (kindOf k) (areas m f)) d in
-    let z = subst⁻¹ (λ is. JudgesAlong (inside is) (λ f. f) w us q) e x in
-    let a = judges-then y (judges-under (areas m) z) in
-    record { on = λ v. a .on v }
+record AreaIs (row : List ℕ) (k : ℕ) (r₀ : Walk) (r : Stepped) : Type 0 where
+  along : (m : ℕ) → JudgesAlong (areas (suc m)) (areas m) r₀ (areaFrom row k) (r .walk)
+  near : r .walk .at ≤ r₀ .at + areaMost
+  next : r .walk .code ≡ 0 → r .next ≡ k + areaLong (drop k row)
 
-module _ (row : List ℕ) (k : ℕ) (r : Walk) {w : Walk} {kind : ℕ} (low : r .at ≤ 200_000) (is : kind ≡ getD row k 0) (d : w ≡ valued 3 kind 0 4 r) where
-  first-near : w .at ≤ r .at + 3
-  first-near = valued-near r 3 kind 0 4 d
+module _ (row : List ℕ) (k : ℕ) (r : Walk) (reach : r .at + areaMost < 2 ^ 64) where
+  abbrev kind : ℕ
+  kind = getD row k 0
 
-  at-kind : {j : Kind} → kindOf kind ≡ j → kindOf (getD row k 0) ≡ j
-  at-kind e = ap kindOf (sym is) ∙ e
+  abbrev behind : Walk
+  behind = valued 3 kind 0 4 r
 
-  pub sea-judged : {q : Walk} {c : ℕ} → kindOf kind ≡ sea → c ≡ getD row (k + 1) 0 → q ≡ valued 8 c 0 255 w → AreaJudged row k r (record { walk = q; next = k + 2 })
-  sea-judged {q} {c} e x y = record {
-    along = λ m. told-as (ap₂ (λ a b. a ∷ b ∷ []) is x ∙ sym (sea-from row k (at-kind e))) (held m sea kind low e d (judges-num 8 (omega (arith, first-near)) 0 255 (lit< tt) c y));
-    near = omega (arith, first-near, valued-near w 8 c 0 255 y);
-    next = λ z. (ap (k +_) (sym (sea-long row k (at-kind e))), omega arith);
+  behind-near : behind .at ≤ r .at + 3
+  behind-near = valued-near r 3 kind 0 4
+
+  -- past the kind, then what it holds
+  held : (m : ℕ) (j : Kind) {q : Walk} {us : List ℕ} → kindOf kind ≡ j → JudgesAlong (inside j) (λ f. f) behind us q → JudgesAlong (areas (suc m)) (areas m) r (kind ∷ us) q
+  unfolding areas
+  held m j {q} {us} e x =
+      let y = judges-decide {r = r} 3 (omega arith) 0 4 (lit< tt) kind (λ k f. inside (kindOf k) (areas m f)) refl in
+      let z = subst⁻¹ (λ j. JudgesAlong (inside j) (λ f. f) behind us q) e x in
+      let a = judges-then y (judges-under (areas m) z) in
+      record { on = λ v. a .on v }
+
+  sea-is : kindOf kind ≡ sea → AreaIs row k r (insideJudged sea row k behind)
+  unfolding insideJudged
+  sea-is e = let c = getD row (k + 1) 0 in record {
+    along = λ m. told-as (sym (sea-from row k e)) (held m sea e (judges-num 8 (omega (arith, behind-near)) 0 255 (lit< tt) c refl));
+    near = omega (arith, behind-near, valued-near behind 8 c 0 255);
+    next = λ z. ap (k +_) (sym (sea-long row k e));
   }
 
-  pub circle-judged : {p a b : Walk} {x y : ℕ} → kindOf kind ≡ circle → PointsJudged row (k + 1) 1 w p → x ≡ getD row (k + 3) 0 → y ≡ getD row (k + 4) 0 → a ≡ valued 10 x 0 1_023 p → b ≡ valued 2 y 0 3 a
-      → AreaJudged row k r (record { walk = b; next = k + 5 })
-  circle-judged {p} {a} {b} {x} {y} e ps ex ey da db =
-      let near-p = ps .near in
-      let near-a = valued-near p 10 x 0 1_023 da in
+  circle-is : kindOf kind ≡ circle → AreaIs row k r (insideJudged circle row k behind)
+  unfolding insideJudged
+  circle-is e =
+      let x = getD row (k + 3) 0 in
+      let y = getD row (k + 4) 0 in
+      let p = pointsJudged row 1 (k + 1) behind in
+      let a = valued 10 x 0 1_023 p in
+      let ps = points-are row 1 (k + 1) behind (omega (arith, behind-near)) in
+      let near-a = valued-near p 10 x 0 1_023 in
       record {
-        along = λ m. told-as (ap (λ c. c ∷ (first (1 * 2) (drop (k + 1) row) ++ (x ∷ y ∷ []))) is ∙ ap₂ (λ x y. getD row k 0 ∷ (first (1 * 2) (drop (k + 1) row) ++ (x ∷ y ∷ []))) ex ey ∙ sym (circle-from row k (at-kind e)))
-            (held m circle kind low e d (judges-then (judges-under (λ f. num 10 (0 ‥ 1_023) ▹ num 2 (0 ‥ 3) ▹ f) (ps .along))
-            (judges-then (judges-under (num 2 (0 ‥ 3)) (judges-num 10 (omega (arith, first-near, near-p)) 0 1_023 (lit< tt) x da)) (judges-num 2 (omega (arith, first-near, near-p, near-a)) 0 3 (lit< tt) y db))));
-        near = omega (arith, first-near, near-p, near-a, valued-near a 2 y 0 3 db);
-        next = λ z. (ap (k +_) (sym (circle-long row k (at-kind e))), omega arith);
+        along = λ m. told-as (sym (circle-from row k e))
+            (held m circle e (judges-then (judges-under (λ f. num 10 (0 ‥ 1_023) ▹ num 2 (0 ‥ 3) ▹ f) (ps .along))
+            (judges-then (judges-under (num 2 (0 ‥ 3)) (judges-num 10 (omega (arith, behind-near, ps .near)) 0 1_023 (lit< tt) x refl)) (judges-num 2 (omega (arith, behind-near, ps .near, near-a)) 0 3 (lit< tt) y refl))));
+        near = omega (arith, behind-near, ps .near, near-a, valued-near a 2 y 0 3);
+        next = λ z. ap (k +_) (sym (circle-long row k e));
       }
 
-  module _ (l : ℕ) {n : ℕ} {c : Walk} (e : kindOf kind ≡ several l) (x : n ≡ getD row (k + 1) 0) (y : c ≡ valued 4 n l 15 w) where
-    counted : JudgesAlong (inside (several l)) (points n) w (n ∷ []) c
-    counted = judges-decide 4 (omega (arith, first-near)) l 15 (lit< tt) n points y
+  several-is : (l : ℕ) → kindOf kind ≡ several l → AreaIs row k r (insideJudged (several l) row k behind)
+  unfolding insideJudged
+  several-is l e = go (eqb (c .code) 0) refl
+    where
+      n : ℕ
+      n = getD row (k + 1) 0
 
-    values : kind ∷ n ∷ first (n * 2) (drop (k + 2) row) ≡ areaFrom row k
-    values = ap₂ (λ a n. a ∷ n ∷ first (n * 2) (drop (k + 2) row)) is x ∙ sym (several-from row k l (at-kind e))
+      c : Walk
+      c = valued 4 n l 15 behind
 
-    pub several-judged : {q : Walk} → n ≤ 15 → PointsJudged row (k + 2) n c q → AreaJudged row k r (record { walk = q; next = k + 2 + n * 2 })
-    several-judged {q} few ps = record {
-      along = λ m. told-as values (held m (several l) kind low e d (judges-then counted (ps .along)));
-      near = omega (arith, first-near, valued-near w 4 n l 15 y, ps .near);
-      next = λ z. (omega (arith, several-long row k l (at-kind e), x), omega arith);
-    }
+      near-c : c .at ≤ behind .at + 4
+      near-c = valued-near behind 4 n l 15
 
-    -- a refused count ends it
-    pub several-refused : (c .code ≡ 0 → ⊥) → AreaJudged row k r (record { walk = c; next = k })
-    several-refused bad = record {
-      along = λ m. told-as values (held m (several l) kind low e d (judges-then counted (judges-refused bad)));
-      near = omega (arith, first-near, valued-near w 4 n l 15 y);
-      next = λ z. absurd (bad z);
-    }
+      counted : JudgesAlong (inside (several l)) (points n) behind (n ∷ []) c
+      counted = judges-decide 4 (omega (arith, behind-near)) l 15 (lit< tt) n points refl
+
+      -- a refused count ends it
+      go : (t : Bool) → eqb (c .code) 0 ≡ t → AreaIs row k r (cond t (record { walk = pointsJudged row n (k + 2) c; next = k + 2 + n * 2 }) (record { walk = c; next = k + 2 }))
+      go true t =
+          let few = valued-between behind 4 n l 15 refl (eqb-true (c .code) 0 t) .1 in
+          let ps = points-are row n (k + 2) c (omega (arith, behind-near, near-c, few)) in
+          record {
+            along = λ m. told-as (sym (several-from row k l e)) (held m (several l) e (judges-then counted (ps .along)));
+            near = omega (arith, behind-near, near-c, ps .near, few);
+            next = λ z. omega (arith, several-long row k l e);
+          }
+      go false t = record {
+        along = λ m. told-as (sym (several-from row k l e)) (held m (several l) e (judges-then counted (judges-refused (eqb-false (c .code) 0 t))));
+        near = omega (arith, behind-near, near-c);
+        next = λ z. absurd (eqb-false (c .code) 0 t z);
+      }
+
+  area-is : AreaIs row k r (areaJudged row k r)
+  area-is = go (kindOf kind) refl
+    where
+      go : (j : Kind) → kindOf kind ≡ j → AreaIs row k r (insideJudged j row k behind)
+      go sea e = sea-is e
+      go circle e = circle-is e
+      go (several l) e = several-is l e
 
 -- ---- areas
 
--- i of n areas, and the number of the row that comes next
-pub record Passed (row : List ℕ) (n i : ℕ) (r₀ r : Walk) (k : ℕ) : Type 0 where
-  pub along : JudgesAlong (areas n) (areas (n - i)) r₀ (areasTold i row) r
-  pub near : r .at ≤ r₀ .at + i * 700
-  pub next : (k ≡ areasLong i row) × (k ≤ i * 32)
+pub record AreasAre (row : List ℕ) (n k : ℕ) (r₀ : Walk) (r : Stepped) : Type 0 where
+  pub along : JudgesAlong (areas n) (λ f. f) r₀ (areasTold n (drop k row)) (r .walk)
+  pub near : r .walk .at ≤ r₀ .at + n * areaMost
+  pub next : r .walk .code ≡ 0 → r .next ≡ k + areasLong n (drop k row)
 
-pub no-areas : (row : List ℕ) (n : ℕ) {r : Walk} → Passed row n 0 r r 0
-unfolding first areasLong
-no-areas row n {r} = record { along = let e : n ≡ n - 0 = omega arith in subst (λ m. JudgesAlong (areas n) (areas m) r [] r) e judges-stay; near = omega arith; next = (refl, omega arith) }
+pub areas-are : (row : List ℕ) (n k : ℕ) (r : Walk) → r .at + n * areaMost < 2 ^ 64 → AreasAre row n k r (areasJudged row n k r)
+unfolding areas first areasLong areasJudged
+areas-are row zero k r reach = record { along = judges-stay; near = omega arith; next = λ z. omega arith }
+areas-are row (suc n) k r reach =
+    let x = area-is row k r (omega arith) in
+    stepped (eqb (a .walk .code) 0) refl x (areas-are row n (a .next) (a .walk) (omega (arith, x .near)))
+  where
+    a : Stepped
+    a = areaJudged row k r
 
-module _ (row : List ℕ) (n i : ℕ) {r₀ r : Walk} {k : ℕ} {a : Stepped} (l : i < n) (x : Passed row n i r₀ r k) (y : AreaJudged row k r a) where
-  one-more : JudgesAlong (areas n) (areas (n - suc i)) r₀ (areasTold (suc i) row) (a .walk)
-  one-more =
-      let less : suc (n - suc i) ≡ n - i = omega arith in
-      told-as (ap (λ k. areasTold i row ++ areaFrom row k) (x .next .0) ∙ sym (told-more i row))
-      (judges-then (x .along) (subst (λ m. JudgesAlong (areas m) (areas (n - suc i)) r (areaFrom row k) (a .walk)) less (y .along (n - suc i))))
+    stepped : (t : Bool) → eqb (a .walk .code) 0 ≡ t → AreaIs row k r a → AreasAre row n (a .next) (a .walk) (areasJudged row n (a .next) (a .walk))
+        → AreasAre row (suc n) k r (cond t (areasJudged row n (a .next) (a .walk)) a)
+    stepped true t x y =
+        let next = x .next (eqb-true (a .walk .code) 0 t) in
+        record {
+          along = told-as (ap (λ k′. areaFrom row k ++ areasTold n (drop k′ row)) next ∙ sym (told-front n row k)) (judges-then (x .along n) (y .along));
+          near = omega (arith, x .near, y .near);
+          next = λ z. y .next z ∙ ap (λ k′. k′ + areasLong n (drop k′ row)) next ∙ omega (arith, long-front n row k);
+        }
+    -- a refused one ends it
+    stepped false t x y =
+        let bad = eqb-false (a .walk .code) 0 t in
+        record {
+          along = told-as (sym (told-front n row k)) (judges-then (x .along n) (judges-refused bad));
+          near = omega (arith, x .near);
+          next = λ z. absurd (bad z);
+        }
 
-  pub one-area : (j : ℕ) → j ≡ i + 1 → a .walk .code ≡ 0 → Passed row n j r₀ (a .walk) (a .next)
-  one-area j is z =
-      let (next, small) = y .next z in
-      subst (λ j. Passed row n j r₀ (a .walk) (a .next)) (sym (is ∙ add-one i)) (record {
-        along = one-more;
-        near = omega (arith, x .near, y .near);
-        next = (next ∙ ap (λ k. k + areaLong (drop k row)) (x .next .0) ∙ sym (long-more i row), omega (arith, small, x .next .1));
-      })
+-- ---- turns of the loops
 
-  -- a refused one ends the walk
-  pub broken : (a .walk .code ≡ 0 → ⊥) → AreasJudged row n r₀ a
-  broken bad = record {
-    along = told-as (sym (told-add (suc i) (n - suc i) row) ∙ ap (λ n. areasTold n row) all) (judges-then one-more (judges-refused bad));
-    near = omega (arith, x .near, y .near);
-    next = λ z. absurd (bad z);
-  }
-    where
-      all : suc i + (n - suc i) ≡ n
-      all = omega arith
+pub point-turn : (row : List ℕ) (n k : ℕ) {m k′ a b : ℕ} (r : Walk) {p q : Walk} → m ≡ suc n → k′ ≡ k + 2 → a ≡ getD row k 0 → b ≡ getD row (k + 1) 0 → p ≡ latitudeJudged a r → q ≡ longitudeJudged b p
+    → pointsJudged row m k r ≡ pointsJudged row n k′ q
+unfolding pointsJudged
+point-turn row n k r e f ea eb d g =
+    ap (λ m. pointsJudged row m k r) e
+    ∙ sym (ap₂ (λ k q. pointsJudged row n k q) f (g ∙ ap₂ (λ b p. longitudeJudged b p) eb (d ∙ ap (λ a. latitudeJudged a r) ea)))
 
-pub all-areas : (row : List ℕ) (n : ℕ) {r₀ r : Walk} {k : ℕ} → Passed row n n r₀ r k → AreasJudged row n r₀ (record { walk = r; next = k })
-unfolding areas
-all-areas row n {r₀} {r} x =
-    let e : n - n ≡ 0 = omega arith in
-    let y = subst (λ m. JudgesAlong (areas n) (areas m) r₀ (areasTold n row) r) e (x .along) in
-    record { along = record { on = λ z. y .on z }; near = x .near; next = λ z. x .next .0 }
+-- an area, of the kind j
+pub area-turn : (row : List ℕ) (k : ℕ) (r : Walk) {kind : ℕ} {w : Walk} {j : Kind} → kind ≡ getD row k 0 → w ≡ valued 3 kind 0 4 r → kindOf kind ≡ j → areaJudged row k r ≡ insideJudged j row k w
+area-turn row k r {w = w} e d f = sym (ap (λ c. insideJudged (kindOf c) row k (valued 3 c 0 4 r)) e) ∙ ap₂ (λ j w. insideJudged j row k w) f (sym d)
+
+-- and one that counts n points
+pub several-turn : (row : List ℕ) (k : ℕ) (r : Walk) {kind n : ℕ} {w c : Walk} (l : ℕ) → kind ≡ getD row k 0 → w ≡ valued 3 kind 0 4 r → kindOf kind ≡ several l → n ≡ getD row (k + 1) 0 → c ≡ valued 4 n l 15 w
+    → areaJudged row k r ≡ cond (eqb (c .code) 0) (record { walk = pointsJudged row n (k + 2) c; next = k + 2 + n * 2 }) (record { walk = c; next = k + 2 })
+unfolding insideJudged
+several-turn row k r {n = n} {w} l e d f en dc =
+    area-turn row k r e d f
+    ∙ ap₂ (λ n c. cond (eqb (c .code) 0) (record { walk = pointsJudged row n (k + 2) c; next = k + 2 + n * 2 }) (record { walk = c; next = k + 2 })) (sym en) (ap (λ n. valued 4 n l 15 w) (sym en) ∙ sym dc)
+
+pub areas-turn : (row : List ℕ) (n k : ℕ) {m : ℕ} (r : Walk) {a : Stepped} → m ≡ suc n → a ≡ areaJudged row k r → areasJudged row m k r ≡ cond (eqb (a .walk .code) 0) (areasJudged row n (a .next) (a .walk)) a
+unfolding areasJudged
+areas-turn row n k r e d = ap (λ m. areasJudged row m k r) e ∙ sym (ap (λ (a : Stepped). cond (eqb (a .walk .code) 0) (areasJudged row n (a .next) (a .walk)) a) d)
+
+-- an area takes no more numbers than one of 15 points, whatever the row
+inside-small : (j : Kind) (row : List ℕ) (k : ℕ) (w : Walk) → insideJudged j row k w .next ≤ k + longMost
+unfolding insideJudged
+inside-small sea row k w = omega arith
+inside-small circle row k w = omega arith
+inside-small (several l) row k w = go (eqb (c .code) 0) refl
+  where
+    n : ℕ
+    n = getD row (k + 1) 0
+
+    c : Walk
+    c = valued 4 n l 15 w
+
+    go : (t : Bool) → eqb (c .code) 0 ≡ t → cond {A = Stepped} t (record { walk = pointsJudged row n (k + 2) c; next = k + 2 + n * 2 }) (record { walk = c; next = k + 2 }) .next ≤ k + longMost
+    go true t = omega (arith, valued-between w 4 n l 15 refl (eqb-true (c .code) 0 t) .1)
+    go false t = omega arith
+
+pub area-small : (row : List ℕ) (k : ℕ) (r : Walk) {a : Stepped} → a ≡ areaJudged row k r → a .next ≤ k + longMost
+area-small row k r d = subst⁻¹ (λ (a : Stepped). a .next ≤ k + longMost) d (inside-small (kindOf (getD row k 0)) row k (valued 3 (getD row k 0) 0 4 r))

@@ -1,32 +1,39 @@
--- Areas put: one number, one point, what an area holds by its kind, one area more; each is a stretch of putting, and the stretches are joined. Assumes nothing.
-use Prim.Native.Nat.{ℕ, suc, _+_, _-_, _*_, _^_, _≤_, _<_}
+-- Areas put: points, what an area holds by its kind, one area, all of them; each is a stretch of putting, and the stretches are joined from the front. And one turn of each loop. Assumes nothing.
+use Prim.Native.Nat.{ℕ, zero, suc, _+_, _*_, _%_, _≤_, _<_, _^_}
 use mathlib.Core.Path.{_≡_, refl, sym, ap, ap₂, _∙_, subst, subst⁻¹}
-use mathlib.Core.List.{List, [], _∷_, _++_}
+use mathlib.Core.Bool.{Bool}
+use mathlib.Core.List.{List, [], _∷_, _++_, append-assoc}
+use native.Mathlib.Nat.{mod-eq-of-lt}
 use native.Mathlib.Omega.{arith}
-use native.Mathlib.Numerals.{add-one}
 use lib.Dec.{lit≤}
 use lib.ListN.{drop, getD}
 use Rattle.format.specs.Correcting.{putIn}
-use Rattle.format.specs.Fmt.{Fmt}
+use Rattle.format.specs.Fmt.{Judge, Fmt, choice, write}
 use Rattle.format.specs.Words.{Test, _▹_, _‥_, num, deciding, wide}
 use Rattle.format.specs.laws.Extent.{opens-field, opens-choice}
-use Rattle.format.specs.laws.Putting.{put-number}
+use Rattle.format.specs.laws.Putting.{Putting, put-number}
+use Rattle.format.specs.laws.Round.{written}
 use Rattle.layout.specs.laws.Loops.{PutsAlong, puts-stay, puts-then, puts-under}
 use Rattle.notice_areas.specs.Areas.{Kind, sea, circle, several, kindOf, points, inside, areas}
-use Rattle.notice_areas.specs.Row.{first, areaLong, areasLong, areasTold}
-use Rattle.notice_areas.specs.laws.Row.{points-from, sea-from, circle-from, several-from, sea-long, circle-long, several-long, long-more, told-more}
+use Rattle.notice_areas.specs.Row.{first, longMost, areaLong, areasLong, areasTold}
+use Rattle.notice_areas.specs.Standing.{areaMost}
+use Rattle.notice_areas.specs.laws.Row.{areaFrom, points-front, sea-from, circle-from, several-from, sea-long, circle-long, several-long, told-front}
 use Rattle.notice_parts.specs.Parts.{latitudeBits, longitudeBits, pointBits}
-use Rattle.areas_making.specs.Making.{areaFrom, PointsPut, AreaPut, AreasPut}
-use Rattle.areas_making.specs.declared.Laid.{Laid}
+use Rattle.areas_making.specs.Making.{pointsPut, Put, insidePut, areaPut, areasPut}
 
 -- ---- one number
 
-module _ (t : List ℕ) (at w : ℕ) (small : w ≤ 32) (v : ℕ) {u : List ℕ} (d : u ≡ putIn t at w v) where
-  puts-num : (test : Test) → PutsAlong (num w test) (λ f. f) at (v ∷ []) t (at + w) u
-  puts-num test = record { on = λ x. put-number w small opens-field x d }
+module _ (t : List ℕ) (at w : ℕ) (small : w ≤ 32) (v : ℕ) where
+  puts-num : (test : Test) → PutsAlong (num w test) (λ f. f) at (v ∷ []) t (at + w) (putIn t at w v)
+  puts-num test = record { on = λ x. put-number w small opens-field x refl }
 
-  puts-decide : (test : Test) (g : ℕ → Fmt → Fmt) → PutsAlong (λ f. deciding w test λ n. g n f) (g v) at (v ∷ []) t (at + w) u
-  puts-decide test g = record { on = λ x. put-number w small opens-choice x d }
+  puts-decide : (test : Test) (g : ℕ → Fmt → Fmt) → PutsAlong (λ f. deciding w test λ n. g n f) (g v) at (v ∷ []) t (at + w) (putIn t at w v)
+  puts-decide test g = record { on = λ x. put-number w small opens-choice x refl }
+
+-- what writing accepts fits its bits
+narrow : (w : ℕ) {j : Judge} {g : ℕ → Fmt} {s t : List ℕ} {b : List Bool} {at v : ℕ} {vs : List ℕ} → Putting s b (choice w j g) at (v ∷ vs) t → v < 2 ^ w
+unfolding write
+narrow w {j} {g} {at = at} {v} {vs} x = written w j (x .before) at v (write (g v) (v ∷ x .before) (at + w) vs) (x .left) (x .todo) .narrow
 
 -- told in another way, and ending at another name of the place
 told-as : {g g′ : Fmt → Fmt} {at : ℕ} {us vs t u : List ℕ} {a b : ℕ} → us ≡ vs → a ≡ b → PutsAlong g g′ at us t a u → PutsAlong g g′ at vs t b u
@@ -34,111 +41,145 @@ told-as {g} {g′} {at} {us} {vs} {t} {u} {a} {b} e p x = subst (λ l. PutsAlong
 
 -- ---- points
 
-point-put : (m at : ℕ) (t : List ℕ) (a b : ℕ) {p q : List ℕ} → p ≡ putIn t at latitudeBits a → q ≡ putIn p (at + latitudeBits) longitudeBits b → PutsAlong (points (suc m)) (points m) at (a ∷ b ∷ []) t (at + pointBits) q
+point-along : (m at : ℕ) (t : List ℕ) (a b : ℕ) → PutsAlong (points (suc m)) (points m) at (a ∷ b ∷ []) t (at + pointBits) (putIn (putIn t at latitudeBits a) (at + latitudeBits) longitudeBits b)
 unfolding points wide
-point-put m at t a b {p} {q} d e =
-    let y : PutsAlong (points (suc m)) (points m) at (a ∷ b ∷ []) t (at + latitudeBits + longitudeBits) q = record { on = λ x. put-number longitudeBits (lit≤ tt) opens-field (put-number latitudeBits (lit≤ tt) opens-field x d) e } in
+point-along m at t a b =
+    let q = putIn (putIn t at latitudeBits a) (at + latitudeBits) longitudeBits b in
+    let y : PutsAlong (points (suc m)) (points m) at (a ∷ b ∷ []) t (at + latitudeBits + longitudeBits) q = record { on = λ x. put-number longitudeBits (lit≤ tt) opens-field (put-number latitudeBits (lit≤ tt) opens-field x refl) refl } in
     told-as refl (omega arith) y
 
--- j of n points
-abbrev pub Some : List ℕ → ℕ → ℕ → ℕ → ℕ → List ℕ → List ℕ → Type 0
-Some row k n j at t u = PutsAlong (points n) (points (n - j)) at (first (j * 2) (drop k row)) t (at + j * pointBits) u
+points-along : (row : List ℕ) (n k at : ℕ) (t : List ℕ) → PutsAlong (points n) (λ f. f) at (first (n * 2) (drop k row)) t (at + n * pointBits) (pointsPut row n k at t)
+unfolding points first pointsPut
+points-along row zero k at t = let e : at ≡ at + 0 * pointBits = omega arith in told-as refl e puts-stay
+points-along row (suc n) k at t =
+    let a = getD row k 0 in
+    let b = getD row (k + 1) 0 in
+    let e : at + pointBits + n * pointBits ≡ at + suc n * pointBits = omega arith in
+    told-as (sym (points-front row k n)) e (puts-then (point-along n at t a b) (points-along row n (k + 2) (at + pointBits) (putIn (putIn t at latitudeBits a) (at + latitudeBits) longitudeBits b)))
 
-pub no-points : (row : List ℕ) (k n at : ℕ) {t : List ℕ} → Some row k n 0 at t t
-unfolding first
-no-points row k n at {t} = let e : n ≡ n - 0 = omega arith in let p : at ≡ at + 0 * pointBits = omega arith in subst (λ m. PutsAlong (points n) (points m) at [] t (at + 0 * pointBits) t) e (told-as refl p puts-stay)
+-- ---- one area, by its kind; how many numbers it takes is what writing accepts
 
-pub one-point : (row : List ℕ) (k n j i at : ℕ) {t u p q : List ℕ} {a b : ℕ} → i ≡ j + 1 → j < n → Some row k n j at t u → a ≡ getD row (k + j * 2) 0 → b ≡ getD row (k + j * 2 + 1) 0
-    → p ≡ putIn u (at + j * pointBits) latitudeBits a → q ≡ putIn p (at + j * pointBits + latitudeBits) longitudeBits b → Some row k n i at t q
-one-point row k n j i at {t} {u} {p} {q} {a} {b} is l x ea eb d e =
-    let less : suc (n - suc j) ≡ n - j = omega arith in
-    let next : at + j * pointBits + pointBits ≡ at + suc j * pointBits = omega arith in
-    subst (λ i. Some row k n i at t q) (sym (is ∙ add-one j))
-    (told-as (ap₂ (λ a b. first (j * 2) (drop k row) ++ (a ∷ b ∷ [])) ea eb ∙ sym (points-from row k j)) next
-    (puts-then x (subst (λ m. PutsAlong (points m) (points (n - suc j)) (at + j * pointBits) (a ∷ b ∷ []) u (at + j * pointBits + pointBits) q) less (point-put (n - suc j) (at + j * pointBits) u a b d e))))
+record AreaIs (row : List ℕ) (k at : ℕ) (t : List ℕ) (a : Put) : Type 0 where
+  along : (m : ℕ) → PutsAlong (areas (suc m)) (areas m) at (areaFrom row k) t (a .0 .at) (a .1)
+  next : (m : ℕ) (f : Fmt) (vs : List ℕ) {s : List ℕ} {b : List Bool} → Putting s b (areas (suc m) f) at (areaFrom row k ++ vs) t → a .0 .next ≡ k + areaLong (drop k row)
 
-pub all-points : (row : List ℕ) (k n at : ℕ) {t u : List ℕ} → Some row k n n at t u → PointsPut row k n at t u
-unfolding points
-all-points row k n at {t} {u} x =
-    let e : n - n ≡ 0 = omega arith in
-    let y = subst (λ m. PutsAlong (points n) (points m) at (first (n * 2) (drop k row)) t (at + n * pointBits) u) e x in
-    record { on = λ z. y .on z }
+module _ (row : List ℕ) (k at : ℕ) (t : List ℕ) where
+  abbrev kind : ℕ
+  kind = getD row k 0
 
--- ---- one area, by its kind
+  abbrev behind : List ℕ
+  behind = putIn t at 3 kind
 
--- past the kind, then what it holds
-held : (m : ℕ) (is : Kind) (at kind to : ℕ) (t : List ℕ) {p q us : List ℕ} → kindOf kind ≡ is → p ≡ putIn t at 3 kind → PutsAlong (inside is) (λ f. f) (at + 3) us p to q
-    → PutsAlong (areas (suc m)) (areas m) at (kind ∷ us) t to q
-unfolding areas
-held m is at kind to t {p} {q} {us} e d x =
-    let y = puts-decide t at 3 (lit≤ tt) kind d (0 ‥ 4) (λ k f. inside (kindOf k) (areas m f)) in
-    let z = subst⁻¹ (λ is. PutsAlong (inside is) (λ f. f) (at + 3) us p to q) e x in
-    let a = puts-then y (puts-under (areas m) z) in
-    record { on = λ v. a .on v }
+  -- past the kind,
+  opened : (m : ℕ) (j : Kind) → kindOf kind ≡ j → PutsAlong (areas (suc m)) (λ f. inside j (areas m f)) at (kind ∷ []) t (at + 3) behind
+  unfolding areas
+  opened m j e =
+      let y = puts-decide t at 3 (lit≤ tt) kind (0 ‥ 4) (λ k f. inside (kindOf k) (areas m f)) in
+      let a = subst (λ j. PutsAlong (λ f. deciding 3 (0 ‥ 4) λ k. inside (kindOf k) (areas m f)) (λ f. inside j (areas m f)) at (kind ∷ []) t (at + 3) behind) e y in
+      record { on = λ v. a .on v }
 
-module _ (row : List ℕ) (k at : ℕ) (t : List ℕ) {p : List ℕ} {kind : ℕ} (is : kind ≡ getD row k 0) (d : p ≡ putIn t at 3 kind) where
-  at-kind : {j : Kind} → kindOf kind ≡ j → kindOf (getD row k 0) ≡ j
-  at-kind e = ap kindOf (sym is) ∙ e
+  -- then what it holds
+  held : (m : ℕ) (j : Kind) {to : ℕ} {q us : List ℕ} → kindOf kind ≡ j → PutsAlong (inside j) (λ f. f) (at + 3) us behind to q → PutsAlong (areas (suc m)) (areas m) at (kind ∷ us) t to q
+  held m j e x = let a = puts-then (opened m j e) (puts-under (areas m) x) in record { on = λ v. a .on v }
 
-  pub sea-put : {q : List ℕ} {c : ℕ} → kindOf kind ≡ sea → c ≡ getD row (k + 1) 0 → q ≡ putIn p (at + 3) 8 c → AreaPut row k at t (record { at = at + 11; next = k + 2 }) q
-  sea-put {q} {c} e x y = record {
-    along = λ m. told-as (ap₂ (λ a b. a ∷ b ∷ []) is x ∙ sym (sea-from row k (at-kind e))) (omega arith) (held m sea at kind (at + 3 + 8) t e d (puts-num p (at + 3) 8 (lit≤ tt) c y (0 ‥ 255)));
-    next = ap (k +_) (sym (sea-long row k (at-kind e)));
-    near = (omega arith, omega arith);
+  sea-is : kindOf kind ≡ sea → AreaIs row k at t (insidePut sea row k at behind)
+  unfolding insidePut
+  sea-is e = record {
+    along = λ m. told-as (sym (sea-from row k e)) (omega arith) (held m sea e (puts-num behind (at + 3) 8 (lit≤ tt) (getD row (k + 1) 0) (0 ‥ 255)));
+    next = λ m f vs x. ap (k +_) (sym (sea-long row k e));
   }
 
-  pub circle-put : {q a b : List ℕ} {x y : ℕ} → kindOf kind ≡ circle → PointsPut row (k + 1) 1 (at + 3) p q → x ≡ getD row (k + 3) 0 → y ≡ getD row (k + 4) 0
-      → a ≡ putIn q (at + 3 + pointBits) 10 x → b ≡ putIn a (at + 3 + pointBits + 10) 2 y → AreaPut row k at t (record { at = at + 3 + pointBits + 12; next = k + 5 }) b
-  circle-put {q} {a} {b} {x} {y} e ps ex ey da db =
-      let radius : at + 3 + pointBits ≡ at + 3 + 1 * pointBits = omega arith in
-      let unit : at + 3 + pointBits + 10 ≡ at + 3 + 1 * pointBits + 10 = omega arith in
-      let da′ = da ∙ ap (λ n. putIn q n 10 x) radius in
-      let db′ = db ∙ ap (λ n. putIn a n 2 y) unit in
+  circle-is : kindOf kind ≡ circle → AreaIs row k at t (insidePut circle row k at behind)
+  unfolding insidePut
+  circle-is e =
+      let x = getD row (k + 3) 0 in
+      let y = getD row (k + 4) 0 in
+      let p = pointsPut row 1 (k + 1) (at + 3) behind in
+      let q = putIn p (at + 3 + pointBits) 10 x in
+      let one : at + 3 + 1 * pointBits ≡ at + 3 + pointBits = omega arith in
       record {
-        along = λ m. told-as (ap (λ c. c ∷ (first (1 * 2) (drop (k + 1) row) ++ (x ∷ y ∷ []))) is ∙ ap₂ (λ x y. getD row k 0 ∷ (first (1 * 2) (drop (k + 1) row) ++ (x ∷ y ∷ []))) ex ey ∙ sym (circle-from row k (at-kind e))) (omega arith)
-            (held m circle at kind (at + 3 + 1 * pointBits + 10 + 2) t e d (puts-then (puts-under (λ f. num 10 (0 ‥ 1_023) ▹ num 2 (0 ‥ 3) ▹ f) ps)
-            (puts-then (puts-under (num 2 (0 ‥ 3)) (puts-num q (at + 3 + 1 * pointBits) 10 (lit≤ tt) x da′ (0 ‥ 1_023))) (puts-num a (at + 3 + 1 * pointBits + 10) 2 (lit≤ tt) y db′ (0 ‥ 3)))));
-        next = ap (k +_) (sym (circle-long row k (at-kind e)));
-        near = (omega arith, omega arith);
+        along = λ m. told-as (sym (circle-from row k e)) (omega arith)
+            (held m circle e (puts-then (puts-under (λ f. num 10 (0 ‥ 1_023) ▹ num 2 (0 ‥ 3) ▹ f) (told-as refl one (points-along row 1 (k + 1) (at + 3) behind)))
+            (puts-then (puts-under (num 2 (0 ‥ 3)) (puts-num p (at + 3 + pointBits) 10 (lit≤ tt) x (0 ‥ 1_023))) (puts-num q (at + 3 + pointBits + 10) 2 (lit≤ tt) y (0 ‥ 3)))));
+        next = λ m f vs x. ap (k +_) (sym (circle-long row k e));
       }
 
-  pub several-put : (l : ℕ) {q u : List ℕ} {n : ℕ} → n < 2 ^ 32 → kindOf kind ≡ several l → n ≡ getD row (k + 1) 0 → q ≡ putIn p (at + 3) 4 n → PointsPut row (k + 2) n (at + 7) q u
-      → AreaPut row k at t (record { at = at + 7 + n * pointBits; next = k + 2 + n * 2 }) u
-  several-put l {q} {u} {n} few e x y ps =
-      let seven : at + 7 ≡ at + 3 + 4 = omega arith in
-      let ps′ = subst (λ a. PutsAlong (points n) (λ f. f) a (first (n * 2) (drop (k + 2) row)) q (at + 7 + n * pointBits) u) seven ps in
-      record {
-        along = λ m. told-as (ap₂ (λ a n. a ∷ n ∷ first (n * 2) (drop (k + 2) row)) is x ∙ sym (several-from row k l (at-kind e))) refl
-            (held m (several l) at kind (at + 7 + n * pointBits) t e d (puts-then (puts-decide p (at + 3) 4 (lit≤ tt) n y (l ‥ 15) points) ps′));
-        next = omega (arith, several-long row k l (at-kind e), x);
-        near = (omega arith, omega arith);
-      }
+  several-is : (l : ℕ) → kindOf kind ≡ several l → AreaIs row k at t (insidePut (several l) row k at behind)
+  unfolding insidePut
+  several-is l e = record {
+    along = λ m. told-as (sym (several-from row k l e)) refl (held m (several l) e (record { on = λ x. counted (narrow 4 x) .on x }));
+    next = λ m f vs {s} {b} x.
+        let y = opened m (several l) e .on (subst (λ us. Putting s b (areas (suc m) f) at (us ++ vs) t) (several-from row k l e) x) in
+        omega (arith, few (narrow 4 y), several-long row k l e);
+  }
+    where
+      c : ℕ
+      c = getD row (k + 1) 0
+
+      few : c < 16 → c % 16 ≡ c
+      few l = mod-eq-of-lt l
+
+      counted : c < 16 → PutsAlong (inside (several l)) (λ f. f) (at + 3) (c ∷ first (c * 2) (drop (k + 2) row)) behind (at + 7 + c % 16 * pointBits) (pointsPut row (c % 16) (k + 2) (at + 7) (putIn behind (at + 3) 4 c))
+      counted s =
+          let u = putIn behind (at + 3) 4 c in
+          let seven : at + 3 + 4 ≡ at + 7 = omega arith in
+          let y = told-as refl seven (puts-decide behind (at + 3) 4 (lit≤ tt) c (l ‥ 15) points) in
+          subst⁻¹ (λ n. PutsAlong (inside (several l)) (λ f. f) (at + 3) (c ∷ first (c * 2) (drop (k + 2) row)) behind (at + 7 + n * pointBits) (pointsPut row n (k + 2) (at + 7) u)) (few s)
+          (puts-then y (points-along row c (k + 2) (at + 7) u))
+
+  area-is : AreaIs row k at t (areaPut row k at t)
+  area-is = go (kindOf kind) refl
+    where
+      go : (j : Kind) → kindOf kind ≡ j → AreaIs row k at t (insidePut j row k at behind)
+      go sea e = sea-is e
+      go circle e = circle-is e
+      go (several l) e = several-is l e
 
 -- ---- areas
 
--- i of n areas, and the number of the row that comes next
-pub record Passed (row : List ℕ) (n i at₀ : ℕ) (t u : List ℕ) (at k : ℕ) : Type 0 where
-  pub along : PutsAlong (areas n) (areas (n - i)) at₀ (areasTold i row) t at u
-  pub next : k ≡ areasLong i row
-  pub near : (at ≤ at₀ + i * 2 ^ 40) × (k ≤ i * 2 ^ 40)
+pub areas-along : (row : List ℕ) (n k at : ℕ) (t : List ℕ) → let a = areasPut row n k at t in PutsAlong (areas n) (λ f. f) at (areasTold n (drop k row)) t (a .0) (a .1)
+unfolding areas first areasLong areasPut
+areas-along row zero k at t = puts-stay
+areas-along row (suc n) k at t = record {
+  on = λ {s} {b} {f} {vs} x.
+      let a = areaPut row k at t in
+      let one = area-is row k at t in
+      let k′ = k + areaLong (drop k row) in
+      let vs′ = areasTold n (drop k′ row) ++ vs in
+      let x′ = subst (λ l. Putting s b (areas (suc n) f) at l t) (ap (_++ vs) (told-front n row k) ∙ append-assoc (areaFrom row k) (areasTold n (drop k′ row)) vs) x in
+      areas-along row n (a .0 .next) (a .0 .at) (a .1) .on (subst⁻¹ (λ k. Putting s b (areas n f) (a .0 .at) (areasTold n (drop k row) ++ vs) (a .1)) (one .next n f vs′ x′) (one .along n .on x′));
+}
 
-pub no-areas : (row : List ℕ) (n at : ℕ) {t : List ℕ} → Passed row n 0 at t t at 0
-unfolding first areasLong
-no-areas row n at {t} = let e : n ≡ n - 0 = omega arith in record { along = subst (λ m. PutsAlong (areas n) (areas m) at [] t at t) e puts-stay; next = refl; near = (omega arith, omega arith) }
+-- ---- turns of the loops
 
-pub one-area : (row : List ℕ) (n i j at₀ : ℕ) {t u v : List ℕ} {at k : ℕ} {a : Laid} → j ≡ i + 1 → i < n → Passed row n i at₀ t u at k → AreaPut row k at u a v → Passed row n j at₀ t v (a .at) (a .next)
-one-area row n i j at₀ {t} {u} {v} {at} {k} {a} is l x y =
-    let less : suc (n - suc i) ≡ n - i = omega arith in
-    subst (λ j. Passed row n j at₀ t v (a .at) (a .next)) (sym (is ∙ add-one i)) (record {
-      along = told-as (ap (λ k. areasTold i row ++ areaFrom row k) (x .next) ∙ sym (told-more i row)) refl
-          (puts-then (x .along) (subst (λ m. PutsAlong (areas m) (areas (n - suc i)) at (areaFrom row k) u (a .at) v) less (y .along (n - suc i))));
-      next = y .next ∙ ap (λ k. k + areaLong (drop k row)) (x .next) ∙ sym (long-more i row);
-      near = (omega (arith, x .near, y .near), omega (arith, x .near, y .near));
-    })
+pub point-turn : (row : List ℕ) (n k at : ℕ) {m k′ at′ a b : ℕ} (t : List ℕ) {p q : List ℕ} → m ≡ suc n → k′ ≡ k + 2 → at′ ≡ at + pointBits → a ≡ getD row k 0 → b ≡ getD row (k + 1) 0
+    → p ≡ putIn t at latitudeBits a → q ≡ putIn p (at + latitudeBits) longitudeBits b → pointsPut row m k at t ≡ pointsPut row n k′ at′ q
+unfolding pointsPut
+point-turn row n k at t e f h ea eb d g =
+    let is = g ∙ ap₂ (λ p b. putIn p (at + latitudeBits) longitudeBits b) (d ∙ ap (λ a. putIn t at latitudeBits a) ea) eb in
+    ap (λ m. pointsPut row m k at t) e ∙ sym (λ i. pointsPut row n (f i) (h i) (is i))
 
-pub all-areas : (row : List ℕ) (n at₀ : ℕ) {t u : List ℕ} {at k : ℕ} → Passed row n n at₀ t u at k → AreasPut row n at₀ t at u
-unfolding areas
-all-areas row n at₀ {t} {u} {at} x =
-    let e : n - n ≡ 0 = omega arith in
-    let y = subst (λ m. PutsAlong (areas n) (areas m) at₀ (areasTold n row) t at u) e (x .along) in
-    record { along = record { on = λ z. y .on z }; near = x .near .0 }
+-- an area, of the kind j
+pub area-turn : (row : List ℕ) (k at : ℕ) (t : List ℕ) {kind : ℕ} {u : List ℕ} {j : Kind} → kind ≡ getD row k 0 → u ≡ putIn t at 3 kind → kindOf kind ≡ j → areaPut row k at t ≡ insidePut j row k at u
+area-turn row k at t e d f = sym (ap (λ c. insidePut (kindOf c) row k at (putIn t at 3 c)) e) ∙ ap₂ (λ j u. insidePut j row k at u) f (sym d)
+
+pub areas-turn : (row : List ℕ) (n k at : ℕ) {m : ℕ} (t : List ℕ) {a : Put} → m ≡ suc n → a ≡ areaPut row k at t → areasPut row m k at t ≡ areasPut row n (a .0 .next) (a .0 .at) (a .1)
+unfolding areasPut
+areas-turn row n k at t e d = ap (λ m. areasPut row m k at t) e ∙ sym (ap (λ (a : Put). areasPut row n (a .0 .next) (a .0 .at) (a .1)) d)
+
+-- an area goes no further than 15 points do, whatever the row
+inside-small : (j : Kind) (row : List ℕ) (k at : ℕ) (u : List ℕ) → let a = insidePut j row k at u in (a .0 .at ≤ at + areaMost) × (a .0 .next ≤ k + longMost)
+unfolding insidePut
+inside-small sea row k at u = (omega arith, omega arith)
+inside-small circle row k at u = (omega arith, omega arith)
+inside-small (several l) row k at u = (omega arith, omega arith)
+
+pub area-small : (row : List ℕ) (k at : ℕ) (t : List ℕ) {a : Put} → a ≡ areaPut row k at t → (a .0 .at ≤ at + areaMost) × (a .0 .next ≤ k + longMost)
+area-small row k at t d = subst⁻¹ (λ (a : Put). (a .0 .at ≤ at + areaMost) × (a .0 .next ≤ k + longMost)) d (inside-small (kindOf (getD row k 0)) row k at (putIn t at 3 (getD row k 0)))
+
+pub areas-near : (row : List ℕ) (n k at : ℕ) (t : List ℕ) → areasPut row n k at t .0 ≤ at + n * areaMost
+unfolding areasPut
+areas-near row zero k at t = omega arith
+areas-near row (suc n) k at t =
+    let a = areaPut row k at t in
+    omega (arith, area-small row k at t {a = a} refl .0, areas-near row n (a .0 .next) (a .0 .at) (a .1))

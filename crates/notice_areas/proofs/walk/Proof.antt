@@ -1,29 +1,36 @@
--- `walk` meets its contract: i areas are passed, and of the next one j points; the first bad point leaves both loops.
-use Prim.Native.Nat.{_+_, _-_, _≤_}
-use mathlib.Core.Path.{_≡_, refl, subst}
-use mathlib.Core.Bool.{false}
+-- `walk` meets its contract: what is left to do from the areas and points that are passed is what there was to do; the first bad point leaves nothing.
+use Prim.Native.Nat.{ℕ, _+_, _-_, _≤_}
+use mathlib.Core.Path.{_≡_, sym, ap, _∙_}
+use mathlib.Core.Bool.{cond}
+use mathlib.Core.List.{List}
 use native.Mathlib.Omega.{arith}
 use borrow.Author.Needs.{needs}
-use Rattle.layout.specs.laws.Along.{ranged-at}
+use borrow.Author.Tests.{eq-eqb, ne-eqb}
+use Rattle.layout.specs.declared.walk.Walk.{Walk}
 use Rattle.notice_areas.specs.Areas.{kindOf}
-use Rattle.notice_areas.specs.laws.Walking.{Passed, no-points, one-point, inside-held, opened-small, Some, no-areas, one-area, walked, broken}
+use Rattle.notice_areas.specs.Steps.{closedAs, pointsWalked, areasWalked}
+use Rattle.notice_areas.specs.laws.Walking.{point-turn, area-turn}
 use Rattle.notice_areas.proofs.walk.Statement.{statement}
 use Rattle.notice_areas.proofs.walk.Tie as tie
 
+-- behind the points of an area, where i areas are passed
+abbrev next : List ℕ → ℕ → ℕ → ℕ → Walk → Walk
+next s count i kind w = areasWalked s (count - (i + 1)) (closedAs (kindOf kind) s w)
+
 abbrev Inv-points : tie.InvT-points
-Inv-points s count most w₀ i kind n j₀ w j = (j ≤ n) × (w₀ .at ≤ 20_000 → n ≤ 15 → Passed s n j w₀ w)
+Inv-points s count most w₀ i kind n j₀ w j = (j ≤ n) × (pointsWalked s n (next s count i (kind .v)) w₀ ≡ pointsWalked s (n - j) (next s count i (kind .v)) w)
 
 abbrev μ-points : tie.MeasureT-points
 μ-points s count most w₀ i kind n j₀ w j = n - j
 
 abbrev Inv-areas : tie.InvT-areas
-Inv-areas s count most w₀ i₀ w i = (i ≤ count) × (count ≤ 15 → w₀ .at ≤ 1_000 → Some s count i w₀ w)
+Inv-areas s count most w₀ i₀ w i = (i ≤ count) × (areasWalked s count w₀ ≡ areasWalked s (count - i) w)
 
 abbrev μ-areas : tie.MeasureT-areas
 μ-areas s count most w₀ i₀ w i = count - i
 
 areas-holds : tie.Need-areas-holds Inv-points μ-points Inv-areas μ-areas
-areas-holds c = (omega arith, λ few small. no-areas (c .before .args .s .now) (c .before .args .count))
+areas-holds c = let a = c .before .args in let e : a .count ≡ a .count - 0 = omega arith in (omega arith, ap (λ n. areasWalked (a .s .now) n (a .from)) e)
 
 decide-requires : tie.Need-decide-requires Inv-points μ-points Inv-areas μ-areas
 decide-requires c κs = search needs
@@ -34,8 +41,11 @@ open-area-requires c κs = search needs
 points-holds : tie.Need-points-holds Inv-points μ-points Inv-areas μ-areas
 points-holds c =
     let o = c .before in
-    let a = o .before .before .before .before .before .args in
-    (omega arith, λ few near. no-points (a .s .now) (o .open-area .result .points))
+    let l = o .before .before .before in
+    let a = l .before .before .args in
+    let n = o .open-area .result .points in
+    let e : n ≡ n - 0 = omega arith in
+    (omega arith, ap (λ m. pointsWalked (a .s .now) m (next (a .s .now) (a .count) (l .areas .i) (o .before .decide .result .v)) (o .open-area .result .walk)) e)
 
 latitude-requires : tie.Need-latitude-requires Inv-points μ-points Inv-areas μ-areas
 latitude-requires c κs = search needs
@@ -54,12 +64,13 @@ points-again c =
     let g = c .before .before in
     let p = g .before .before .before in
     let o = p .before .before in
-    let a = o .before .before .before .before .before .args in (
-      omega arith,
-      λ near few.
-          let x = p .points .inv .1 near few in
-          one-point (a .s .now) (o .open-area .result .points) (p .points .j) (p .points .j + 1) refl (omega arith) (omega (arith, x .here)) x (g .before .latitude .ensures .0) (g .longitude .ensures .0),
-    )
+    let l = o .before .before .before in
+    let a = l .before .before .args in
+    let s = a .s .now in
+    let on = next s (a .count) (l .areas .i) (o .before .decide .result .v) in
+    let n = o .open-area .result .points - (p .points .j + 1) in
+    let w = g .longitude .result in
+    (omega arith, p .points .inv .1 ∙ point-turn s on n (p .points .w) (omega arith) (g .before .latitude .ensures .0) (g .longitude .ensures .0) ∙ ap (λ b. cond b (pointsWalked s n on w) w) (eq-eqb (w .code) 0 (c .if1 .left)))
 
 close-area-requires : tie.Need-close-area-requires Inv-points μ-points Inv-areas μ-areas
 close-area-requires c κs = search needs
@@ -71,6 +82,7 @@ areas-less : tie.Need-areas-less Inv-points μ-points Inv-areas μ-areas
 areas-less c = omega arith
 
 areas-again : tie.Need-areas-again Inv-points μ-points Inv-areas μ-areas
+unfolding pointsWalked
 areas-again c =
     let p = c .before .before in
     let o = p .before .before in
@@ -78,24 +90,20 @@ areas-again c =
     let l = d .before .before in
     let a = l .before .before .args in
     let s = a .s .now in
-    let area = o .open-area .result in (
+    let n = a .count - (l .areas .i + 1) in
+    let none : o .open-area .result .points - p .points .j ≡ 0 = omega arith in (
       omega arith,
-      λ few small.
-          let x = l .areas .inv .1 few small in
-          let at = ranged-at s (l .areas .w) 3 false 0 4 4 (d .decide .ensures .0) (omega (arith, x .near)) in
-          let (most, far) = opened-small s (kindOf (d .decide .result .v)) (d .decide .result) (omega (arith, at, x .near)) (o .open-area .ensures) in
-          let all : p .points .j ≡ area .points = omega arith in
-          let y = subst (λ j. Passed s (area .points) j (area .walk) (p .points .w)) all (p .points .inv .1 (omega (arith, at, far, x .near)) most) in
-          one-area s (a .count) (l .areas .i) (l .areas .i + 1) refl (omega arith) (omega (arith, x .near)) x (d .decide .ensures .0)
-          (inside-held s (kindOf (d .decide .result .v)) area (omega (arith, at, x .near)) (o .open-area .ensures) y (c .close-area .ensures)),
+      l .areas .inv .1 ∙ area-turn s n (l .areas .w) (omega arith) (d .decide .ensures .0) (o .open-area .ensures) ∙ p .points .inv .1
+          ∙ ap (λ m. pointsWalked s m (next s (a .count) (l .areas .i) (d .decide .result .v)) (p .points .w)) none ∙ ap (areasWalked s n) (sym (c .close-area .ensures)),
     )
 
 returns : tie.Need-returns Inv-points μ-points Inv-areas μ-areas
+unfolding areasWalked
 returns c =
     let l = c .before in
     let a = l .before .before .args in
-    let all : l .areas .i ≡ a .count = omega arith in
-    λ few small. walked (a .s .now) (a .count) (subst (λ i. Some (a .s .now) (a .count) i (a .from) (l .areas .w)) all (l .areas .inv .1 few small))
+    let e : a .count - l .areas .i ≡ 0 = omega arith in
+    sym (l .areas .inv .1 ∙ ap (λ n. areasWalked (a .s .now) n (l .areas .w)) e)
 
 returns-2 : tie.Need-returns-2 Inv-points μ-points Inv-areas μ-areas
 returns-2 c =
@@ -106,13 +114,11 @@ returns-2 c =
     let l = d .before .before in
     let a = l .before .before .args in
     let s = a .s .now in
-    let area = o .open-area .result in
-    λ few small.
-    let x = l .areas .inv .1 few small in
-    let at = ranged-at s (l .areas .w) 3 false 0 4 4 (d .decide .ensures .0) (omega (arith, x .near)) in
-    let (most, far) = opened-small s (kindOf (d .decide .result .v)) (d .decide .result) (omega (arith, at, x .near)) (o .open-area .ensures) in
-    broken s (a .count) (l .areas .i) (p .points .j) area (omega arith) (omega arith) (omega arith) x (d .decide .ensures .0) (o .open-area .ensures)
-    (p .points .inv .1 (omega (arith, at, far, x .near)) most) (omega arith) (g .before .latitude .ensures .0) (g .longitude .ensures .0) (c .if1 .taken)
+    let on = next s (a .count) (l .areas .i) (d .decide .result .v) in
+    let n = o .open-area .result .points - (p .points .j + 1) in
+    let w = g .longitude .result in
+    sym (l .areas .inv .1 ∙ area-turn s (a .count - (l .areas .i + 1)) (l .areas .w) (omega arith) (d .decide .ensures .0) (o .open-area .ensures) ∙ p .points .inv .1
+    ∙ point-turn s on n (p .points .w) (omega arith) (g .before .latitude .ensures .0) (g .longitude .ensures .0) ∙ ap (λ b. cond b (pointsWalked s n on w) w) (ne-eqb (w .code) 0 (c .if1 .taken)))
 
 pub walk-spec : {M : Type 1} → statement M
 walk-spec =

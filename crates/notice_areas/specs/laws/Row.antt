@@ -2,8 +2,7 @@
 use Prim.Native.Nat.{ℕ, zero, suc, _+_, _*_, _≤_}
 use mathlib.Core.Path.{_≡_, refl, sym, ap, ap₂, _∙_}
 use mathlib.Core.List.{List, [], _∷_, _++_, append-assoc, append-nil}
-use native.Mathlib.Nat.{add-assoc, suc-add, zero-add}
-use native.Mathlib.Numerals.{add-one}
+use native.Mathlib.Nat.{suc-add, zero-add}
 use native.Mathlib.Omega.{arith}
 use lib.ListN.{length, take, drop, getD, length-append}
 use lib.Seq.{take-all, drop-drop, getD-drop, take-at, drop-at}
@@ -30,30 +29,6 @@ first-take (suc n) [] l = absurd (omega arith)
 first-take (suc n) (x ∷ row) l = ap (x ∷_) (first-take n row (omega arith))
 
 -- ---- areas
-
--- n areas and m more
-long-add : (n m : ℕ) (row : List ℕ) → areasLong (n + m) row ≡ areasLong n row + areasLong m (drop (areasLong n row) row)
-unfolding areasLong
-long-add zero m row = ap (λ k. areasLong k row) (zero-add m) ∙ sym (zero-add (areasLong m row))
-long-add (suc n) m row =
-    let a = areaLong row in
-    let next = drop a row in
-    ap (λ k. areasLong k row) (suc-add n m)
-    ∙ ap (a +_) (long-add n m next ∙ ap (λ l. areasLong n next + areasLong m l) (drop-drop (areasLong n next) a row)) ∙ sym (add-assoc a (areasLong n next) _)
-
-pub told-add : (n m : ℕ) (row : List ℕ) → areasTold (n + m) row ≡ areasTold n row ++ areasTold m (drop (areasLong n row) row)
-told-add n m row = ap (λ k. first k row) (long-add n m row) ∙ first-add (areasLong n row) (areasLong m (drop (areasLong n row) row)) row
-
--- and one more
-long-one : (row : List ℕ) → areasLong 1 row ≡ areaLong row
-unfolding areasLong
-long-one row = omega arith
-
-pub long-more : (n : ℕ) (row : List ℕ) → areasLong (suc n) row ≡ areasLong n row + areaLong (drop (areasLong n row) row)
-long-more n row = ap (λ k. areasLong k row) (sym (add-one n)) ∙ long-add n 1 row ∙ ap (areasLong n row +_) (long-one (drop (areasLong n row) row))
-
-pub told-more : (n : ℕ) (row : List ℕ) → areasTold (suc n) row ≡ areasTold n row ++ first (areaLong (drop (areasLong n row) row)) (drop (areasLong n row) row)
-told-more n row = ap (λ k. first k row) (long-more n row) ∙ first-add (areasLong n row) (areaLong (drop (areasLong n row) row)) row
 
 -- the first, and those behind it
 pub told-next : (n : ℕ) (row vs : List ℕ) → areasTold (suc n) row ++ vs ≡ first (areaLong row) row ++ (areasTold n (drop (areaLong row) row) ++ vs)
@@ -106,31 +81,40 @@ exact-told n row = ap (areasLong n) (sym (append-nil (areasTold n row))) ∙ lon
 
 -- ---- the numbers from k on, by the kind of the area that begins there
 
--- two numbers from i on, of those from k on
-pub two-from : (row : List ℕ) (k i : ℕ) → first 2 (drop i (drop k row)) ≡ getD row (k + i) 0 ∷ getD row (k + i + 1) 0 ∷ []
-unfolding first
-two-from row k i =
-    let l = drop i (drop k row) in
-    let is : l ≡ drop (k + i) row = drop-drop i k row in
-    let zero-th : getD l 0 0 ≡ getD row (k + i) 0 = ap (λ l. getD l 0 0) is ∙ getD-drop (k + i) row 0 0 ∙ ap (λ n. getD row n 0) (omega arith) in
-    let one-th : getD (drop 1 l) 0 0 ≡ getD row (k + i + 1) 0 = getD-drop 1 l 0 0 ∙ ap (λ l. getD l 1 0) is ∙ getD-drop (k + i) row 1 0 in
-    ap₂ (λ a b. a ∷ b ∷ []) zero-th one-th
-
--- one point more
-pub points-from : (row : List ℕ) (k j : ℕ) → first (suc j * 2) (drop k row) ≡ first (j * 2) (drop k row) ++ (getD row (k + j * 2) 0 ∷ getD row (k + j * 2 + 1) 0 ∷ [])
-points-from row k j =
-    let e : suc j * 2 ≡ j * 2 + 2 = omega arith in
-    ap (λ n. first n (drop k row)) e ∙ first-add (j * 2) 2 (drop k row) ∙ ap (first (j * 2) (drop k row) ++_) (two-from row k (j * 2))
-
 module _ (row : List ℕ) (k : ℕ) where
-  pub kind-at : getD (drop k row) 0 0 ≡ getD row k 0
+  kind-at : getD (drop k row) 0 0 ≡ getD row k 0
   kind-at = getD-drop k row 0 0 ∙ ap (λ n. getD row n 0) (omega arith)
 
-  pub next-at : getD (drop k row) 1 0 ≡ getD row (k + 1) 0
+  next-at : getD (drop k row) 1 0 ≡ getD row (k + 1) 0
   next-at = getD-drop k row 1 0
 
+  pair-from : first 2 (drop k row) ≡ getD row k 0 ∷ getD row (k + 1) 0 ∷ []
+  unfolding first
+  pair-from = ap₂ (λ a b. a ∷ b ∷ []) kind-at (getD-drop 1 (drop k row) 0 0 ∙ next-at)
+
+-- a point, and n more
+pub points-front : (row : List ℕ) (k n : ℕ) → first (suc n * 2) (drop k row) ≡ getD row k 0 ∷ getD row (k + 1) 0 ∷ first (n * 2) (drop (k + 2) row)
+points-front row k n =
+    let e : suc n * 2 ≡ 2 + n * 2 = omega arith in
+    ap (λ n. first n (drop k row)) e ∙ first-add 2 (n * 2) (drop k row) ∙ ap₂ _++_ (pair-from row k) (ap (first (n * 2)) (drop-drop 2 k row))
+
+-- an area, and n more
+abbrev pub areaFrom : List ℕ → ℕ → List ℕ
+areaFrom row k = first (areaLong (drop k row)) (drop k row)
+
+pub long-front : (n : ℕ) (row : List ℕ) (k : ℕ) → let a = areaLong (drop k row) in areasLong (suc n) (drop k row) ≡ a + areasLong n (drop (k + a) row)
+unfolding areasLong
+long-front n row k = let a = areaLong (drop k row) in ap (λ l. a + areasLong n l) (drop-drop a k row)
+
+pub told-front : (n : ℕ) (row : List ℕ) (k : ℕ) → areasTold (suc n) (drop k row) ≡ areaFrom row k ++ areasTold n (drop (k + areaLong (drop k row)) row)
+unfolding areasLong
+told-front n row k =
+    let a = areaLong (drop k row) in
+    first-add a (areasLong n (drop a (drop k row))) (drop k row) ∙ ap (λ l. areaFrom row k ++ areasTold n l) (drop-drop a k row)
+
+module _ (row : List ℕ) (k : ℕ) where
   long-as : (is : Kind) → kindOf (getD row k 0) ≡ is → areaLong (drop k row) ≡ suc (insideLong is (getD row (k + 1) 0))
-  long-as is e = ap₂ (λ a c. suc (insideLong (kindOf a) c)) kind-at next-at ∙ ap (λ is. suc (insideLong is (getD row (k + 1) 0))) e
+  long-as is e = ap₂ (λ a c. suc (insideLong (kindOf a) c)) (kind-at row k) (next-at row k) ∙ ap (λ is. suc (insideLong is (getD row (k + 1) 0))) e
 
   pub sea-long : kindOf (getD row k 0) ≡ sea → areaLong (drop k row) ≡ 2
   sea-long e = long-as sea e
@@ -141,22 +125,22 @@ module _ (row : List ℕ) (k : ℕ) where
   pub several-long : (l : ℕ) → kindOf (getD row k 0) ≡ several l → areaLong (drop k row) ≡ 2 + getD row (k + 1) 0 * 2
   several-long l e = long-as (several l) e ∙ omega arith
 
-  pub sea-from : kindOf (getD row k 0) ≡ sea → first (areaLong (drop k row)) (drop k row) ≡ getD row k 0 ∷ getD row (k + 1) 0 ∷ []
-  sea-from e = ap (λ n. first n (drop k row)) (sea-long e) ∙ two-from row k 0 ∙ ap₂ (λ a b. getD row a 0 ∷ getD row b 0 ∷ []) (omega arith) (omega arith)
+  pub sea-from : kindOf (getD row k 0) ≡ sea → areaFrom row k ≡ getD row k 0 ∷ getD row (k + 1) 0 ∷ []
+  sea-from e = ap (λ n. first n (drop k row)) (sea-long e) ∙ pair-from row k
 
   pub circle-from : kindOf (getD row k 0) ≡ circle
-      → first (areaLong (drop k row)) (drop k row) ≡ getD row k 0 ∷ (first (1 * 2) (drop (k + 1) row) ++ (getD row (k + 3) 0 ∷ getD row (k + 4) 0 ∷ []))
+      → areaFrom row k ≡ getD row k 0 ∷ (first (1 * 2) (drop (k + 1) row) ++ (getD row (k + 3) 0 ∷ getD row (k + 4) 0 ∷ []))
   unfolding first
   circle-from e =
       ap (λ n. first n (drop k row)) (circle-long e)
-      ∙ ap₂ (λ a l. a ∷ l) kind-at (ap (first 4) (drop-drop 1 k row) ∙ first-add 2 2 (drop (k + 1) row) ∙ ap (first 2 (drop (k + 1) row) ++_) (two-from row (k + 1) 2 ∙ ap₂ (λ a b. getD row a 0 ∷ getD row b 0 ∷ []) (omega arith) (omega arith)))
+      ∙ ap₂ (λ a l. a ∷ l) (kind-at row k) (ap (first 4) (drop-drop 1 k row) ∙ first-add 2 2 (drop (k + 1) row) ∙ ap (first 2 (drop (k + 1) row) ++_) (ap (first 2) (drop-drop 2 (k + 1) row) ∙ pair-from row (k + 1 + 2) ∙ ap₂ (λ a b. getD row a 0 ∷ getD row b 0 ∷ []) (omega arith) (omega arith)))
 
   pub several-from : (l : ℕ) → kindOf (getD row k 0) ≡ several l
-      → first (areaLong (drop k row)) (drop k row) ≡ getD row k 0 ∷ getD row (k + 1) 0 ∷ first (getD row (k + 1) 0 * 2) (drop (k + 2) row)
+      → areaFrom row k ≡ getD row k 0 ∷ getD row (k + 1) 0 ∷ first (getD row (k + 1) 0 * 2) (drop (k + 2) row)
   unfolding first
   several-from l e =
       let c = getD row (k + 1) 0 in
       let two : k + 1 + 1 ≡ k + 2 = omega arith in
       ap (λ n. first n (drop k row)) (long-as (several l) e)
-      ∙ ap₂ (λ a l. a ∷ l) kind-at
-      (ap₂ (λ a l. a ∷ first (c * 2) l) (getD-drop 1 (drop k row) 0 0 ∙ next-at) (drop-drop 1 1 (drop k row) ∙ drop-drop 2 k row))
+      ∙ ap₂ (λ a l. a ∷ l) (kind-at row k)
+      (ap₂ (λ a l. a ∷ first (c * 2) l) (getD-drop 1 (drop k row) 0 0 ∙ next-at row k) (drop-drop 1 1 (drop k row) ∙ drop-drop 2 k row))

@@ -6,7 +6,7 @@ use Rattle.format.specs.Message.{codeOf}
 use Rattle.format.specs.laws.Correcting.{correct-early, correct-late, admitted-clean}
 use Rattle.notice_reading.specs.Notice.{notices}
 use Rattle.notice_reading.specs.laws.Sound.{sound, judged as numbered}
-use Rattle.notice_reading.specs.laws.Told.{walked-code, stands, fields-again}
+use Rattle.notice_reading.specs.laws.Told.{walked-code, stands, fields-again, fields-are}
 use borrow.Author.Needs.{needs}
 use Rattle.notice_correcting.proofs.correct.Statement.{statement}
 use Rattle.notice_correcting.proofs.correct.Tie as tie
@@ -29,7 +29,7 @@ returns c = let ad = c .before in
     let r = f .fields .result in
     let w = r .walk in
     let x = f .fields .ensures in
-    correct-early (notices (a .english)) (sound (a .english)) (numbered (a .english)) s (a .field) (a .value) (w .spot) (w .width) (walked-code (a .english) (a .field) s r x) (stands (a .english) (a .field) s r x) (x .walked .slim) (ad .admits .ensures) (c .if1 .taken)
+    correct-early (notices (a .english)) (sound (a .english)) (numbered (a .english)) s (a .field) (a .value) (w .spot) (w .width) (walked-code (a .english) (a .field) s r x) (stands (a .english) (a .field) s r x) (fields-are (a .english) (a .field) s x .walked .slim) (ad .admits .ensures) (c .if1 .taken)
 
 swap-requires : tie.Need-swap-requires
 swap-requires c κs = search needs
@@ -59,7 +59,7 @@ returns-2 c = let st = c .before .before in
     let x = f .fields .ensures in
     let clean : w .code ≡ 0 = admitted-clean (w .code) (w .width) (a .value) (sym (ad .admits .ensures) ∙ t .if1 .left) in
     let again = walked-code (a .english) 0 _ (g .fields2 .result) (g .fields2 .ensures) ∙ ap codeOf (fields-again (a .english) (a .field) s r x clean _ (sw .swap .kept .0)) in
-    correct-late (notices (a .english)) (sound (a .english)) (numbered (a .english)) s (a .field) (a .value) (w .spot) (w .width) (walked-code (a .english) (a .field) s r x) (stands (a .english) (a .field) s r x) (x .walked .slim) (λ i. known .slice-known .given i .fits) (ad .admits .ensures) (t .if1 .left) (sw .swap .ensures) again (st .settle .ensures) refl
+    correct-late (notices (a .english)) (sound (a .english)) (numbered (a .english)) s (a .field) (a .value) (w .spot) (w .width) (walked-code (a .english) (a .field) s r x) (stands (a .english) (a .field) s r x) (fields-are (a .english) (a .field) s x .walked .slim) (λ i. known .slice-known .given i .fits) (ad .admits .ensures) (t .if1 .left) (sw .swap .ensures) again (st .settle .ensures) refl
 
 pub correct-spec : {M : Type 1} → statement M
 correct-spec =

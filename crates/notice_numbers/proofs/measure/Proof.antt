@@ -3,7 +3,8 @@ use Prim.Native.Nat.{_+_, _-_, _*_, _≤_}
 use mathlib.Core.Path.{_≡_, refl, sym, ap, ap₂, _∙_}
 use native.Mathlib.Omega.{arith}
 use native.Mathlib.Numerals.{add-one}
-use Rattle.notice_areas.specs.Standing.{front, areasEnd}
+use Rattle.notice_areas.specs.Row.{longMost}
+use Rattle.notice_areas.specs.Standing.{front, areaMost, areasEnd}
 use Rattle.notice_numbers.specs.Shapes.{shapeAt, numbersIn, pointsIn}
 use Rattle.notice_numbers.specs.declared.Shape.{Shape}
 use Rattle.notice_numbers.specs.laws.Shapes.{area-small, numbers-more, points-more, next-more}
@@ -11,7 +12,7 @@ use Rattle.notice_numbers.proofs.measure.Statement.{statement}
 use Rattle.notice_numbers.proofs.measure.Tie as tie
 
 abbrev Inv-loop : tie.InvT-loop
-Inv-loop s count most numbers₀ points₀ at₀ i₀ numbers points at i = (i ≤ most) × (numbers ≡ numbersIn s i front) × (points ≡ pointsIn s i front) × (at ≡ areasEnd s i front) × (at ≤ front + i * 700) × (numbers ≤ i * 32) × (points ≤ i * 15)
+Inv-loop s count most numbers₀ points₀ at₀ i₀ numbers points at i = (i ≤ most) × (numbers ≡ numbersIn s i front) × (points ≡ pointsIn s i front) × (at ≡ areasEnd s i front) × (at ≤ front + i * areaMost) × (numbers ≤ i * longMost) × (points ≤ i * 15)
 
 abbrev μ-loop : tie.MeasureT-loop
 μ-loop s count most numbers₀ points₀ at₀ i₀ numbers points at i = most - i

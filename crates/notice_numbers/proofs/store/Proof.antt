@@ -6,7 +6,7 @@ use native.Mathlib.Numerals.{add-one}
 use native.Mathlib.Nat.{zero-add}
 use lib.ListN.{length}
 use lib.Seq.{sets, length-sets}
-use Rattle.notice_areas.specs.Standing.{front, areaAt, areasAt, areasEnd}
+use Rattle.notice_areas.specs.Standing.{front, areaMost, areaAt, areasAt, areasEnd}
 use Rattle.notice_numbers.specs.Shapes.{shapeAt, numbersIn}
 use Rattle.notice_numbers.specs.declared.Shape.{Shape}
 use Rattle.notice_numbers.specs.laws.Shapes.{area-small, area-within, numbers-in, numbers-more, next-more}
@@ -15,7 +15,7 @@ use Rattle.notice_numbers.proofs.store.Statement.{statement}
 use Rattle.notice_numbers.proofs.store.Tie as tie
 
 abbrev Inv-loop : tie.InvT-loop
-Inv-loop s count row₀ most k₀ at₀ i₀ row k at i = (i ≤ most) × (at ≡ areasEnd s i front) × (at ≤ front + i * 700) × (k ≡ length (areasAt s i front)) × (length row ≡ length row₀) × (row ≡ sets row₀ 0 (areasAt s i front))
+Inv-loop s count row₀ most k₀ at₀ i₀ row k at i = (i ≤ most) × (at ≡ areasEnd s i front) × (at ≤ front + i * areaMost) × (k ≡ length (areasAt s i front)) × (length row ≡ length row₀) × (row ≡ sets row₀ 0 (areasAt s i front))
 
 abbrev μ-loop : tie.MeasureT-loop
 μ-loop s count row₀ most k₀ at₀ i₀ row k at i = most - i

@@ -8,7 +8,8 @@ use lib.ListN.{length, length-append}
 use Rattle.bits.specs.Answers.{got}
 use Rattle.layout.specs.laws.Reading.{got-lt}
 use Rattle.notice_areas.specs.Areas.{Kind, sea, circle, several, kindOf}
-use Rattle.notice_areas.specs.Standing.{pointsAt, insideAt, areaAt, areaWide, areasAt, areasEnd}
+use Rattle.notice_areas.specs.Row.{longMost}
+use Rattle.notice_areas.specs.Standing.{pointsAt, insideAt, areaAt, areaWide, areaMost, areasAt, areasEnd}
 use Rattle.notice_areas.specs.laws.Standing.{end-more}
 use Rattle.notice_parts.specs.Parts.{pointBits}
 use Rattle.notice_numbers.specs.Shapes.{shapeAs, shapeAt, numbersIn, pointsIn}
@@ -33,14 +34,14 @@ module _ (s : List ℕ) where
       go (several l) = omega (arith, points-long s (got s (at + 3) 4) (at + 3 + 4))
 
   -- an area is no longer than four bits can count
-  pub area-small : (at : ℕ) → (shapeAt s at .next ≤ at + 700) × (shapeAt s at .numbers ≤ 32) × (shapeAt s at .points ≤ 15)
+  pub area-small : (at : ℕ) → (shapeAt s at .next ≤ at + areaMost) × (shapeAt s at .numbers ≤ longMost) × (shapeAt s at .points ≤ 15)
   unfolding shapeAt
   area-small at = go (kindOf (got s at 3))
     where
       n : got s (at + 3) 4 < 16
       n = got-lt s (at + 3) 4 refl
 
-      go : (k : Kind) → (shapeAs k s at .next ≤ at + 700) × (shapeAs k s at .numbers ≤ 32) × (shapeAs k s at .points ≤ 15)
+      go : (k : Kind) → (shapeAs k s at .next ≤ at + areaMost) × (shapeAs k s at .numbers ≤ longMost) × (shapeAs k s at .points ≤ 15)
       go sea = (omega arith, omega arith, omega arith)
       go circle = (omega arith, omega arith, omega arith)
       go (several l) = (omega (arith, n), omega (arith, n), omega (arith, n))

@@ -1,19 +1,24 @@
 -- `close` walks over the text and the end, unless something was refused before.
-use Prim.Native.Nat.{_-_}
-use mathlib.Core.Path.{ap, _∙_}
-use mathlib.Core.Bool.{cond}
+use Prim.Native.Nat.{ℕ, _-_, _*_}
+use mathlib.Core.Path.{_≡_, sym, ap, _∙_}
+use mathlib.Core.Bool.{false, cond, _&&_}
 use native.Mathlib.Omega.{arith}
+use lib.ListN.{length}
 use borrow.Author.Needs.{needs}
+use Rattle.bits.specs.Answers.{spanned}
+use Rattle.bits.specs.Bits.{bytesAt}
+use Rattle.layout.specs.Reading.{ended}
 use Rattle.layout.specs.Walk.{onward}
-use Rattle.notice_reading.specs.Notice.{rest}
-use Rattle.notice_reading.specs.laws.Closing.{closed-refused, closed-text}
+use Rattle.layout.specs.declared.walk.Walk.{Walk}
+use Rattle.text.specs.Text.{inLanguage}
+use Rattle.notice_reading.specs.laws.Closing.{ending-good, ending-refused}
 use Rattle.notice_reading.proofs.close.Statement.{statement}
 use Rattle.notice_reading.proofs.close.Tie as tie
 
 returns : tie.Need-returns
 returns c =
     let a = c .before .before .before .args in
-    closed-refused (a .english) (a .s .now) (a .w) (c .if1 .taken)
+    sym (ending-refused (a .english) (a .s .now) (a .w) (c .if1 .taken))
 
 rest-requires : tie.Need-rest-requires
 rest-requires c κs = search needs
@@ -46,8 +51,12 @@ returns-2 c =
     let r = sp .before in
     let i = r .before in
     let a = i .before .before .before .args in
-    let v = ap (λ r. r .v) (r .rest .ensures) in
-    closed-text (a .english) (a .s .now) (a .w) _ _ (i .if1 .left) (i .before .before .before .pre) v (r .rest .ensures) (ch .choose .ensures ∙ ap (λ b. cond b 0 4) (sp .spoken .ensures)) (w .wide .ensures) (c .end .ensures)
+    let s = a .s .now in
+    let at = a .w .at in
+    let walked : ℕ → Walk → Walk = λ n rest. ended s (onward (n * 8) false 0 (cond (spanned (length s) at n && inLanguage (a .english) (bytesAt s at n)) 0 4) 0 rest) in
+    let fault = ch .choose .ensures ∙ ap (λ b. cond b 0 4) (sp .spoken .ensures) in
+    let walk : c .end .result ≡ walked (r .rest .result .v) (r .rest .result) = c .end .ensures ∙ ap (λ (w : Walk). ended s w) (w .wide .ensures ∙ ap (λ f. onward (r .rest .result .v * 8) false 0 f 0 (r .rest .result)) fault) in
+    ap (λ (w : Walk). record { walk = w; text = r .rest .result .v }) walk ∙ ap (λ (q : Walk). record { walk = walked (q .v) q; text = q .v }) (r .rest .ensures) ∙ sym (ending-good (a .english) s (a .w) (i .if1 .left))
 
 pub close-spec : {M : Type 1} → statement M
 close-spec =

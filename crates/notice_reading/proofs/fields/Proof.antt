@@ -1,15 +1,11 @@
 -- `fields` is the walk over the head, the areas and the text, joined, behind the size's test.
-use Prim.Native.Nat.{_+_, _-_}
+use Prim.Native.Nat.{_-_}
 use mathlib.Core.Path.{sym, ap, _∙_}
-use mathlib.Core.List.{_++_}
-use native.Mathlib.Omega.{arith}
 use borrow.Author.Needs.{needs}
-use Rattle.bits.specs.Bits.{bytesAt}
-use Rattle.layout.specs.laws.Walked.{same-values}
-use Rattle.notice_areas.specs.Standing.{areasAt}
-use Rattle.notice_reading.specs.Record.{headed, texted}
-use Rattle.notice_reading.specs.laws.Told.{sizes-small, read-on, fields-not}
-use borrow.Author.Needs.{needs}
+use borrow.Author.Tests.{eq-eqb, ne-eqb}
+use Rattle.notice_reading.specs.Notice.{sizes}
+use Rattle.notice_reading.specs.Steps.{endingOf, unreadBy, behind, courseOf}
+use Rattle.notice_reading.specs.laws.Told.{sizes-small}
 use Rattle.notice_reading.proofs.fields.Statement.{statement}
 use Rattle.notice_reading.proofs.fields.Tie as tie
 
@@ -20,10 +16,10 @@ unread-requires : tie.Need-unread-requires
 unread-requires c κs = search needs
 
 returns : tie.Need-returns
+unfolding courseOf
 returns c = let i = c .before in
     let l = i .before in
-    let a = l .before .before .args in
-    fields-not (a .english) (a .s .now) (l .lead .ensures) (a .want) (i .if1 .taken) (c .unread .ensures)
+    rw (ne-eqb (sizes (l .before .before .args .s .now)) 0 (λ z. i .if1 .taken (l .lead .ensures ∙ z))) (c .unread .ensures ∙ ap unreadBy (l .lead .ensures))
 
 head-requires : tie.Need-head-requires
 head-requires c κs = search needs
@@ -37,6 +33,7 @@ close-requires c κs = let i = c .before .before .before .before in
     sizes-small (l .before .before .args .s .now) (sym (l .lead .ensures) ∙ i .if1 .left)
 
 returns-2 : tie.Need-returns-2
+unfolding courseOf
 returns-2 c = let e = c .before in
     let w = e .before in
     let h = w .before .before .before in
@@ -44,17 +41,9 @@ returns-2 c = let e = c .before in
     let l = i .before in
     let a = l .before .before .args in
     let s = a .s .now in
-    let head = h .head .ensures (a .english) in
-    let areas = w .walk .ensures (head .few) (omega (arith, head .here)) in
-    let going = areas .along .on (head .going) in
-    let closed = e .close .ensures in
-    let all = same-values (ap (λ p. headed (h .head .result .notice) (areasAt s (h .head .result .notice .count) p ++ texted (bytesAt s (w .walk .result .at) (e .close .result .text)))) (head .here)) (closed .on going) in
-    record {
-      walked = record { so = read-on (a .english) s (l .lead .ensures) (i .if1 .left) ∙ all .so; spots = all .spots; slim = all .slim };
-      few = head .few;
-      fits = λ z. let (clean, fits) = closed .fits z in fits (going .so .within clean);
-      early = λ n. absurd (n (sym (l .lead .ensures) ∙ i .if1 .left));
-    }
+    let areas = w .walk .ensures in
+    let ending = e .close .ensures ∙ ap (endingOf (a .english) s) areas in
+    rw (eq-eqb (sizes s) 0 (sym (l .lead .ensures) ∙ i .if1 .left)) ((λ k. record { walk = ending k .walk; notice = h .head .result .notice; at = areas k .at; text = ending k .text }) ∙ ap (behind (a .english) s) (h .head .ensures))
 
 pub fields-spec : {M : Type 1} → statement M
 fields-spec =

@@ -1,21 +1,12 @@
 -- `head` walks up to the areas: one step a field, the subtype by its limits.
-use Prim.Native.Nat.{_-_, _≤_, _<_}
-use mathlib.Core.Path.{refl, ap₂, _∙_}
-use mathlib.Core.Bool.{true}
-use mathlib.Core.List.{[]}
-use native.Mathlib.Omega.{arith}
-use lib.Dec.{lit<, lit≤}
+use Prim.Native.Nat.{_-_}
+use mathlib.Core.Path.{ap, ap₂, _∙_}
+use mathlib.Core.Bool.{true, false}
 use borrow.Author.Needs.{needs}
-use Rattle.format.specs.Words.{_‥_}
 use Rattle.layout.specs.Reading.{ranged}
-use Rattle.layout.specs.laws.Along.{going}
-use Rattle.layout.specs.laws.Reading.{start, step-num, step-limits, step-decide}
-use Rattle.notice_parts.specs.laws.Subtypes.{subtype-limits}
-use Rattle.notice_parts.specs.laws.Walking.{expiry-read}
-use Rattle.notice_parts.specs.Parts.{subtype}
-use Rattle.notice_reading.specs.Notice.{notice as Notice·notice}
-use Rattle.notice_reading.specs.Record.{headed}
-use Rattle.notice_reading.specs.declared.Notice.{Notice}
+use Rattle.layout.specs.declared.walk.Walk.{Walk}
+use Rattle.notice_parts.specs.Steps.{leastSubtype, mostSubtype, expiryRead}
+use Rattle.notice_reading.specs.Steps.{openingOf}
 use Rattle.notice_reading.proofs.head.Statement.{statement}
 use Rattle.notice_reading.proofs.head.Tie as tie
 
@@ -77,7 +68,7 @@ cast-t23 : tie.Need-cast-t23
 cast-t23 c = search needs
 
 returns : tie.Need-returns
-unfolding Notice·notice
+unfolding openingOf
 returns c =
     let d = c .before in
     let x = d .before .before in
@@ -89,25 +80,19 @@ returns c =
     let n2 = n3 .before .before in
     let n1 = n2 .before .before in
     let b = n1 .before in
-    let a = b .before .before .args in
-    let s = a .s .now in
-    let kind = n5 .num5 .result .v in
-    let limits = n6 .num6 .ensures .0 ∙ ap₂ (λ lo hi. ranged s 4 true lo hi 4 (n5 .num5 .result)) (m .before .least-subtype .ensures) (m .most-subtype .ensures) in
-    let notice : Notice = record { source = n1 .num .result .v; station = n2 .num2 .result .v; serial = n3 .num3 .result .v; year = n4 .num4 .result .v; kind = kind; subtype = n6 .num6 .result .v; expiry = x .expiry .result .v; count = d .decide .result .v } in
-    λ english.
-    let r0 = start (Notice·notice english) (a .want) 0 s (b .begin .ensures) in
-    let r1 = step-num 5 (lit< tt) (lit≤ tt) (lit< tt) 1 21 r0 (n1 .num .ensures .0) in
-    let r2 = step-num 4 (lit< tt) (lit≤ tt) (lit< tt) 1 3 r1 (n2 .num2 .ensures .0) in
-    let r3 = step-num 14 (lit< tt) (lit≤ tt) (lit< tt) 1 9_999 r2 (n3 .num3 .ensures .0) in
-    let r4 = step-num 7 (lit< tt) (lit≤ tt) (lit< tt) 0 99 r3 (n4 .num4 .ensures .0) in
-    let r5 = step-num 4 (lit< tt) (lit≤ tt) (lit< tt) 1 8 r4 (n5 .num5 .ensures .0) in
-    let r6 = step-limits 4 (lit< tt) (lit≤ tt) (lit< tt) 3 _ _ subtype (λ v. subtype-limits kind _ v) r5 limits in
-    let r7 = expiry-read (lit< tt) r6 (x .expiry .ensures .0) in
-    let r8 = step-decide 4 (lit< tt) (lit≤ tt) (lit< tt) 3 0 15 (0 ‥ 15) (λ v. refl) r7 (d .decide .ensures .0) in
-    record {
-      going = going (headed notice []) r8;
-      here = r8 .here;
-      few = omega (arith, d .decide .ensures .1);
+    let s = b .before .before .args .s .now in
+    let source = n1 .num .ensures .0 ∙ ap (λ (r : Walk). ranged s 5 true 1 21 4 r) (b .begin .ensures) in
+    let station = n2 .num2 .ensures .0 ∙ ap (λ (r : Walk). ranged s 4 true 1 3 4 r) source in
+    let serial = n3 .num3 .ensures .0 ∙ ap (λ (r : Walk). ranged s 14 true 1 9_999 4 r) station in
+    let year = n4 .num4 .ensures .0 ∙ ap (λ (r : Walk). ranged s 7 true 0 99 4 r) serial in
+    let kind = n5 .num5 .ensures .0 ∙ ap (λ (r : Walk). ranged s 4 true 1 8 4 r) year in
+    let subtype = n6 .num6 .ensures .0 ∙ ap₂ (λ lo hi. ranged s 4 true lo hi 4 (n5 .num5 .result)) (m .before .least-subtype .ensures) (m .most-subtype .ensures)
+    ∙ ap (λ (r : Walk). ranged s 4 true (leastSubtype (r .v)) (mostSubtype (r .v)) 4 r) kind in
+    let expiry = x .expiry .ensures .0 ∙ ap (λ (r : Walk). expiryRead s r) subtype in
+    let count = d .decide .ensures .0 ∙ ap (λ (r : Walk). ranged s 4 false 0 15 4 r) expiry in
+    λ i. record {
+      walk = count i;
+      notice = record { source = source i .v; station = station i .v; serial = serial i .v; year = year i .v; kind = kind i .v; subtype = subtype i .v; expiry = expiry i .v; count = count i .v };
     }
 
 pub head-spec : {M : Type 1} → statement M

@@ -4,13 +4,12 @@ use mathlib.Core.Path.{_≡_, sym, ap, ap₂, _∙_}
 use native.Mathlib.Omega.{arith}
 use lib.ListN.{length}
 use borrow.Author.Needs.{needs}
-use borrow.Author.Tests.{le-leb, lt-leb}
 use Rattle.bits.specs.Bits.{bytesAt}
 use Rattle.bits.specs.laws.Runs.{length-run}
 use Rattle.format.specs.Fmt.{also}
 use Rattle.notice_areas.specs.Standing.{front, areasAt}
 use Rattle.notice_reading.specs.Record.{recordOf}
-use Rattle.notice_reading.specs.laws.Told.{reads-refused, reads-few, reads-short, reads-good, stored, kept-row, copied, walked-good, walked-bad}
+use Rattle.notice_reading.specs.laws.Told.{reads-refused, reads-few, reads-short, reads-good, stored, kept-row, copied, walked-good, walked-bad, fields-are}
 use Rattle.notice_reading.specs.declared.Answer.the-variants.{Good}
 use borrow.Author.Needs.{needs}
 use Rattle.notice_reading.proofs.read.Statement.{statement}
@@ -80,7 +79,7 @@ returns-4 c = let g = c .before .before in
     let is = reads-good (a .english) s (a .areas .now) (a .text .now) good enough room in
     let answer : Good (record { notice = r .notice; numbers = fl .fill .result; text = r .text }) ≡ Good (record { notice = r .notice; numbers = length xs; text = length (bytesAt s (r .at) (r .text)) }) =
     ap₂ (λ n t. Good (record { notice = r .notice; numbers = n; text = t })) (x .0) (sym t) in
-    (answer ∙ is .0, x .1 ∙ stored (a .areas .now) xs enough ∙ is .1, copied s (r .at) (r .text) (a .text .now) (f .fields .ensures .fits (i1 .if1 .left)) (i2 .if2 .left) (g .get-bytes .ensures) ∙ is .2)
+    (answer ∙ is .0, x .1 ∙ stored (a .areas .now) xs enough ∙ is .1, copied s (r .at) (r .text) (a .text .now) (fields-are (a .english) 0 s (f .fields .ensures) .fits (i1 .if1 .left)) (i2 .if2 .left) (g .get-bytes .ensures) ∙ is .2)
 
 pub read-spec : {M : Type 1} → statement M
 read-spec =

@@ -6,27 +6,29 @@ use Prim.Native.Nat.{ℕ, _+_, _-_, _*_, _≤_}
 use native.Mathlib.Omega.{arith}
 use lib.Seq.{length-take-le}
 use lib.ListN.{length, take, drop, length-drop}
-use borrow.Author.Tests.{le-leb}
+use borrow.Author.Tests.{le-leb, eq-eqb, ne-eqb, eqb-true, eqb-false}
+use lib.Dec.{eqb}
 use Rattle.bits.specs.Answers.{spanned}
 use Rattle.bits.specs.Bits.{valueOf, bitsOf, bytesOf, bytesAt, fieldAt}
 use Rattle.bits.specs.laws.Bytes.{length-bits}
 use Rattle.bits.specs.laws.Digits.{digits-value}
 use Rattle.bits.specs.laws.Runs.{length-run, run-value}
 use Rattle.field.specs.Faults.{wholly}
-use Rattle.format.specs.Fmt.{good, field, end}
-use Rattle.format.specs.Words.{orElse, unless, kept}
+use Rattle.format.specs.Fmt.{Out, Fmt, good, end}
+use Rattle.format.specs.Words.{orElse, unless, _▹_}
 use Rattle.format.specs.laws.Runs.{run-stands}
 use Rattle.format.specs.laws.Tells.{blamed}
-use Rattle.layout.specs.Reading.{ended}
-use Rattle.layout.specs.Walk.{onward}
+use Rattle.layout.specs.laws.Along.{Going}
 use Rattle.layout.specs.laws.Reading.{step-rest}
-use Rattle.layout.specs.laws.Step.{Steps, Reading, stuck, step-late}
-use Rattle.layout.specs.laws.Walked.{finish, same-values}
+use Rattle.layout.specs.laws.Step.{Steps, stuck, step-late}
+use Rattle.layout.specs.laws.Walked.{Walked, finish, same-values}
 use Rattle.layout.specs.declared.walk.Walk.{Walk}
 use Rattle.packet_reading.specs.Packet.{joined}
 use Rattle.text.specs.Text.{inLanguage}
 use Rattle.notice_reading.specs.Notice.{text}
-use Rattle.notice_reading.specs.Steps.{ClosedIs}
+use Rattle.notice_reading.specs.Record.{texted}
+use Rattle.notice_reading.specs.Steps.{textWalked, endingOf}
+use Rattle.notice_reading.specs.declared.Ending.{Ending}
 
 -- text that lies within the message: its fault is the language's
 text-steps : (english : Bool) (s : List ℕ) (at n : ℕ) (h : List ℕ) (c : ℕ) → at + n * 8 ≤ length s * 8 → length s ≤ joined → c ≡ cond (spanned (length s) at n && inLanguage english (bytesAt s at n)) 0 4
@@ -57,27 +59,47 @@ text-steps english s at n h c fits small is = record {
     go true = refl
     go false = refl
 
+-- the text from r on, and the end
+pub record ClosedIs (english : Bool) (s : List ℕ) (r : Walk) (t : Ending) : Type 0 where
+  pub on : {o : Out (List ℕ)} {all : Fmt} {i : ℕ} {us : List ℕ} → Going o all i s (text english ▹ end) us r → Walked o all i (us ++ texted (bytesAt s (r .at) (t .text))) (t .walk)
+  pub fits : t .walk .code ≡ 0 → (r .code ≡ 0) × (r .at ≤ length s * 8 → r .at + t .text * 8 ≤ length s * 8)
+
 module _ (english : Bool) (s : List ℕ) (r : Walk) where
   -- after a refusal nothing is looked at
-  pub closed-refused : (r .code ≡ 0 → ⊥) → ClosedIs english s r (record { walk = r; text = 0 })
+  closed-refused : (r .code ≡ 0 → ⊥) → ClosedIs english s r (record { walk = r; text = 0 })
   closed-refused n = record {
     on = λ {o} {all} {i} {us} x. record { so = x .so .so ∙ stuck r _ n ∙ sym (stuck r _ n); spots = λ z. absurd (n z); slim = x .so .slim };
     fits = λ z. absurd (n z);
   }
 
   -- the rest is told, the text judged, the end reached
-  pub closed-text : (n c : ℕ) {g p q : Walk} → r .code ≡ 0 → length s ≤ joined → n ≡ wholly s (r .at) → g ≡ onward 0 false (wholly s (r .at)) 0 0 r
-      → c ≡ cond (spanned (length s) (r .at) n && inLanguage english (bytesAt s (r .at) n)) 0 4 → p ≡ onward (n * 8) false 0 c 0 g → q ≡ ended s p
-      → ClosedIs english s r (record { walk = q; text = n })
-  closed-text n c {g} {p} {q} clean small is d e f k = record {
+  closed-text : r .code ≡ 0 → length s ≤ joined → let n = wholly s (r .at) in ClosedIs english s r (record { walk = textWalked english s n r; text = n })
+  closed-text clean small = record {
     on = λ {o} {all} {i} {us} x.
         let at = r .at in
+        let n = wholly s at in
         let near : at ≤ length s * 8 = x .so .within clean in
         let u = valueOf (bitsOf (bytesAt s at n)) in
-        let fits : at + n * 8 ≤ length s * 8 = omega (arith, is) in
-        let y = step-rest (omega arith) (x .so) d in
-        let y′ = subst⁻¹ (λ m. Reading o all i s (field (m * 8) (λ h b. unless (inLanguage english (bytesOf m b)) 4 0) kept end) (m ∷ x .past) at (λ vs. us ++ (m ∷ vs)) g) is y in
-        let z = subst⁻¹ (λ p. Reading o all i s end (u ∷ n ∷ x .past) (at + n * 8) (λ vs. us ++ (n ∷ u ∷ vs)) p) f (step-late 0 (omega arith) y′ (λ _ l. text-steps english s at n (n ∷ x .past) c fits small e)) in
-        same-values (ap (λ m. us ++ (m ∷ u ∷ [])) (sym (length-run s at n))) (finish (omega arith) z k);
-    fits = λ z. (clean, λ l. omega (arith, is));
+        let fits : at + n * 8 ≤ length s * 8 = omega arith in
+        let y = step-rest (omega arith) (x .so) refl in
+        let z = step-late 0 (omega arith) y (λ _ l. text-steps english s at n (n ∷ x .past) _ fits small refl) in
+        same-values (ap (λ m. us ++ (m ∷ u ∷ [])) (sym (length-run s at n))) (finish (omega arith) z refl);
+    fits = λ z. (clean, λ l. omega arith);
   }
+
+  -- ---- the two ways in which the walk ends
+
+  pub ending-good : r .code ≡ 0 → let n = wholly s (r .at) in endingOf english s r ≡ record { walk = textWalked english s n r; text = n }
+  unfolding endingOf
+  ending-good z = rw (eq-eqb (r .code) 0 z) refl
+
+  pub ending-refused : (r .code ≡ 0 → ⊥) → endingOf english s r ≡ record { walk = r; text = 0 }
+  unfolding endingOf
+  ending-refused n = rw (ne-eqb (r .code) 0 n) refl
+
+  pub closed : length s ≤ joined → ClosedIs english s r (endingOf english s r)
+  closed small = go (eqb (r .code) 0) refl
+    where
+      go : (t : Bool) → eqb (r .code) 0 ≡ t → ClosedIs english s r (endingOf english s r)
+      go true t = let z = eqb-true (r .code) 0 t in subst⁻¹ (ClosedIs english s r) (ending-good z) (closed-text z small)
+      go false t = let n = eqb-false (r .code) 0 t in subst⁻¹ (ClosedIs english s r) (ending-refused n) (closed-refused n)

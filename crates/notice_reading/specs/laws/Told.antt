@@ -1,4 +1,4 @@
--- The record of a head's, areas' and text's values is these; and the three ways in which reading answers. Assumes nothing.
+-- The record of a head's, areas' and text's values is these; the three ways in which reading answers; and what the walk over a notice is: reading's answer. Assumes nothing.
 use mathlib.Core.Path.{_≡_, refl, sym, ap, _∙_, subst⁻¹}
 use mathlib.Core.Bool.{Bool, true, false, cond, _&&_}
 use mathlib.Core.List.{List, [], _∷_, _++_}
@@ -22,11 +22,16 @@ use Rattle.format.specs.laws.Round.{accepted-inj}
 use Rattle.format.specs.laws.Lead.{read-first, held-back, read-led}
 use Rattle.layout.specs.Walk.{begun}
 use Rattle.layout.specs.laws.Step.{clear, stuck}
+use Rattle.layout.specs.laws.Walked.{Walked, same-values}
 use Rattle.notice_areas.specs.Standing.{front, areasAt}
+use Rattle.notice_areas.specs.Steps.{areasWalked}
+use Rattle.notice_areas.specs.laws.Walking.{areas-along}
 use Rattle.notice_numbers.specs.Shapes.{filled}
 use Rattle.packet_reading.specs.Packet.{joined}
 use Rattle.notice_reading.specs.Notice.{notice, notices, sizes}
-use Rattle.notice_reading.specs.Steps.{fieldsRead, unreadBy, FieldsAre}
+use Rattle.notice_reading.specs.Steps.{fieldsRead, openingOf, endingOf, unreadBy, behind, courseOf}
+use Rattle.notice_reading.specs.laws.Opening.{opened}
+use Rattle.notice_reading.specs.laws.Closing.{closed}
 use Rattle.notice_reading.specs.declared.Course.{Course}
 use Rattle.notice_reading.specs.Promises.{ahead, toldOf, Reads}
 use Rattle.notice_reading.specs.Record.{Whole, headed, texted, headOf, textOf, recordOf}
@@ -92,23 +97,55 @@ sizes-small s = go (leb 8 (length s)) (leb (length s) joined) refl
     go true false e z = absurd (omega (arith, z))
     go false false e z = absurd (omega (arith, z))
 
-module _ (english : Bool) (s : List ℕ) {c : ℕ} (e : c ≡ sizes s) where
-  pub read-on : c ≡ 0 → readMessage (notices english) s ≡ fieldsRead english s
-  unfolding notices
-  read-on z = read-first (notices english) s e ∙ ap (λ c. check (fault c) 0 (fieldsRead english s)) z
+read-on : (english : Bool) (s : List ℕ) → sizes s ≡ 0 → readMessage (notices english) s ≡ fieldsRead english s
+unfolding notices
+read-on english s z = read-first (notices english) s refl ∙ ap (λ c. check (fault c) 0 (fieldsRead english s)) z
+
+-- a walk over the whole notice, sought for field i: the values that reading has, and where the text stands
+pub record FieldsAre (english : Bool) (i : ℕ) (s : List ℕ) (f : Course) : Type 0 where
+  pub walked : Walked (readMessage (notices english) s) (notice english) i (headed (f .notice) (areasAt s (f .notice .count) front ++ texted (bytesAt s (f .at) (f .text)))) (f .walk)
+  pub few : f .notice .count ≤ 15
+  pub fits : f .walk .code ≡ 0 → f .at + f .text * 8 ≤ length s * 8
+
+module _ (english : Bool) (i : ℕ) (s : List ℕ) where
+  -- head, areas, text and end, joined
+  fields-on : sizes s ≡ 0 → FieldsAre english i s (behind english s (openingOf i s))
+  fields-on z =
+      let h = openingOf i s in
+      let head = opened english i s in
+      let n = h .notice .count in
+      let areas = areasWalked s n (h .walk) in
+      let going = areas-along s n (h .walk) (omega (arith, head .few, head .here)) .on (head .going) in
+      let end = closed english s areas (sizes-small s z) in
+      let all = same-values (ap (λ p. headed (h .notice) (areasAt s n p ++ texted (bytesAt s (areas .at) (endingOf english s areas .text)))) (head .here)) (end .on going) in
+      record {
+        walked = record { so = read-on english s z ∙ all .so; spots = all .spots; slim = all .slim };
+        few = head .few;
+        fits = λ z. let (clean, fits) = end .fits z in fits (going .so .within clean);
+      }
 
   -- a size that is refused is the whole answer
-  pub fields-not : (i : ℕ) {f : Course} → (c ≡ 0 → ⊥) → f ≡ unreadBy c → FieldsAre english i s f
+  fields-not : (sizes s ≡ 0 → ⊥) → FieldsAre english i s (unreadBy (sizes s))
   unfolding notices
-  fields-not i n d = subst⁻¹ (FieldsAre english i s) d (record {
-    walked = record { so = read-first (notices english) s e ∙ held-back c (fieldsRead english s) n ∙ sym (stuck (begun c 0) _ n); spots = λ z. absurd (n z); slim = omega arith };
+  fields-not n = record {
+    walked = record { so = read-first (notices english) s refl ∙ held-back (sizes s) (fieldsRead english s) n ∙ sym (stuck (begun (sizes s) 0) _ n); spots = λ z. absurd (n z); slim = omega arith };
     few = omega arith;
     fits = λ z. absurd (n z);
-    early = λ _. ap unreadBy e;
-  })
+  }
+
+  pub fields-are : {f : Course} → f ≡ courseOf english i s → FieldsAre english i s f
+  unfolding courseOf
+  fields-are d = subst⁻¹ (FieldsAre english i s) d (go (eqb (sizes s) 0) refl)
+    where
+      go : (t : Bool) → eqb (sizes s) 0 ≡ t → FieldsAre english i s (cond t (behind english s (openingOf i s)) (unreadBy (sizes s)))
+      go true t = fields-on (eqb-true (sizes s) 0 t)
+      go false t = fields-not (eqb-false (sizes s) 0 t)
 
 -- the walk over a whole notice: its record, or the refusal
-module _ (english : Bool) (i : ℕ) (s : List ℕ) (f : Course) (x : FieldsAre english i s f) where
+module _ (english : Bool) (i : ℕ) (s : List ℕ) (f : Course) (d : f ≡ courseOf english i s) where
+  x : FieldsAre english i s f
+  x = fields-are english i s d
+
   pub walked-good : f .walk .code ≡ 0 → readRecord (notices english) recordOf s ≡ accepted (f .notice, (areasAt s (f .notice .count) front, bytesAt s (f .at) (f .text)))
   walked-good k =
       ap (also recordOf) (x .walked .so ∙ clear (f .walk) _ k)
@@ -137,4 +174,4 @@ module _ (english : Bool) (i : ℕ) (s : List ℕ) (f : Course) (x : FieldsAre e
   unfolding notices
   fields-again z t e =
       let size : sizes s ≡ 0 = read-led (notices english) s (sym walked-code ∙ z) in
-      read-on english t (ap (λ n. cond (leb 8 n) (cond (between 8 joined n) 0 1) 1) (sym e) ∙ refl) size
+      read-on english t (ap (λ n. cond (leb 8 n) (cond (between 8 joined n) 0 1) 1) e ∙ size)

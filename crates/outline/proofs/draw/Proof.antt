@@ -5,7 +5,7 @@ use native.Mathlib.Omega.{arith}
 use native.Mathlib.Numerals.{add-one}
 use lib.ListN.{length}
 use lib.Seq.{sets, length-sets}
-use Rattle.notice_areas.specs.Standing.{front, areasEnd}
+use Rattle.notice_areas.specs.Standing.{front, areaMost, areasEnd}
 use Rattle.notice_numbers.specs.Shapes.{shapeAt, pointsIn}
 use Rattle.notice_numbers.specs.declared.Shape.{Shape}
 use Rattle.notice_numbers.specs.laws.Shapes.{area-small, next-more, points-more}
@@ -15,7 +15,7 @@ use Rattle.outline.proofs.draw.Statement.{statement}
 use Rattle.outline.proofs.draw.Tie as tie
 
 abbrev Inv-loop : tie.InvT-loop
-Inv-loop s count row₀ most k₀ at₀ i₀ row k at i = (i ≤ most) × (at ≡ areasEnd s i front) × (at ≤ front + i * 700) × (k ≡ pointsIn s i front * 2) × (length row ≡ length row₀) × (row ≡ sets row₀ 0 (outlineAt s i front))
+Inv-loop s count row₀ most k₀ at₀ i₀ row k at i = (i ≤ most) × (at ≡ areasEnd s i front) × (at ≤ front + i * areaMost) × (k ≡ pointsIn s i front * 2) × (length row ≡ length row₀) × (row ≡ sets row₀ 0 (outlineAt s i front))
 
 abbrev μ-loop : tie.MeasureT-loop
 μ-loop s count row₀ most k₀ at₀ i₀ row k at i = most - i

@@ -9,7 +9,7 @@ use Rattle.format.specs.Fmt.{also}
 use Rattle.notice_areas.specs.Standing.{front, areasAt}
 use Rattle.notice_numbers.specs.declared.Extent.{Extent}
 use Rattle.notice_reading.specs.Record.{recordOf}
-use Rattle.notice_reading.specs.laws.Told.{walked-good, walked-bad}
+use Rattle.notice_reading.specs.laws.Told.{walked-good, walked-bad, fields-are}
 use Rattle.outline.specs.Outline.{outlineOf}
 use Rattle.outline.specs.laws.Drawing.{outline-stands, outline-at-long, count-stands, points-few}
 use Rattle.outline.specs.laws.Outlines.{outlines-refused, outlines-short, outlines-good}
@@ -35,7 +35,7 @@ mul-if2 c = let f = c .before .before .before .before in
     let a = f .before .before .args in
     let s = a .s .now in
     let few = points-few s (f .fields .result .notice .count) front in
-    omega (arith, few, f .fields .ensures .few, ap (λ (e : Extent). e .points) (c .measure .ensures))
+    omega (arith, few, fields-are (a .english) 0 s (f .fields .ensures) .few, ap (λ (e : Extent). e .points) (c .measure .ensures))
 
 returns-2 : tie.Need-returns-2
 returns-2 c = let f = c .before .before .before .before .before in

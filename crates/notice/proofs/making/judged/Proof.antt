@@ -1,6 +1,6 @@
 -- `judged` walks the head, the areas and the text; a refused head ends it.
 use Prim.Native.Nat.{_+_, _-_, _*_}
-use mathlib.Core.Path.{sym, ap, _∙_}
+use mathlib.Core.Path.{sym, ap, _∙_, subst⁻¹}
 use mathlib.Core.Bool.{cond}
 use mathlib.Core.List.{_++_}
 use native.Mathlib.Omega.{arith}
@@ -11,7 +11,10 @@ use Rattle.layout.specs.Walk.{onward}
 use Rattle.layout.specs.declared.walk.Walk.{Walk}
 use Rattle.layout.specs.laws.Loops.{going}
 use Rattle.layout.specs.laws.Step.{clean}
+use Rattle.areas_making.specs.laws.Judging.{AreasAre, areas-are}
 use Rattle.notice_areas.specs.Row.{areasTold}
+use Rattle.notice_areas.specs.Standing.{front}
+use Rattle.notice_parts.specs.Steps.{bare}
 use Rattle.notice_reading.specs.Record.{texted, valuesOf}
 use Rattle.notice.specs.laws.Judging.{spoken-whole, text-judged, from-front, refused-judged}
 use Rattle.notice.proofs.making.judged.Statement.{statement}
@@ -56,12 +59,12 @@ returns-2 c =
     let t = a .text .now in
     let fine : Bytes t = λ i. known .shared-slice-known2 .given i .fits in
     let x = h .judged-head .ensures in
-    let y = j .judge .ensures in
-    let g = y .along .on (from-front (i .if1 .left) (x .is (a .english) (areasTold (a .r .count) (a .areas .now) ++ texted t))) in
     let few = x .few (i .if1 .left) in
+    let y = subst⁻¹ (AreasAre (a .areas .now) (a .r .count) 0 (bare front 0 0)) (j .judge .ensures) (areas-are (a .areas .now) (a .r .count) 0 (bare front 0 0) (omega (arith, few))) in
+    let g = y .along .on (from-front (i .if1 .left) (x .is (a .english) (areasTold (a .r .count) (a .areas .now) ++ texted t))) in
     record {
       judged = text-judged (a .english) t (ch .choose .result) fine (omega (arith, y .near, few)) (ch .choose .ensures ∙ ap (λ b. cond b 0 4) (sp .spoken .ensures ∙ spoken-whole (a .english) t fine)) (c .wide .ensures) g;
-      asked = λ z. y .next (clean (j .judge .result .walk .code) (ch .choose .result) (ap (λ (w : Walk). w .code) (sym (c .wide .ensures)) ∙ z) .0);
+      asked = λ z. y .next (clean (j .judge .result .walk .code) (ch .choose .result) (ap (λ (w : Walk). w .code) (sym (c .wide .ensures)) ∙ z) .0) ∙ omega arith;
     }
 
 pub judged-spec : {M : Type 1} → statement M

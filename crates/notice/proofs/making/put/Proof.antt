@@ -1,13 +1,18 @@
 -- `put` puts the head, the areas, the text and the fill behind one another.
-use Prim.Native.Nat.{_+_, _-_}
-use mathlib.Core.List.{_++_}
+use Prim.Native.Nat.{ℕ, _+_, _-_}
+use mathlib.Core.Path.{ap, subst⁻¹}
+use mathlib.Core.List.{List, _++_}
 use native.Mathlib.Omega.{arith}
 use borrow.Author.Needs.{needs}
 use Rattle.bits.specs.Bits.{Bytes, putBytesAt}
 use Rattle.format.specs.laws.Extent.{opens-field}
 use Rattle.format.specs.laws.Putting.{put-bytes, put-run, put-fill, put-end, begins}
 use Rattle.format.specs.laws.Runs.{run-bits}
+use Rattle.layout.specs.laws.Loops.{PutsAlong}
+use Rattle.areas_making.specs.laws.Putting.{areas-along, areas-near}
+use Rattle.notice_areas.specs.Areas.{areas}
 use Rattle.notice_areas.specs.Row.{areasTold}
+use Rattle.notice_areas.specs.Standing.{front}
 use Rattle.notice_reading.specs.Record.{texted, valuesOf}
 use Rattle.notice.proofs.making.put.Statement.{statement}
 use Rattle.notice.proofs.making.put.Tie as tie
@@ -25,7 +30,11 @@ mul-fill : tie.Need-mul-fill
 mul-fill c = search needs
 
 add-fill : tie.Need-add-fill
-add-fill c = search needs
+add-fill c =
+    let p = c .before .before .before .before .before .before .before in
+    let h = p .before .before .before .before in
+    let a = h .before .before .before .before .before .args in
+    omega (arith, ap (λ (x : ℕ × List ℕ). x .0) (p .put .ensures), areas-near (a .areas .now) (a .r .count) 0 front (h .put-head .last .0))
 
 fill-requires : tie.Need-fill-requires
 fill-requires c κs = search needs
@@ -47,7 +56,8 @@ returns c =
     let fine : Bytes s = λ i. known .slice-known .given i .fits in
     λ english b e l.
     let r0 = h .put-head .ensures english (areasTold (a .r .count) (a .areas .now) ++ texted x) b fine e l in
-    let r1 = p .put .ensures .along .on r0 in
+    let r1 = subst⁻¹ (λ (x : ℕ × List ℕ). PutsAlong (areas (a .r .count)) (λ f. f) front (areasTold (a .r .count) (a .areas .now)) (h .put-head .last .0) (x .0) (x .1)) (p .put .ensures)
+    (areas-along (a .areas .now) (a .r .count) 0 front (h .put-head .last .0)) .on r0 in
     let r2 = put-run x (run-bits x) (begins opens-field) (put-bytes r1) (t .put-bytes .ensures) in
     let r3 = put-fill r2 (f .fill .ensures) in
     put-end fine (omega arith) r3
