@@ -28,16 +28,18 @@ pub fn not(a: bool) -> bool
     if a { false } else { true }
 }
 
+// Of two refusal numbers.
 pub fn choose(yes: bool, a: u8, b: u8) -> u8
     ensures { λ r. ⌜ r ≡ cond yes a b ⌝ }
 {
     if yes { a } else { b }
 }
 
-pub fn pick(yes: bool, a: usize, b: usize) -> usize
-    ensures { λ r. ⌜ r ≡ cond yes a b ⌝ }
+// Of two places or sizes.
+pub fn pick(yes: bool, m: usize, n: usize) -> usize
+    ensures { λ r. ⌜ r ≡ cond yes m n ⌝ }
 {
-    if yes { a } else { b }
+    if yes { m } else { n }
 }
 
 pub fn less(n: usize) -> usize
