@@ -2,6 +2,7 @@
 use mathlib.Core.Path.{_≡_, refl}
 use mathlib.Core.List.{List, [], _∷_}
 use Prim.Native.Nat.{ℕ}
+use Rattle.ais_head.specs.Lead.{told}
 use Rattle.bits.specs.Bits.{bit, valueOf, digits, bitsOf, fieldAt}
 use Rattle.format.specs.Message.{readMessage}
 use Rattle.area_reading.specs.Area.{areas}
@@ -18,5 +19,5 @@ cut last shape = 0x18 ∷ 0 ∷ 0 ∷ 0 ∷ 0 ∷ 0 ∷ 0 ∷ 0 ∷ 0 ∷ 0x67 �
 
 -- message 6 cut to 23 bytes: 2 where its application or its shape is bad, else 1
 short : (codeOf (cut 0x0B 0x14) ≡ 1) × (codeOf (cut 0x0B 0x10) ≡ 2) × (codeOf (cut 0x03 0x14) ≡ 2)
-unfolding codeOf readMessage areas warnings fieldAt valueOf bit digits bitsOf
+unfolding codeOf readMessage areas warnings told fieldAt valueOf bit digits bitsOf
 short = (refl, refl, refl)

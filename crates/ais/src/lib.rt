@@ -1,11 +1,9 @@
 // AIS (paper 01, "AIS"): what reading a message of either kind answers; how many slots it needs, from `slots`.
 ghost use mathlib.Core.Path.{_≡_};
 ghost use Rattle.ais.specs.Ais.{codeOf};
+pub use ais_head::SMALLEST;
 pub use slots::Needed;
 pub use slots::slots;
-
-// The smallest size of a message of either kind, in bytes.
-pub const SMALLEST: usize = 23;
 
 // The refusal of reading a message as the one whose number it has; 0 for a good one.
 pub fn code(s: &[u8]) -> u8

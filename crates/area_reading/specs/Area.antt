@@ -1,12 +1,12 @@
 -- Message 6 with application 412/11, an area marked off (paper 01, "AIS"; 003, tables 4 and 38 to 40). Assumes nothing.
 use Prim.Native.Nat.{ℕ}
-use mathlib.Core.Bool.{false, _&&_}
+use mathlib.Core.Bool.{false}
 use mathlib.Core.List.{List, [], _∷_}
-use lib.Dec.{eqb}
-use lib.ListN.{length, getD}
-use Rattle.bits.specs.Bits.{fieldAt}
+use lib.ListN.{getD}
+use Rattle.ais_head.specs.Lead.{application, headOf, leads}
+use Rattle.ais_head.specs.declared.Asked.{Asked}
 use Rattle.format.specs.Fmt.{Out, accepted, refused, Fmt, end, choice}
-use Rattle.format.specs.Message.{Layout, led, between, codeOf}
+use Rattle.format.specs.Message.{Layout, codeOf}
 use Rattle.format.specs.Promises.{answered}
 use Rattle.format.specs.Words.{_‥_, only, _▹_, num, code, fill}
 use Rattle.time.specs.Time.{time, shortTime, spellTime, timeOf, spellShort, shortOf}
@@ -38,10 +38,13 @@ area =
     ▹ num 4 (1 ‥ 14)  -- area kind
     ▹ choice 2 (only 2 2 (1 ‥ 2)) (λ t. shape (kindOf t) tail)  -- shape, else 2
 
--- 31 bytes; another message, application or shape is 2, in one of 23 bytes or more
+-- message 6, application 412/11, shape 1 or 2; 31 bytes
+abbrev pub asked : Asked
+asked = record { message = 6; application = application 11; choices = 2; bytes = 31 }
+
 unfoldable pub areas : Layout
 areas = record {
-  lead = led 23 (λ s. eqb (fieldAt s 0 6) 6 && eqb (fieldAt s 72 10) 412 && eqb (fieldAt s 82 6) 11 && between 1 2 (fieldAt s 92 2)) (λ s. between 31 31 (length s));
+  lead = leads asked (headOf 72 92 2);
   kind = λ vs. 0;
   least = 31;
   most = 31;

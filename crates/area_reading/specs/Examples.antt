@@ -4,6 +4,7 @@ use mathlib.Core.List.{List, [], _∷_}
 use Prim.Native.Nat.{ℕ}
 use lib.IntN.{pos, negsuc}
 use lib.ListN.{take, set}
+use Rattle.ais_head.specs.Lead.{told}
 use Rattle.bits.specs.Bits.{bit, valueOf, digits, bitsOf, bytesOf, fieldAt}
 use Rattle.number.specs.Sign.{intOf, spellOf}
 use Rattle.format.specs.Fmt.{accepted, refused, readField, read, writeField, write, spot}
@@ -41,7 +42,7 @@ at-sea x = record {
 }
 
 circle-read : readRecord areas recordOf round ≡ accepted (at-sea (eastward 72_905_000))
-unfolding readMessage areas area read readField walk wide recordOf intOf timeOf shortOf fieldAt valueOf bit digits bitsOf
+unfolding readMessage areas told area read readField walk wide recordOf intOf timeOf shortOf fieldAt valueOf bit digits bitsOf
 circle-read = refl
 
 circle-back : writeMessage areas (valuesOf (at-sea (eastward 72_905_000))) ≡ accepted round
@@ -63,7 +64,7 @@ circle-none = refl
 
 -- the shape is tested before the size, and both before any field
 circle-cut : (readMessage areas (take 30 round) ≡ refused 1 0) × (readMessage areas (set (take 30 round) 11 0x51) ≡ refused 2 0) × (readMessage areas (take 22 round) ≡ refused 1 0)
-unfolding readMessage areas fieldAt valueOf bit digits bitsOf
+unfolding readMessage areas told fieldAt valueOf bit digits bitsOf
 circle-cut = (refl, refl, refl)
 
 -- from 5°00.0123' W, 10°00.0001' S to 4°00.0123' W and no latitude
@@ -87,7 +88,7 @@ westward = record {
 }
 
 rectangle-read : readRecord areas recordOf cornered ≡ accepted westward
-unfolding readMessage areas area read readField walk wide recordOf intOf timeOf shortOf fieldAt valueOf bit digits bitsOf
+unfolding readMessage areas told area read readField walk wide recordOf intOf timeOf shortOf fieldAt valueOf bit digits bitsOf
 rectangle-read = refl
 
 rectangle-back : writeMessage areas (valuesOf westward) ≡ accepted cornered
@@ -96,9 +97,9 @@ rectangle-back = refl
 
 -- a rectangle has no radius, and a circle has one, which stands at bit 149
 rectangle-radius : correctMessage areas cornered (fieldOf (fieldAt cornered 92 2) 12) 26 ≡ refused 10 0
-unfolding correctMessage readMessage areas area read readField walk wide spot fieldAt valueOf bit digits bitsOf
+unfolding correctMessage readMessage areas told area read readField walk wide spot fieldAt valueOf bit digits bitsOf
 rectangle-radius = refl
 
 circle-radius : correctMessage areas round (fieldOf (fieldAt round 92 2) 12) 26 ≡ accepted (set round 19 0xA0)
-unfolding correctMessage readMessage writeMessage areas area read readField write writeField walk wide spot fieldAt valueOf bit digits bitsOf bytesOf
+unfolding correctMessage readMessage writeMessage areas told area read readField write writeField walk wide spot fieldAt valueOf bit digits bitsOf bytesOf
 circle-radius = refl

@@ -7,6 +7,7 @@ ghost use Rattle.format.specs.Message.{fieldsOf};
 ghost use Rattle.area_reading.specs.Area.{area, areas, recordOf, answerOf, numberOf};
 ghost use Rattle.area_reading.specs.Promises.{Reads};
 ghost use Rattle.area_reading.specs.declared.Answer.the-variants.{Good, Refused};
+pub use ais_head::AUTHORITY;
 use number::choosing::choose;
 use number::choosing::none;
 
@@ -95,12 +96,10 @@ impl Area {
 
 pub const MESSAGE: u64 = 6;
 
-pub const AUTHORITY: u64 = 412;
-
 pub const APPLICATION: u64 = 11;
 
-// The smallest size of AIS, in bytes: a shorter message is of no kind.
-const SMALLEST: usize = 23;
+// Both as they stand, side by side.
+const APPLIED: u64 = AUTHORITY * 64 + APPLICATION;
 
 pub fn read(s: &[u8]) -> Answer
     ensures { λ r. ⌜ Reads (now (s .entry)) r ⌝ }
@@ -112,32 +111,18 @@ pub fn read(s: &[u8]) -> Answer
 pub fn lead(s: &[u8]) -> u8
     ensures { λ r. ⌜ r ≡ areas .lead (now (s .entry)) ⌝ }
 {
-    if s.len() < SMALLEST {
-        return format::SIZE;
-    }
-    if bits::get(s, 0, 6) != MESSAGE {
-        return format::KIND;
-    }
-    if bits::get(s, 72, 10) != AUTHORITY {
-        return format::KIND;
-    }
-    if bits::get(s, 82, 6) != APPLICATION {
-        return format::KIND;
-    }
-    let shape = bits::get(s, 92, 2);
-    if shape < 1 {
-        return format::KIND;
-    }
-    if 2 < shape {
-        return format::KIND;
-    }
-    if s.len() < Area::LEAST {
-        return format::SIZE;
-    }
-    if s.len() > Area::GREATEST {
-        return format::SIZE;
-    }
-    0
+    let head = ais_head::Head {
+        message: bits::get(s, 0, 6),
+        application: bits::get(s, 72, 16),
+        choice: bits::get(s, 92, 2),
+    };
+    let asked = ais_head::Asked {
+        message: MESSAGE,
+        application: APPLIED,
+        choices: 2,
+        bytes: Area::LEAST,
+    };
+    ais_head::lead(s.len(), head, asked)
 }
 
 // The fields in bit order, behind the first tests' answer. Another size is refused at once: no field has then to be tested for it.

@@ -2,6 +2,7 @@
 use mathlib.Core.Path.{_≡_, refl}
 use mathlib.Core.List.{List, [], _∷_}
 use Prim.Native.Nat.{ℕ}
+use Rattle.ais_head.specs.Lead.{told}
 use Rattle.bits.specs.Bits.{bit, valueOf, digits, bitsOf, bytesOf, fieldAt}
 use Rattle.bodies.specs.declared.Body.the-variants.{Gale, Fog}
 use Rattle.format.specs.Fmt.{accepted, refused, readField, read, writeField, write}
@@ -27,7 +28,7 @@ abbrev galeBytes : List ℕ
 galeBytes = 0x20 ∷ 0x62 ∷ 0x3a ∷ 0x7c ∷ 0x04 ∷ 0x67 ∷ 0x03 ∷ 0x27 ∷ 0x0a ∷ 0x00 ∷ 0x92 ∷ 0x5b ∷ 0x38 ∷ 0x1e ∷ 0x0e ∷ 0x98 ∷ 0x00 ∷ 0x00 ∷ 0x00 ∷ 0x0b ∷ 0x79 ∷ 0x9e ∷ 0x60 ∷ []
 
 gale-read : readMessage warnings galeBytes ≡ accepted (8 ∷ 0 ∷ 412_000_001 ∷ 0 ∷ 412 ∷ 3 ∷ 2 ∷ 3_690_500 ∷ 4_812_000 ∷ 120 ∷ 7 ∷ 9 ∷ 8 ∷ 0 ∷ 752030 ∷ 24 ∷ 0 ∷ [])
-unfolding readMessage warnings warning read readField walk wide fieldAt valueOf bit digits bitsOf
+unfolding readMessage warnings told warning read readField walk wide fieldAt valueOf bit digits bitsOf
 gale-read = refl
 
 gale-written : writeMessage warnings (valuesOf (galeFrom 8)) ≡ accepted galeBytes

@@ -1,13 +1,13 @@
 -- Message 8 with application 412/03, a warning (paper 01, "AIS"; 003, tables 5 and 56 to 62). Assumes nothing.
 use Prim.Native.Nat.{ℕ, _+_}
-use mathlib.Core.Bool.{false, _&&_}
+use mathlib.Core.Bool.{false}
 use mathlib.Core.List.{List, [], _∷_}
-use lib.Dec.{eqb}
-use lib.ListN.{length, getD, drop}
-use Rattle.bits.specs.Bits.{fieldAt}
+use lib.ListN.{getD, drop}
+use Rattle.ais_head.specs.Lead.{application, headOf, leads}
+use Rattle.ais_head.specs.declared.Asked.{Asked}
 use Rattle.bodies.specs.Bodies.{Kind, kindOf, typeOf, body, bodyKind, bodyLong, bodyValues, bodyOf}
 use Rattle.format.specs.Fmt.{Out, accepted, refused, Fmt, end, choice}
-use Rattle.format.specs.Message.{Layout, led, between, codeOf}
+use Rattle.format.specs.Message.{Layout, codeOf}
 use Rattle.format.specs.Promises.{answered}
 use Rattle.format.specs.Words.{_‥_, only, _▹_, num, code, fill}
 use Rattle.time.specs.Time.{time, spellTime, timeOf}
@@ -41,10 +41,13 @@ warning =
     ▹ code 6 3
     ▹ choice 4 (only 4 2 (1 ‥ 5)) (λ t. rest (kindOf t))  -- warning type, else 2
 
--- 23 bytes; another message, application or warning type is 2
+-- message 8, application 412/03, warning type 1 to 5; 23 bytes
+abbrev pub asked : Asked
+asked = record { message = 8; application = application 3; choices = 5; bytes = 23 }
+
 unfoldable pub warnings : Layout
 warnings = record {
-  lead = led 23 (λ s. eqb (fieldAt s 0 6) 8 && eqb (fieldAt s 40 10) 412 && eqb (fieldAt s 50 6) 3 && between 1 5 (fieldAt s 56 4)) (λ s. between 23 23 (length s));
+  lead = leads asked (headOf 40 56 4);
   kind = λ vs. 0;
   least = 23;
   most = 23;

@@ -7,6 +7,7 @@ ghost use Rattle.format.specs.Message.{fieldsOf};
 ghost use Rattle.warning_reading.specs.Promises.{Reads};
 ghost use Rattle.warning_reading.specs.Warning.{warning, warnings, recordOf, answerOf, numberOf};
 ghost use Rattle.warning_reading.specs.declared.Answer.the-variants.{Good, Refused};
+pub use ais_head::AUTHORITY;
 use number::choosing::choose;
 use number::choosing::none;
 
@@ -82,9 +83,10 @@ impl Warning {
 
 pub const MESSAGE: u64 = 8;
 
-pub const AUTHORITY: u64 = 412;
-
 pub const APPLICATION: u64 = 3;
+
+// Both as they stand, side by side.
+const APPLIED: u64 = AUTHORITY * 64 + APPLICATION;
 
 pub fn read(s: &[u8]) -> Answer
     ensures { λ r. ⌜ Reads (now (s .entry)) r ⌝ }
@@ -96,29 +98,18 @@ pub fn read(s: &[u8]) -> Answer
 pub fn lead(s: &[u8]) -> u8
     ensures { λ r. ⌜ r ≡ warnings .lead (now (s .entry)) ⌝ }
 {
-    if s.len() < Warning::LEAST {
-        return format::SIZE;
-    }
-    if bits::get(s, 0, 6) != MESSAGE {
-        return format::KIND;
-    }
-    if bits::get(s, 40, 10) != AUTHORITY {
-        return format::KIND;
-    }
-    if bits::get(s, 50, 6) != APPLICATION {
-        return format::KIND;
-    }
-    let kind = bits::get(s, 56, 4);
-    if kind < 1 {
-        return format::KIND;
-    }
-    if 5 < kind {
-        return format::KIND;
-    }
-    if s.len() > Warning::GREATEST {
-        return format::SIZE;
-    }
-    0
+    let head = ais_head::Head {
+        message: bits::get(s, 0, 6),
+        application: bits::get(s, 40, 16),
+        choice: bits::get(s, 56, 4),
+    };
+    let asked = ais_head::Asked {
+        message: MESSAGE,
+        application: APPLIED,
+        choices: 5,
+        bytes: Warning::LEAST,
+    };
+    ais_head::lead(s.len(), head, asked)
 }
 
 // The fields in bit order, behind the first tests' answer. Another size is refused at once: no field has then to be tested for it.

@@ -1,12 +1,12 @@
 -- An area's layout is sound: what its fields accept leaves nothing to the first tests. Assumes nothing.
 use mathlib.Core.Path.{_≡_, refl, sym, ap, _∙_, subst}
-use mathlib.Core.Bool.{true, _&&_, false≢true}
+use mathlib.Core.Bool.{true, false≢true}
 use mathlib.Core.List.{List, []}
 use Prim.Native.Nat.{ℕ, _+_}
 use native.Mathlib.Omega.{arith}
-use lib.Dec.{eqb}
+use lib.Dec.{lit≤}
 use lib.ListN.{length, getD, drop}
-use borrow.Author.Tests.{eq-eqb}
+use Rattle.ais_head.specs.laws.Sound.{leaves-size, sized as head-sized}
 use Rattle.bits.specs.Bits.{bitsOf, fieldAt}
 use Rattle.bits.specs.laws.Bytes.{length-bits}
 use Rattle.format.specs.Fmt.{accepted, read}
@@ -14,11 +14,10 @@ use Rattle.format.specs.Message.{Sound, between}
 use Rattle.format.specs.Words.{_‥_, only, wide, kept}
 use Rattle.format.specs.laws.Entries.{Long, entries, held-entries}
 use Rattle.format.specs.laws.Extent.{extent, extent-laid}
-use Rattle.format.specs.laws.First.{led-between}
 use Rattle.format.specs.laws.Held.{Held, held, passed, exactly}
 use Rattle.format.specs.laws.Places.{value-at, choice-at}
 use Rattle.format.specs.laws.Round.{read-write}
-use Rattle.area_reading.specs.Area.{tail, area, areas}
+use Rattle.area_reading.specs.Area.{asked, tail, area, areas}
 use Rattle.area_reading.specs.Shapes.{Kind, circle, rectangle, kindOf, shape}
 
 -- ---- accepted values
@@ -104,7 +103,7 @@ module _ (s vs : List ℕ) (e : read area [] 0 (bitsOf s) ≡ accepted vs) where
 pub sound : Sound areas
 unfolding areas
 sound = record {
-  sized = λ s vs e. rw (bytes s vs e, eq-eqb (fieldAt s 0 6) 6 (message-at s vs e), eq-eqb (fieldAt s 72 10) 412 (authority-at s vs e), eq-eqb (fieldAt s 82 6) 11 (application-at s vs e), shaped-at s vs e) refl;
+  sized = λ s vs e. leaves-size asked 72 92 2 s 11 (omega (arith, bytes s vs e)) (lit≤ tt) (message-at s vs e) (authority-at s vs e) (application-at s vs e) refl (shaped-at s vs e);
   kinds = λ b vs e. refl;
   stays = λ vs i v p w e. refl;
   some = λ e. absurd (false≢true e);
@@ -113,4 +112,4 @@ sound = record {
 -- what its first tests pass has 31 bytes
 pub sized : (s : List ℕ) → areas .lead s ≡ 0 → length s ≡ 31
 unfolding areas
-sized s e = let (a, b) = led-between 23 31 31 (λ s. eqb (fieldAt s 0 6) 6 && eqb (fieldAt s 72 10) 412 && eqb (fieldAt s 82 6) 11 && between 1 2 (fieldAt s 92 2)) s e in omega arith
+sized = head-sized asked 72 92 2

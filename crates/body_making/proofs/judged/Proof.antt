@@ -1,6 +1,4 @@
 -- `judged` goes by the body's variant.
-use mathlib.Core.Path.{sym, ap, _∙_}
-use Rattle.bodies.specs.Steps.{bodyJudged}
 use borrow.Author.Needs.{needs}
 use Rattle.body_making.proofs.judged.Statement.{statement}
 use Rattle.body_making.proofs.judged.Tie as tie
@@ -36,34 +34,19 @@ judged-surge-requires : tie.Need-judged-surge-requires
 judged-surge-requires c κs = search needs
 
 returns : tie.Need-returns
-returns c =
-    let m = c .before .before in
-    let a = m .before .before .args in
-    c .judged-cyclone .ensures ∙ ap (λ b. bodyJudged b (a .w)) (sym (m .body .given .1))
+returns c = rw (c .before .before .body .given .1) (c .judged-cyclone .ensures)
 
 returns-2 : tie.Need-returns-2
-returns-2 c =
-    let m = c .before .before in
-    let a = m .before .before .args in
-    c .judged-gale .ensures ∙ ap (λ b. bodyJudged b (a .w)) (sym (m .body2 .given .1))
+returns-2 c = rw (c .before .before .body2 .given .1) (c .judged-gale .ensures)
 
 returns-3 : tie.Need-returns-3
-returns-3 c =
-    let m = c .before .before in
-    let a = m .before .before .args in
-    c .judged-waves .ensures ∙ ap (λ b. bodyJudged b (a .w)) (sym (m .body3 .given .1))
+returns-3 c = rw (c .before .before .body3 .given .1) (c .judged-waves .ensures)
 
 returns-4 : tie.Need-returns-4
-returns-4 c =
-    let m = c .before .before in
-    let a = m .before .before .args in
-    c .judged-fog .ensures ∙ ap (λ b. bodyJudged b (a .w)) (sym (m .body4 .given .1))
+returns-4 c = rw (c .before .before .body4 .given .1) (c .judged-fog .ensures)
 
 returns-5 : tie.Need-returns-5
-returns-5 c =
-    let m = c .before .before in
-    let a = m .before .before .args in
-    c .judged-surge .ensures ∙ ap (λ b. bodyJudged b (a .w)) (sym (m .body5 .given .1))
+returns-5 c = rw (c .before .before .body5 .given .1) (c .judged-surge .ensures)
 
 pub judged-spec : {M : Type 1} → statement M
 judged-spec =

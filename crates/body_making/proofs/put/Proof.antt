@@ -1,6 +1,4 @@
 -- `put` goes by the body's variant.
-use mathlib.Core.Path.{sym, ap, _∙_}
-use Rattle.bodies.specs.Steps.{bodyPut}
 use borrow.Author.Needs.{needs}
 use Rattle.body_making.proofs.put.Statement.{statement}
 use Rattle.body_making.proofs.put.Tie as tie
@@ -39,51 +37,31 @@ same-length : tie.Need-same-length
 same-length c = search needs
 
 returns : tie.Need-returns
-returns c =
-    let p = c .before .before in
-    let m = p .before .before .before in
-    let a = m .before .before .before .args in
-    p .put-cyclone .ensures ∙ ap (λ b. bodyPut b (a .buf .now)) (sym (m .body .given .1))
+returns c = rw (c .before .before .before .before .before .body .given .1) (c .before .before .put-cyclone .ensures)
 
 same-length-2 : tie.Need-same-length-2
 same-length-2 c = search needs
 
 returns-2 : tie.Need-returns-2
-returns-2 c =
-    let p = c .before .before in
-    let m = p .before .before .before in
-    let a = m .before .before .before .args in
-    p .put-gale .ensures ∙ ap (λ b. bodyPut b (a .buf .now)) (sym (m .body2 .given .1))
+returns-2 c = rw (c .before .before .before .before .before .body2 .given .1) (c .before .before .put-gale .ensures)
 
 same-length-3 : tie.Need-same-length-3
 same-length-3 c = search needs
 
 returns-3 : tie.Need-returns-3
-returns-3 c =
-    let p = c .before .before in
-    let m = p .before .before .before in
-    let a = m .before .before .before .args in
-    p .put-waves .ensures ∙ ap (λ b. bodyPut b (a .buf .now)) (sym (m .body3 .given .1))
+returns-3 c = rw (c .before .before .before .before .before .body3 .given .1) (c .before .before .put-waves .ensures)
 
 same-length-4 : tie.Need-same-length-4
 same-length-4 c = search needs
 
 returns-4 : tie.Need-returns-4
-returns-4 c =
-    let p = c .before .before in
-    let m = p .before .before .before in
-    let a = m .before .before .before .args in
-    p .put-fog .ensures ∙ ap (λ b. bodyPut b (a .buf .now)) (sym (m .body4 .given .1))
+returns-4 c = rw (c .before .before .before .before .before .body4 .given .1) (c .before .before .put-fog .ensures)
 
 same-length-5 : tie.Need-same-length-5
 same-length-5 c = search needs
 
 returns-5 : tie.Need-returns-5
-returns-5 c =
-    let p = c .before .before in
-    let m = p .before .before .before in
-    let a = m .before .before .before .args in
-    p .put-surge .ensures ∙ ap (λ b. bodyPut b (a .buf .now)) (sym (m .body5 .given .1))
+returns-5 c = rw (c .before .before .before .before .before .body5 .given .1) (c .before .before .put-surge .ensures)
 
 pub put-spec : {M : Type 1} → statement M
 put-spec =

@@ -1,6 +1,4 @@
 -- `judged` goes by the shape's variant.
-use mathlib.Core.Path.{sym, ap, _∙_}
-use Rattle.area_reading.specs.Steps.{shapeJudged}
 use borrow.Author.Needs.{needs}
 use Rattle.shape_making.proofs.judged.Statement.{statement}
 use Rattle.shape_making.proofs.judged.Tie as tie
@@ -18,16 +16,10 @@ judged-rectangle-requires : tie.Need-judged-rectangle-requires
 judged-rectangle-requires c κs = search needs
 
 returns : tie.Need-returns
-returns c =
-    let m = c .before .before in
-    let st = m .before .before in
-    c .judged-circle .ensures ∙ ap (λ b. shapeJudged b (st .args .w)) (sym (m .shape .given .1))
+returns c = rw (c .before .before .shape .given .1) (c .judged-circle .ensures)
 
 returns-2 : tie.Need-returns-2
-returns-2 c =
-    let m = c .before .before in
-    let st = m .before .before in
-    c .judged-rectangle .ensures ∙ ap (λ b. shapeJudged b (st .args .w)) (sym (m .shape2 .given .1))
+returns-2 c = rw (c .before .before .shape2 .given .1) (c .judged-rectangle .ensures)
 
 pub judged-spec : {M : Type 1} → statement M
 judged-spec =

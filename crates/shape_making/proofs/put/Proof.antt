@@ -1,6 +1,4 @@
 -- `put` goes by the shape's variant.
-use mathlib.Core.Path.{sym, ap, _∙_}
-use Rattle.area_reading.specs.Steps.{shapePut}
 use borrow.Author.Needs.{needs}
 use Rattle.shape_making.proofs.put.Statement.{statement}
 use Rattle.shape_making.proofs.put.Tie as tie
@@ -21,21 +19,13 @@ same-length : tie.Need-same-length
 same-length c = search needs
 
 returns : tie.Need-returns
-returns c =
-    let p = c .before .before in
-    let m = p .before .before .before in
-    let st = m .before .before .before in
-    p .put-circle .ensures ∙ ap (λ b. shapePut b (st .args .buf .now)) (sym (m .shape .given .1))
+returns c = rw (c .before .before .before .before .before .shape .given .1) (c .before .before .put-circle .ensures)
 
 same-length-2 : tie.Need-same-length-2
 same-length-2 c = search needs
 
 returns-2 : tie.Need-returns-2
-returns-2 c =
-    let p = c .before .before in
-    let m = p .before .before .before in
-    let st = m .before .before .before in
-    p .put-rectangle .ensures ∙ ap (λ b. shapePut b (st .args .buf .now)) (sym (m .shape2 .given .1))
+returns-2 c = rw (c .before .before .before .before .before .shape2 .given .1) (c .before .before .put-rectangle .ensures)
 
 pub put-spec : {M : Type 1} → statement M
 put-spec =

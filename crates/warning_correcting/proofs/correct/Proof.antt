@@ -1,17 +1,14 @@
--- `correct` is the correction in place of every layout, with the warning's fields read before and behind the change and its table of numbers.
+-- `correct` is the correction in place of every family, with the warning's fields read before and behind the change and the table of its fields' numbers.
 use mathlib.Core.Path.{refl, ap, _∙_}
-use mathlib.Core.List.{[]}
-use Rattle.bits.specs.Bits.{bitsOf, fieldAt}
-use Rattle.format.specs.laws.Answers.{numbered, read-code}
-use Rattle.format.specs.Fmt.{also, read}
+use Rattle.bits.specs.Bits.{Bytes, fieldAt}
+use Rattle.format.specs.Fmt.{also}
+use Rattle.format.specs.laws.Corrections.{family-early, family-late, goes-on}
 use Rattle.format.specs.laws.Lead.{exact-fields}
-use Rattle.format.specs.laws.Corrections.{goes-on}
-use Rattle.format.specs.laws.Correcting.{correct-early, correct-late}
-use Rattle.warning_reading.specs.Changed.{fieldOf}
 use Rattle.warning_reading.specs.Warning.{warning, warnings, recordOf, answerOf, numberOf}
+use Rattle.warning_reading.specs.Changed.{fieldOf}
 use Rattle.warning_reading.specs.laws.Correction.{thin}
 use Rattle.warning_reading.specs.laws.Demands.{family, looked-stands}
-use Rattle.warning_reading.specs.laws.Sound.{sound, sized}
+use Rattle.warning_reading.specs.laws.Sound.{sized}
 use Rattle.warning_reading.specs.declared.Answer.the-variants.{Good, Refused}
 use borrow.Author.Needs.{needs}
 use Rattle.warning_correcting.proofs.correct.Statement.{statement}
@@ -47,9 +44,8 @@ same-length c = search needs
 returns : tie.Need-returns
 unfolding warnings
 returns c =
-    let test = c in
-    let g = test .before in
-    let number = g .before in
+    let admits = c .before in
+    let number = admits .before in
     let look = number .before in
     let get = look .before .before .before .before in
     let was = get .before .before in
@@ -57,9 +53,11 @@ returns c =
     let st = known .before in
     let a = st .args in
     let s = a .buf .now in
-    let reads = read-code Good Refused recordOf numberOf (λ r. refl) (λ c. refl) warnings s (was .read .ensures) (number .refusal .ensures) in
-    correct-early warnings sound (family .judged) s (fieldOf (fieldAt s 56 4) (a .field)) (a .value) _ _ reads (looked-stands s (get .get .ensures) (a .field) (look .look-up-of .ensures)) (thin _ (a .field) (look .look-up-of .ensures))
-    (g .admits .ensures) (c .if1 .taken)
+    let fine : Bytes s = λ i. known .slice-known .given i .fits in
+    family-early family Good Refused numberOf (λ r. refl) (λ c. refl) s (fieldOf (fieldAt s 56 4) (a .field)) (a .value) _ _
+    (was .read .ensures) (number .refusal .ensures)
+    (looked-stands s (a .field) fine (get .get .ensures) (look .look-up-of .ensures)) (thin (get .get .result) (a .field) (look .look-up-of .ensures))
+    (admits .admits .ensures) (c .if1 .taken)
 
 swap-requires : tie.Need-swap-requires
 swap-requires c κs = search needs
@@ -84,8 +82,8 @@ returns-2 c =
     let f = again .before .before in
     let swap = f .before .before .before .before in
     let test = swap .before .before in
-    let g = test .before in
-    let number = g .before in
+    let admits = test .before in
+    let number = admits .before in
     let look = number .before in
     let get = look .before .before .before .before in
     let was = get .before .before in
@@ -93,12 +91,13 @@ returns-2 c =
     let st = known .before in
     let a = st .args in
     let s = a .buf .now in
-    let reads = read-code Good Refused recordOf numberOf (λ r. refl) (λ c. refl) warnings s (was .read .ensures) (number .refusal .ensures) in
-    let long = sized s (goes-on warnings Good Refused recordOf numberOf (λ r. refl) (λ c. refl) s (was .read .ensures) (number .refusal .ensures) (look .look-up-of .result .width) (a .value) (g .admits .ensures) (test .if1 .left)) in
+    let long = sized s (goes-on warnings Good Refused recordOf numberOf (λ r. refl) (λ c. refl) s (was .read .ensures) (number .refusal .ensures) (look .look-up-of .result .width) (a .value) (admits .admits .ensures) (test .if1 .left)) in
     let sizes = exact-fields warning 23 0 (swap .swap .last .0) (λ z. swap .swap .kept .0 ∙ long) in
-    correct-late warnings sound (family .judged) s (fieldOf (fieldAt s 56 4) (a .field)) (a .value) _ _ reads (looked-stands s (get .get .ensures) (a .field) (look .look-up-of .ensures)) (thin _ (a .field) (look .look-up-of .ensures))
-    (λ i. known .slice-known .given i .fits) (g .admits .ensures) (test .if1 .left) (swap .swap .ensures)
-    (again .refusal2 .ensures ∙ ap numberOf (f .fields .ensures ∙ ap (λ o. answerOf (also recordOf o)) sizes) ∙ numbered Good Refused recordOf numberOf (λ r. refl) (λ c. refl) (read warning [] 0 (bitsOf (swap .swap .last .0)))) (settle .settle .ensures) refl
+    let fine : Bytes s = λ i. known .slice-known .given i .fits in
+    family-late family Good Refused numberOf (λ r. refl) (λ c. refl) s (fieldOf (fieldAt s 56 4) (a .field)) (a .value) _ _
+    (was .read .ensures) (number .refusal .ensures)
+    (looked-stands s (a .field) fine (get .get .ensures) (look .look-up-of .ensures)) (thin (get .get .result) (a .field) (look .look-up-of .ensures))
+    fine (admits .admits .ensures) (test .if1 .left) (swap .swap .ensures) (f .fields .ensures ∙ ap (λ o. answerOf (also recordOf o)) sizes) (again .refusal2 .ensures) (settle .settle .ensures) refl
 
 pub correct-spec : {M : Type 1} → statement M
 correct-spec =

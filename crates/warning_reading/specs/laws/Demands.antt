@@ -21,7 +21,7 @@ use Rattle.format.specs.Promises.{readRecord, Writes, Corrects}
 use Rattle.format.specs.Words.{_‥_, wide, num, fill}
 use Rattle.format.specs.laws.Answers.{good-read}
 use Rattle.format.specs.laws.Entries.{entries, entries-behind}
-use Rattle.format.specs.laws.Family.{Family, record-values, one-size, written-front, read-written, corrected-as-written, correction-none}
+use Rattle.format.specs.laws.Family.{Family, read-values, one-size, written-front, read-written, corrected-as-written, correction-none}
 use Rattle.format.specs.laws.Held.{Held, exactly, ranged}
 use Rattle.format.specs.laws.Whole.{was}
 use Rattle.format.specs.laws.Zero.{Judged, Counted, only-numbered}
@@ -200,18 +200,15 @@ family = record {
   changes = λ r i v p w k e n. (changed-values r i v p w (sym (spotted r i) ∙ e) n, tt);
 }
 
--- in an accepted warning, of type k as it was got, the field of number n stands where the table says
-module _ (s : List ℕ) {k : ℕ} (is : k ≡ got s 56 4) (n : ℕ) {p w : ℕ} (looked-up : (p ≡ getD places n 0) × (w ≡ ofKind k (getD kinds n 0) (getD widths n 0))) where
-  pub looked-stands : (vs : List ℕ) → readMessage warnings s ≡ accepted vs → spot (warnings .fmt) [] vs (fieldOf (fieldAt s 56 4) n) ≡ standing p w
-  unfolding warnings valuesAs
-  looked-stands vs e =
-      let walked = was warnings s vs e .walked in
-      let r = recordOf vs in
-      let values = record-values family s vs e in
-      let type : typeOf (bodyKind (r .body)) ≡ getD vs 6 0 = ap (λ l. getD l 6 0) values in
-      let got-is = is ∙ got-fits s 56 4 (lit≤ tt) (omega (arith, bytes s vs walked)) ∙ type-at s vs walked in
-      let kind : kindOf (fieldAt s 56 4) ≡ bodyKind (r .body) = ap kindOf (type-at s vs walked ∙ sym type) ∙ kind-type (bodyKind (r .body)) in
-      ap (λ vs. spot (warnings .fmt) [] vs (fieldOf (fieldAt s 56 4) n)) (sym values) ∙ ap (λ t. spot (warnings .fmt) [] (valuesOf r) (getD (fields t) n 0)) kind ∙ stands k n looked-up r (got-is ∙ sym type)
+-- the field of number n, looked up by the type k that the code found there, stands where the table says
+pub looked-stands : (s : List ℕ) (n : ℕ) {k p w : ℕ} → Bytes s → k ≡ got s 56 4 → (p ≡ getD places n 0) × (w ≡ ofKind k (getD kinds n 0) (getD widths n 0))
+    → (r : Warning) → readRecord warnings recordOf s ≡ accepted r → spot (warnings .fmt) [] (valuesOf r) (fieldOf (fieldAt s 56 4) n) ≡ standing p w
+unfolding warnings valuesAs
+looked-stands s n {k} fine is l r e =
+    let m = was warnings s (valuesOf r) (read-values family s r fine e .0) .walked in
+    let type = type-at s (valuesOf r) m in
+    let found-so = is ∙ got-fits s 56 4 (lit≤ tt) (omega (arith, bytes s (valuesOf r) m)) ∙ type in
+    ap (λ t. spot (warnings .fmt) [] (valuesOf r) (fieldOf t n)) type ∙ ap (λ t. spot (warnings .fmt) [] (valuesOf r) (getD (fields t) n 0)) (kind-type (bodyKind (r .body))) ∙ stands k n l r found-so
 
 -- ---- said of the warning's promises
 

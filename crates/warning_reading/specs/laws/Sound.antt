@@ -1,12 +1,12 @@
 -- A warning's layout is sound: what its fields accept leaves nothing to the first tests. Assumes nothing.
 use mathlib.Core.Path.{_≡_, refl, sym, ap, _∙_}
-use mathlib.Core.Bool.{true, _&&_, false≢true}
+use mathlib.Core.Bool.{true, false≢true}
 use mathlib.Core.List.{List, [], _∷_}
 use Prim.Native.Nat.{ℕ}
 use native.Mathlib.Omega.{arith}
-use lib.Dec.{eqb}
+use lib.Dec.{lit≤}
 use lib.ListN.{length, getD, drop}
-use borrow.Author.Tests.{eq-eqb}
+use Rattle.ais_head.specs.laws.Sound.{leaves-size, sized as head-sized}
 use Rattle.bits.specs.Bits.{bitsOf, fieldAt}
 use Rattle.bits.specs.laws.Bytes.{length-bits}
 use Rattle.bodies.specs.Bodies.{Kind, cyclone, gale, waves, fog, surge, kindOf, body}
@@ -15,10 +15,9 @@ use Rattle.format.specs.Message.{Sound, between}
 use Rattle.format.specs.Words.{_‥_, only, wide, kept}
 use Rattle.format.specs.laws.Extent.{extent, extent-laid}
 use Rattle.format.specs.laws.Held.{Held, held, passed, exactly}
-use Rattle.format.specs.laws.First.{led-between}
 use Rattle.format.specs.laws.Places.{value-at, choice-at}
 use Rattle.format.specs.laws.Round.{read-write}
-use Rattle.warning_reading.specs.Warning.{tail, rest, warning, warnings}
+use Rattle.warning_reading.specs.Warning.{asked, tail, rest, warning, warnings}
 
 -- ---- what accepted values begin with
 
@@ -124,7 +123,7 @@ module _ (s vs : List ℕ) (e : read warning [] 0 (bitsOf s) ≡ accepted vs) wh
 pub sound : Sound warnings
 unfolding warnings
 sound = record {
-  sized = λ s vs e. rw (bytes s vs e, eq-eqb (fieldAt s 0 6) 8 (message-at s vs e), eq-eqb (fieldAt s 40 10) 412 (authority-at s vs e), eq-eqb (fieldAt s 50 6) 3 (application-at s vs e), typed-at s vs e) refl;
+  sized = λ s vs e. leaves-size asked 40 56 4 s 3 (omega (arith, bytes s vs e)) (lit≤ tt) (message-at s vs e) (authority-at s vs e) (application-at s vs e) refl (typed-at s vs e);
   kinds = λ b vs e. refl;
   stays = λ vs i v p w e. refl;
   some = λ e. absurd (false≢true e);
@@ -133,4 +132,4 @@ sound = record {
 -- what its first tests pass has 23 bytes
 pub sized : (s : List ℕ) → warnings .lead s ≡ 0 → length s ≡ 23
 unfolding warnings
-sized s e = let (a, b) = led-between 23 23 23 (λ s. eqb (fieldAt s 0 6) 8 && eqb (fieldAt s 40 10) 412 && eqb (fieldAt s 50 6) 3 && between 1 5 (fieldAt s 56 4)) s e in omega arith
+sized = head-sized asked 40 56 4

@@ -1,7 +1,8 @@
 -- `put` puts the values in bit order: one step a field, and one law for the body.
-use mathlib.Core.Path.{refl, ap, _∙_}
+use mathlib.Core.Path.{_≡_, refl, ap, _∙_}
 use native.Mathlib.Omega.{arith}
 use lib.Dec.{lit≤}
+use lib.ListN.{length}
 use Rattle.bits.specs.Bits.{Bytes}
 use Rattle.bodies.specs.Bodies.{bodyKind}
 use Rattle.bodies.specs.laws.Walking.{type-small, body-put}
@@ -78,22 +79,12 @@ put-requires-12 c κs = search needs
 put-requires-13 : tie.Need-put-requires-13
 put-requires-13 c κs = search needs
 
+-- the first 7 puts leave as many bytes
+half : (p : tie.After-put7) → length (p .put7 .last .0) ≡ length (p .before .before .before .before .before .before .before .before .before .before .before .before .before .before .before .before .before .before .before .before .before .before .before .before .before .before .before .before .before .before .args .buf .now)
+half p = omega arith
+
 same-length : tie.Need-same-length
-same-length c =
-    let p13 = c .before .before in
-    let p12 = p13 .before .before .before .before in
-    let p11 = p12 .before .before .before .before .before in
-    let p10 = p11 .before .before .before .before in
-    let p9 = p10 .before .before .before .before in
-    let p8 = p9 .before .before .before .before .before in
-    let p7 = p8 .before .before .before .before .before in
-    let p6 = p7 .before .before .before .before in
-    let p5 = p6 .before .before .before .before in
-    let p4 = p5 .before .before .before .before in
-    let p3 = p4 .before .before .before .before in
-    let p2 = p3 .before .before .before .before .before in
-    let p1 = p2 .before .before .before .before .before in
-    p13 .put13 .kept .0 ∙ p12 .put12 .kept .0 ∙ p11 .put11 .kept .0 ∙ p10 .put10 .kept .0 ∙ p9 .put9 .kept .0 ∙ p8 .put8 .kept .0 ∙ p7 .put7 .kept .0 ∙ p6 .put6 .kept .0 ∙ p5 .put5 .kept .0 ∙ p4 .put4 .kept .0 ∙ p3 .put3 .kept .0 ∙ p2 .put2 .kept .0 ∙ p1 .put .kept .0
+same-length c = let h = half (c .before .before .before .before .before .before .before .before .before .before .before .before .before .before .before .before .before .before .before .before .before .before .before .before .before .before .before .before .before) in omega arith
 
 returns : tie.Need-returns
 unfolding warning valuesAs wide

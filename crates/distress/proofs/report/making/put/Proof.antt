@@ -1,6 +1,8 @@
 -- `put` puts the values in bit order: each step is a law of putting.
-use mathlib.Core.Path.{refl, _∙_}
+use mathlib.Core.Path.{_≡_, refl}
+use native.Mathlib.Omega.{arith}
 use lib.Dec.{lit≤}
+use lib.ListN.{length}
 use Rattle.bits.specs.Bits.{Bytes}
 use Rattle.format.specs.laws.Putting.{put-start, put-step, put-end}
 use Rattle.distress_reading.specs.Report.{report}
@@ -42,20 +44,12 @@ put-requires-10 c κs = search needs
 put-requires-11 : tie.Need-put-requires-11
 put-requires-11 c κs = search needs
 
+-- the first 6 puts leave as many bytes
+half : (p : tie.After-put6) → length (p .put6 .last .0) ≡ length (p .before .before .before .before .before .before .before .before .before .before .before .before .before .before .before .before .before .before .before .before .before .before .before .args .buf .now)
+half p = omega arith
+
 same-length : tie.Need-same-length
-same-length c =
-    let p11 = c .before .before in
-    let p10 = p11 .before .before .before .before in
-    let p9 = p10 .before .before .before .before in
-    let p8 = p9 .before .before .before .before in
-    let p7 = p8 .before .before .before .before in
-    let p6 = p7 .before .before .before .before in
-    let p5 = p6 .before .before .before .before in
-    let p4 = p5 .before .before .before .before in
-    let p3 = p4 .before .before .before .before in
-    let p2 = p3 .before .before .before .before in
-    let p1 = p2 .before .before .before .before in
-    p11 .put11 .kept .0 ∙ p10 .put10 .kept .0 ∙ p9 .put9 .kept .0 ∙ p8 .put8 .kept .0 ∙ p7 .put7 .kept .0 ∙ p6 .put6 .kept .0 ∙ p5 .put5 .kept .0 ∙ p4 .put4 .kept .0 ∙ p3 .put3 .kept .0 ∙ p2 .put2 .kept .0 ∙ p1 .put .kept .0
+same-length c = let h = half (c .before .before .before .before .before .before .before .before .before .before .before .before .before .before .before .before .before .before .before .before .before .before) in omega arith
 
 returns : tie.Need-returns
 unfolding report listOf
