@@ -3,7 +3,6 @@ use Prim.Native.Nat.{ℕ}
 use mathlib.Core.List.{List, [], _∷_}
 use lib.IntN.{ℤ, pos}
 use Rattle.area_reading.specs.Area.{areas, recordOf as read-as}
-pub use Rattle.area_reading.specs.Area.{outOf}
 use Rattle.area_reading.specs.Shapes.{typeOf, shapeKind}
 use Rattle.area_reading.specs.declared.Area.{Area}
 use Rattle.area_reading.specs.declared.shapes.Shape.{Shape}

@@ -9,7 +9,6 @@ use Rattle.format.specs.Fmt.{Out, orBad, check, also}
 use Rattle.format.specs.Message.{codeOf, leaves, into, writeMessage}
 use Rattle.format.specs.Promises.{readRecord}
 use Rattle.txhz_reading.specs.Txhz.{txhzs, valuesOf, recordOf as framed}
-pub use Rattle.txhz_reading.specs.Txhz.{outOf}
 use Rattle.txhz_reading.specs.declared.Receipt.{Receipt}
 use Rattle.txhz_reading.specs.declared.Txhz.{Txhz}
 

@@ -8,7 +8,6 @@ use Rattle.bodies.specs.declared.Body.the-variants.{Cyclone, Gale, Waves, Fog, 
 use Rattle.format.specs.Fmt.{Out, also}
 use Rattle.format.specs.Promises.{readRecord}
 use Rattle.warning_reading.specs.Warning.{warnings, recordOf as read-as}
-pub use Rattle.warning_reading.specs.Warning.{outOf}
 use Rattle.warning_reading.specs.declared.Warning.{Warning}
 use Rattle.warning_rows.specs.declared.Seven.{Seven}
 

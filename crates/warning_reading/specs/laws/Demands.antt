@@ -16,7 +16,7 @@ use Rattle.bodies.specs.declared.Body.the-variants.{Cyclone, Gale, Waves, Fog, 
 use Rattle.bodies.specs.laws.Walking.{body-numbered}
 use Rattle.format.specs.Correcting.{standing, ofKind}
 use Rattle.format.specs.Fmt.{accepted, end, found, spot}
-use Rattle.format.specs.Message.{codeOf, leaves, readMessage}
+use Rattle.format.specs.Message.{codeOf, leaves}
 use Rattle.format.specs.Promises.{readRecord, Writes, Corrects}
 use Rattle.format.specs.Words.{_‥_, wide, num, fill}
 use Rattle.format.specs.laws.Answers.{good-read}

@@ -1,5 +1,5 @@
 -- `spelled` tests each part, then joins them.
-use mathlib.Core.Path.{_≡_, refl}
+use mathlib.Core.Path.{refl}
 use native.Mathlib.Omega.{arith}
 use borrow.Author.Tests.{lt-ltb, le-ltb}
 use Rattle.time.specs.Time.{spellShort}
