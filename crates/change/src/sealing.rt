@@ -14,7 +14,7 @@ pub fn inner(s: &[u8]) -> &[u8]
 }
 
 // The answer of the first tests, or 3 where the seal is another.
-pub fn stamped(s: &[u8], code: u8) -> u8
+pub fn tested(s: &[u8], code: u8) -> u8
     ensures { λ r. ⌜ r ≡ firstOf (sealFault true (now (s .entry))) code ⌝ }
 {
     if code != 0 {

@@ -4,7 +4,8 @@ use mathlib.Core.Bool.{Bool, true, false, cond, _||_}
 use mathlib.Core.List.{List, [], _∷_, _++_}
 use Prim.Native.Nat.{ℕ, zero, suc, _≤_, _<_}
 use lib.Dec.{leb, eqb}
-use lib.ListN.{length, drop, replicate}
+use lib.ListN.{length, replicate}
+use Rattle.format.specs.Message.{ahead}
 use Rattle.format.specs.Promises.{answered, readRecord}
 use Rattle.packet_reading.specs.Packet.{packets, recordOf}
 use Rattle.packet_reading.specs.declared.Packet.{Packet}
@@ -137,5 +138,5 @@ due (x ∷ xs) b w =
     let ns = notCome (x .0 .total) (x ∷ xs) in
     let c = inOrder (x .0 .total) (x ∷ xs) in
     cond (eqb (length ns) 0)
-    (cond (leb (length c) (length b)) (record { reply = Joined (length c) (x .0 .language); notice = c ++ drop (length c) b; missing = w }) (refusal b w 6))
-    (cond (leb (length ns) (length w)) (record { reply = Missing (length ns); notice = b; missing = ns ++ drop (length ns) w }) (refusal b w 6))
+    (cond (leb (length c) (length b)) (record { reply = Joined (length c) (x .0 .language); notice = ahead c b; missing = w }) (refusal b w 6))
+    (cond (leb (length ns) (length w)) (record { reply = Missing (length ns); notice = b; missing = ahead ns w }) (refusal b w 6))

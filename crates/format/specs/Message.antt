@@ -101,9 +101,13 @@ refuses {s} e = (ap codeOf (sym e), ap (λ o. leaves o s) (sym e))
 pub accepts : {A : Type 0} (s : A) {t : A} {o : Out A} → o ≡ accepted t → (0 ≡ codeOf o) × (t ≡ leaves o s)
 accepts s e = (ap codeOf (sym e), ap (λ o. leaves o s) (sym e))
 
--- an answer at the front of a lent buffer or row that has room (6, tested last); what stands past it stays
+-- t at the front of a lent buffer or row s; what stands past it stays
+abbrev pub ahead : {A : Type 0} → List A → List A → List A
+ahead t s = t ++ drop (length t) s
+
+-- an answer at the front of one that has room (6, tested last)
 abbrev pub into : {A : Type 0} → List A → Out (List A) → Out (List A)
-into s o = after o (λ t. check (orBad (leb (length t) (length s)) 6) 0 (accepted (t ++ drop (length t) s)))
+into s o = after o (λ t. check (orBad (leb (length t) (length s)) 6) 0 (accepted (ahead t s)))
 
 -- ---- what a layout owes
 

@@ -27,7 +27,7 @@ pub const MINUTE: u64 = 59;
 pub fn first(s: &[u8], letters: u64, least: usize, most: usize) -> u8
     ensures { λ r. ⌜ r ≡ firstOf (sealFault true (now (s .entry))) (leads letters least most (now (s .entry))) ⌝ }
 {
-    change::sealing::stamped(s, lead(s, letters, least, most))
+    change::sealing::tested(s, lead(s, letters, least, most))
 }
 
 fn lead(s: &[u8], letters: u64, least: usize, most: usize) -> u8

@@ -1,11 +1,12 @@
 -- A text in a lent buffer: at a place of it, or at its front. Assumes nothing.
 use mathlib.Core.Path.{_≡_}
 use mathlib.Core.Bool.{cond}
-use mathlib.Core.List.{List, [], _++_}
+use mathlib.Core.List.{List, []}
 use Prim.Native.Nat.{ℕ, _+_}
 use lib.Dec.{leb}
-use lib.ListN.{length, drop}
+use lib.ListN.{length}
 use lib.Seq.{sets}
+use Rattle.format.specs.Message.{ahead}
 
 -- the text t where n bytes have room at place `at` of `out`, and else none
 abbrev pub placed : ℕ → List ℕ → ℕ → List ℕ → List ℕ
@@ -16,11 +17,7 @@ pub record Stores (out : List ℕ) (at : ℕ) (t : List ℕ) (end : ℕ) (left :
   pub ends : end ≡ at + length t
   pub leaves : left ≡ sets out at t
 
--- the text t at the front of a lent buffer; the bytes past it stay
-abbrev pub into : List ℕ → List ℕ → List ℕ
-into out t = t ++ drop (length t) out
-
--- the call that writes t into `out`: it answers how many bytes t has
+-- the call that writes t to the front of `out`: it answers how many bytes t has
 pub record Made (out t : List ℕ) (made : ℕ) (left : List ℕ) : Type 0 where
   pub count : made ≡ length t
-  pub leaves : left ≡ into out t
+  pub leaves : left ≡ ahead t out

@@ -1,11 +1,12 @@
 -- What reading a notice promises of the bytes s, the row and the buffer that it is lent; writing and correcting promise what every layout's do (format/specs/Promises). Assumes nothing.
 use mathlib.Core.Path.{_≡_}
 use mathlib.Core.Bool.{Bool, _&&_}
-use mathlib.Core.List.{List, _++_}
+use mathlib.Core.List.{List}
 use Prim.Native.Nat.{ℕ}
 use lib.Dec.{leb}
-use lib.ListN.{length, drop}
+use lib.ListN.{length}
 use Rattle.format.specs.Fmt.{Out, accepted, check, orBad, after}
+use Rattle.format.specs.Message.{ahead}
 use Rattle.format.specs.Promises.{answered, readRecord}
 use Rattle.notice_reading.specs.Notice.{notices}
 use Rattle.notice_reading.specs.Record.{Whole, recordOf}
@@ -16,10 +17,6 @@ use Rattle.notice_reading.specs.declared.Answer.the-variants.{Good, Refu
 -- a record that a row of `areas` and a buffer of `text` entries have room for (6, tested last)
 abbrev pub housed : (areas text : ℕ) → Out Whole → Out Whole
 housed areas text o = after o (λ x. check (orBad (leb (length (x .1 .0)) areas && leb (length (x .1 .1)) text) 6) 0 (accepted x))
-
--- in front of what stood there
-abbrev pub ahead : List ℕ → List ℕ → List ℕ
-ahead xs l = xs ++ drop (length xs) l
 
 -- what an answer tells of it: the record, and how many numbers its areas and bytes its text have
 abbrev pub toldOf : Whole → Told

@@ -6,12 +6,12 @@ use lib.Dec.{leb}
 use lib.IntN.{ℤ, pos}
 use lib.ListN.{length, drop}
 use Rattle.format.specs.Fmt.{Out, accepted, orBad, check, after}
-use Rattle.format.specs.Message.{codeOf}
+use Rattle.format.specs.Message.{codeOf, ahead}
 use Rattle.format.specs.Promises.{readRecord, answered}
 use Rattle.rows.specs.Language.{spoken}
 use Rattle.notice_reading.specs.Notice.{notices}
 use Rattle.notice_reading.specs.Record.{Whole, recordOf as wholeOf}
-use Rattle.notice_reading.specs.Promises.{housed, ahead, toldOf}
+use Rattle.notice_reading.specs.Promises.{housed, toldOf}
 use Rattle.notice_reading.specs.declared.Notice.{Notice}
 use Rattle.notice_reading.specs.declared.Told.{Told}
 

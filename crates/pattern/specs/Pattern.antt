@@ -7,7 +7,7 @@ use lib.Dec.{leb, eqb}
 use lib.ListN.{length, take, drop, getD}
 use Rattle.bits.specs.Xor.{xorOf}
 use Rattle.format.specs.Fmt.{Out, accepted, refused, orBad, check}
-use Rattle.format.specs.Message.{fault, between}
+use Rattle.format.specs.Message.{fault, between, ahead}
 use Rattle.spelling.specs.Spelling.{allDigits, decimal, spelt, hexOf, unhexed, closingOf}
 use Rattle.pattern.specs.declared.Around.{Around}
 use Rattle.pattern.specs.declared.Around.the-variants.{Accepted as Accepts, Refused as Refuses}
@@ -94,8 +94,8 @@ refusalOf (Refuses c) = c
 
 -- w at the front of a lent buffer that then holds t, and past it what s had there
 abbrev pub Front : List ℕ → List ℕ → List ℕ → Type 0
-Front w s t = t ≡ w ++ drop (length w) s
+Front w s t = t ≡ ahead w s
 
 -- the call that lays w over the front of a lent buffer s: where there is room, which r says; else every byte stays
 abbrev pub Laid : List ℕ → List ℕ → Bool → List ℕ → Type 0
-Laid w s r t = (r ≡ leb (length w) (length s)) × (t ≡ cond r (w ++ drop (length w) s) s)
+Laid w s r t = (r ≡ leb (length w) (length s)) × (t ≡ cond r (ahead w s) s)

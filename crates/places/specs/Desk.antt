@@ -4,6 +4,7 @@ use mathlib.Core.Bool.{Bool, true, false, not, cond, _&&_, _||_}
 use mathlib.Core.List.{List, [], _∷_, _++_}
 use lib.Dec.{leb, ltb, eqb}
 use lib.ListN.{length, take, drop, set}
+use Rattle.format.specs.Message.{ahead}
 use Rattle.format.specs.Promises.{answered, readRecord}
 use Rattle.packet_reading.specs.Packet.{partBytes, joined, packets, recordOf}
 use Rattle.packet_reading.specs.declared.Packet.{Packet}
@@ -134,13 +135,13 @@ notAnswered b w code = record { reply = Refused code; change = stays; notice = b
 -- the missing numbers ns in front of the row
 abbrev pub lists : List ℕ → List ℕ → List ℕ → Asking
 lists ns b w =
-    cond (leb (length ns) (length w)) (record { reply = Missing (length ns); change = stays; notice = b; missing = ns ++ drop (length ns) w })
+    cond (leb (length ns) (length w)) (record { reply = Missing (length ns); change = stays; notice = b; missing = ahead ns w })
     (notAnswered b w 6)
 
 -- the joined bytes c in front of the buffer, and place i, which is p, is free
 abbrev pub handsOut : List ℕ → ℕ → Place → List ℕ → List ℕ → Asking
 handsOut c i p b w =
-    cond (leb (length c) (length b)) (record { reply = Joined (length c) (p .language); change = turns i (freed p); notice = c ++ drop (length c) b; missing = w })
+    cond (leb (length c) (length b)) (record { reply = Joined (length c) (p .language); change = turns i (freed p); notice = ahead c b; missing = w })
     (notAnswered b w 6)
 
 unfoldable pub answers : List ℕ → ℕ → Place → List ℕ → List ℕ → Asking

@@ -1,11 +1,11 @@
 -- The distress sentence (paper 01, "Distress report", second paragraph): the report within the pattern. Assumes nothing.
 use Prim.Native.Nat.{ℕ}
 use mathlib.Core.Path.{_≡_}
-use mathlib.Core.List.{List, _++_}
+use mathlib.Core.List.{List}
 use lib.Dec.{leb}
-use lib.ListN.{length, drop}
+use lib.ListN.{length}
 use Rattle.format.specs.Fmt.{Out, accepted, refused, orBad, check, also, after}
-use Rattle.format.specs.Message.{writeMessage}
+use Rattle.format.specs.Message.{writeMessage, ahead}
 use Rattle.format.specs.Promises.{answered, readRecord}
 use Rattle.distress_reading.specs.Report.{reports, valuesOf, reportOf}
 use Rattle.distress_reading.specs.declared.report.Report.{Report}
@@ -43,7 +43,7 @@ sentOf = answered (λ t. Bytes (length t)) Unsent
 
 -- the sentence at the buffer's front, and the bytes past it as they were
 abbrev pub laidOver : Out (List ℕ) → List ℕ → List ℕ
-laidOver (accepted t) s = t ++ drop (length t) s
+laidOver (accepted t) s = ahead t s
 laidOver (refused c p) s = s
 
 abbrev pub Hears : List ℕ → Heard → Type 0

@@ -1,4 +1,4 @@
--- What the answers say, for callers: each test as an inequality, both ways. Assumes nothing.
+-- What the answers say, for callers: `within` as an inequality, both ways; what getting and putting answer where all fits. Assumes nothing.
 use mathlib.Core.Bool.{Bool, true, cond, and-eq-true-iff}
 use mathlib.Core.List.{List}
 use mathlib.Core.Path.{_≡_, _∙_}

@@ -8,7 +8,7 @@ use borrow.Author.Tests.{le-leb}
 use lib.ListN.{length, take, drop, length-append}
 use Rattle.bits.specs.Bits.{Bytes}
 use Rattle.format.specs.Fmt.{Out, accepted, found, spot}
-use Rattle.format.specs.Message.{codeOf, leaves, into, readMessage, writeMessage}
+use Rattle.format.specs.Message.{codeOf, leaves, into, readMessage, writeMessage, ahead}
 use Rattle.format.specs.Promises.{readRecord, Writes, Corrects}
 use Rattle.format.specs.laws.Family.{read-values, written-read}
 use Rattle.format.specs.laws.Round.{clash}
@@ -16,7 +16,7 @@ use Rattle.notice_areas.specs.Row.{areasLong, areasTold}
 use Rattle.notice_areas.specs.laws.Row.{exact-told, exact-more}
 use Rattle.notice_reading.specs.Changed.{changed}
 use Rattle.notice_reading.specs.Notice.{notice, notices}
-use Rattle.notice_reading.specs.Promises.{ahead, toldOf, Reads}
+use Rattle.notice_reading.specs.Promises.{toldOf, Reads}
 use Rattle.notice_reading.specs.Record.{Whole, valuesOf, recordOf}
 use Rattle.notice_reading.specs.declared.Answer.the-variants.{Good}
 use Rattle.notice_reading.specs.declared.Notice.{Notice}

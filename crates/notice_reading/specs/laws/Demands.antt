@@ -11,7 +11,7 @@ use Rattle.bits.specs.Bits.{Bytes, digits, putAt, fieldAt}
 use Rattle.bits.specs.laws.Bytes.{length-bytes, bytes-below}
 use Rattle.bits.specs.laws.Fields.{length-put, field-put-before, field-put-after}
 use Rattle.format.specs.Fmt.{Out, accepted, refused, check, orBad, none, found, spot}
-use Rattle.format.specs.Message.{codeOf, leaves, readMessage}
+use Rattle.format.specs.Message.{codeOf, leaves, readMessage, ahead}
 use Rattle.format.specs.Promises.{answered, readRecord, Writes, Corrects}
 use Rattle.format.specs.laws.Family.{Family, written-read, read-written, record-values, accepted-correction, correction-none, corrected-as-written}
 use Rattle.format.specs.laws.Held.{Held, held}
@@ -24,7 +24,7 @@ use Rattle.notice_areas.specs.Row.{areasLong, areasTold}
 use Rattle.notice_areas.specs.laws.Row.{told-again, told-exact, exact-told}
 use Rattle.notice_reading.specs.Changed.{changed}
 use Rattle.notice_reading.specs.Notice.{notice, notices}
-use Rattle.notice_reading.specs.Promises.{housed, ahead, toldOf, answerOf, Reads}
+use Rattle.notice_reading.specs.Promises.{housed, toldOf, answerOf, Reads}
 use Rattle.notice_reading.specs.Record.{Whole, headed, texted, valuesOf, headOf, textOf, recordOf}
 use Rattle.notice_reading.specs.declared.Answer.{Answer}
 use Rattle.notice_reading.specs.declared.Answer.the-variants.{Good, Refused}

@@ -11,7 +11,7 @@ use native.Mathlib.Nat.{zero-add}
 use borrow.Author.Tests.{le-leb, lt-leb, leb-true, eqb-true, eqb-false}
 use Rattle.bits.specs.Bits.{Bytes, valueOf, bitsOf}
 use Rattle.format.specs.Fmt.{accepted, refused, check, also, spot}
-use Rattle.format.specs.Message.{between, fault, codeOf, readMessage}
+use Rattle.format.specs.Message.{between, fault, codeOf, readMessage, ahead}
 use Rattle.format.specs.Promises.{readRecord}
 use Rattle.bits.specs.Bits.{bytesAt}
 use Rattle.bits.specs.Answers.{gettable}
@@ -33,7 +33,7 @@ use Rattle.notice_reading.specs.Steps.{fieldsRead, openingOf, endingOf, 
 use Rattle.notice_reading.specs.laws.Opening.{opened}
 use Rattle.notice_reading.specs.laws.Closing.{closed}
 use Rattle.notice_reading.specs.declared.Course.{Course}
-use Rattle.notice_reading.specs.Promises.{ahead, toldOf, Reads}
+use Rattle.notice_reading.specs.Promises.{toldOf, Reads}
 use Rattle.notice_reading.specs.Record.{Whole, headed, texted, headOf, textOf, recordOf}
 use Rattle.notice_reading.specs.declared.Notice.{Notice}
 use Rattle.notice_reading.specs.declared.Answer.the-variants.{Good, Refused}

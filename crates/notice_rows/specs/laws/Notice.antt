@@ -9,14 +9,14 @@ use lib.IntN.{ℤ}
 use lib.ListN.{length, drop}
 use borrow.Author.Tests.{le-leb, lt-leb, leb-true}
 use Rattle.format.specs.Fmt.{Out, accepted, refused, orBad, check, also}
-use Rattle.format.specs.Message.{codeOf, readMessage}
+use Rattle.format.specs.Message.{codeOf, readMessage, ahead}
 use Rattle.format.specs.Promises.{readRecord, answered}
 use Rattle.format.specs.laws.Zero.{read-zero-message}
 use Rattle.rows.specs.Row.{Fills}
 use Rattle.rows.specs.laws.Row.{row-full, one-filling}
 use Rattle.notice_reading.specs.Notice.{notices}
 use Rattle.notice_reading.specs.Record.{Whole, recordOf as wholeOf}
-use Rattle.notice_reading.specs.Promises.{housed, ahead, toldOf, answerOf, Reads}
+use Rattle.notice_reading.specs.Promises.{housed, toldOf, answerOf, Reads}
 use Rattle.notice_reading.specs.laws.Sound.{judged}
 use Rattle.notice_reading.specs.declared.Told.{Told}
 use Rattle.notice_reading.specs.declared.Answer.the-variants.{Good, Refused}

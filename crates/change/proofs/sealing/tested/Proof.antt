@@ -1,4 +1,4 @@
--- `stamped` goes by the tests: an earlier refusal, no bytes, the sum.
+-- `tested` goes by the tests: an earlier refusal, no bytes, the sum.
 use mathlib.Core.Bool.{true}
 use Rattle.format.specs.Message.{sealFault}
 use native.Mathlib.Omega.{arith}
@@ -9,8 +9,8 @@ use lib.ListN.{length, getD}
 use borrow.Author.Tests.{eq-eqb, ne-eqb}
 use Rattle.format.specs.laws.Sealing.{first-past, stamp-none, stamp-is}
 use borrow.Author.Needs.{needs}
-use Rattle.change.proofs.sealing.stamped.Statement.{statement}
-use Rattle.change.proofs.sealing.stamped.Tie as tie
+use Rattle.change.proofs.sealing.tested.Statement.{statement}
+use Rattle.change.proofs.sealing.tested.Tie as tie
 
 returns : tie.Need-returns
 returns c = let a = c .before .before .args in first-past (sealFault true (a .s .now)) (a .code) (c .if1 .taken)
@@ -44,8 +44,8 @@ returns-4 c =
     let a = n .before .before .before .args in
     sym (stamp-is (a .s .now) (a .code) (x .xor .result) (n .before .if1 .left) (x .xor .ensures) ∙ rw (ne-eqb (getD (a .s .now) (length (a .s .now) - 1) 0) (x .xor .result) (c .if3 .left)) refl)
 
-pub stamped-spec : {M : Type 1} → statement M
-stamped-spec =
+pub tested-spec : {M : Type 1} → statement M
+tested-spec =
     tie.close
     (tie.spec
     returns
