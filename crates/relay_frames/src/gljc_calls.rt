@@ -1,17 +1,8 @@
 // The frame GLJC's calls.
-ghost use Rattle.rows.specs.Row.{Fills};
-ghost use Rattle.frame_rows.specs.Gljc.{numbersOf, recordOf};
+ghost use Rattle.frame_rows.specs.Gljc.{recordOf};
 ghost use Rattle.gljc_reading.specs.Gljc.{gljcs, valuesOf};
 ghost use Rattle.format.specs.Promises.{Writes, Corrects};
 use gljc::Gljc;
-
-// Reads the frame into a row of 2: address, minutes.
-#[no_mangle]
-pub extern "C" fn bellnewt_gljc_read(s: &[u8], row: &mut [i64]) -> u8
-    ensures { λ code. ⌜ Fills (numbersOf (now (s .entry))) (now (row .entry)) code (now (row .exit)) ⌝ }
-{
-    frame_rows::gljcs::read(s, row)
-}
 
 // Writes the frame of these numbers into the front of a lent buffer.
 #[no_mangle]

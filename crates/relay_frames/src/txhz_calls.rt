@@ -1,16 +1,7 @@
 // The frame TXHZ's calls.
-ghost use Rattle.rows.specs.Row.{Fills};
-ghost use Rattle.txhz_rows.specs.Txhz.{numbersOf, TxhzWrites};
+ghost use Rattle.txhz_rows.specs.Txhz.{TxhzWrites};
 ghost use Rattle.txhz_reading.specs.Txhz.{txhzs};
 ghost use Rattle.format.specs.Promises.{Corrects};
-
-// Reads the frame into a row of 23: address, receiver, count, then each receipt's sent hour, sent minute, receipt hour, receipt minute.
-#[no_mangle]
-pub extern "C" fn bellnewt_txhz_read(s: &[u8], row: &mut [i64]) -> u8
-    ensures { λ code. ⌜ Fills (numbersOf (now (s .entry))) (now (row .entry)) code (now (row .exit)) ⌝ }
-{
-    txhz_rows::read(s, row)
-}
 
 // Writes the frame of these numbers and the 20 bytes of its receipts into the front of a lent buffer.
 #[no_mangle]

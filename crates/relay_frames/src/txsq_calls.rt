@@ -1,17 +1,8 @@
 // The frame TXSQ's calls.
-ghost use Rattle.rows.specs.Row.{Fills};
-ghost use Rattle.frame_rows.specs.Txsq.{numbersOf, recordOf};
+ghost use Rattle.frame_rows.specs.Txsq.{recordOf};
 ghost use Rattle.txsq_reading.specs.Txsq.{txsqs, valuesOf};
 ghost use Rattle.format.specs.Promises.{Writes, Corrects};
 use txsq::Txsq;
-
-// Reads the frame into a row of 9: address, category, mode, password, receiver, size, answer, where the content begins and its bytes.
-#[no_mangle]
-pub extern "C" fn bellnewt_txsq_read(s: &[u8], row: &mut [i64]) -> u8
-    ensures { λ code. ⌜ Fills (numbersOf (now (s .entry))) (now (row .entry)) code (now (row .exit)) ⌝ }
-{
-    frame_rows::txsqs::read(s, row)
-}
 
 // Writes the frame of these numbers and content into the front of a lent buffer.
 #[no_mangle]

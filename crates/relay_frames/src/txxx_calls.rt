@@ -1,17 +1,8 @@
 // The frame TXXX's calls.
-ghost use Rattle.rows.specs.Row.{Fills};
-ghost use Rattle.frame_rows.specs.Txxx.{numbersOf, recordOf};
+ghost use Rattle.frame_rows.specs.Txxx.{recordOf};
 ghost use Rattle.txxx_reading.specs.Txxx.{txxxs, valuesOf};
 ghost use Rattle.format.specs.Promises.{Writes, Corrects};
 use txxx::Txxx;
-
-// Reads the frame into a row of 9: address, class, sender, hour, minute, size, mark, where the content begins and its bytes.
-#[no_mangle]
-pub extern "C" fn bellnewt_txxx_read(s: &[u8], row: &mut [i64]) -> u8
-    ensures { λ code. ⌜ Fills (numbersOf (now (s .entry))) (now (row .entry)) code (now (row .exit)) ⌝ }
-{
-    frame_rows::txxxs::read(s, row)
-}
 
 // Writes the frame of these numbers and content into the front of a lent buffer.
 #[no_mangle]

@@ -1,7 +1,6 @@
 // An area's calls: message 6 with application 412/11.
-ghost use Rattle.rows.specs.Row.{Fills};
 ghost use Rattle.bits.specs.Bits.{fieldAt};
-ghost use Rattle.area_rows.specs.Area.{numbersOf, recordOf, circleOf, rectangleOf};
+ghost use Rattle.area_rows.specs.Area.{recordOf, circleOf, rectangleOf};
 ghost use Rattle.area_reading.specs.Area.{areas, valuesOf};
 ghost use Rattle.area_reading.specs.Changed.{fieldOf};
 ghost use Rattle.format.specs.Promises.{Writes, Corrects};
@@ -11,14 +10,6 @@ use area_reading::shapes::Rectangle;
 use area_reading::shapes::Shape;
 use time::ShortTime;
 use time::Time;
-
-// Reads the area into a row of 19: repeat, source, sequence, destination, resent, kind, shape, four numbers of its shape, month, day, hour, minute, second month, second day, second hour, advice.
-#[no_mangle]
-pub extern "C" fn bellnewt_area_read(s: &[u8], row: &mut [i64]) -> u8
-    ensures { λ code. ⌜ Fills (numbersOf (now (s .entry))) (now (row .entry)) code (now (row .exit)) ⌝ }
-{
-    area_rows::read(s, row)
-}
 
 // Makes field number `field` of the area be `value`, or leaves every byte.
 #[no_mangle]

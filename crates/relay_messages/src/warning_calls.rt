@@ -1,7 +1,6 @@
 // A warning's calls: message 8 with application 412/03.
-ghost use Rattle.rows.specs.Row.{Fills};
 ghost use Rattle.bits.specs.Bits.{fieldAt};
-ghost use Rattle.warning_rows.specs.Warning.{numbersOf, recordOf, cycloneOf, galeOf, wavesOf, fogOf, surgeOf};
+ghost use Rattle.warning_rows.specs.Warning.{recordOf, cycloneOf, galeOf, wavesOf, fogOf, surgeOf};
 ghost use Rattle.format.specs.Promises.{Writes, Corrects};
 ghost use Rattle.warning_reading.specs.Changed.{fieldOf};
 ghost use Rattle.warning_reading.specs.Warning.{warnings, valuesOf};
@@ -13,14 +12,6 @@ use bodies::Surge;
 use bodies::Waves;
 use time::Time;
 use warning_reading::Warning;
-
-// Reads the warning into a row of 17: repeat, source, warning type, longitude, latitude, seven numbers of its body, month, day, hour, minute, hours.
-#[no_mangle]
-pub extern "C" fn bellnewt_warning_read(s: &[u8], row: &mut [i64]) -> u8
-    ensures { λ code. ⌜ Fills (numbersOf (now (s .entry))) (now (row .entry)) code (now (row .exit)) ⌝ }
-{
-    warning_rows::read(s, row)
-}
 
 // Makes field number `field` of the warning be `value`, or leaves every byte.
 #[no_mangle]

@@ -1,22 +1,7 @@
 // The notice's calls. Language 0 is Chinese, 1 English; above that it is 4 before anything else.
-ghost use Rattle.notice_rows.specs.Notice.{recordOf, NoticeFills};
+ghost use Rattle.notice_rows.specs.Notice.{recordOf};
 ghost use Rattle.notice_rows.specs.Making.{WritesIn, CorrectsIn};
 use notice_reading::Notice;
-
-// Reads the notice into a row of 10: source, station, serial, year, type, subtype, expiry, how many areas, how many numbers
-// these have and how many bytes its text; the numbers of its areas and its text into the fronts of `areas` and `text`.
-#[no_mangle]
-pub extern "C" fn bellnewt_notice_read(
-    s: &[u8],
-    language: u8,
-    row: &mut [i64],
-    areas: &mut [u32],
-    text: &mut [u8],
-) -> u8
-    ensures { λ code. ⌜ NoticeFills language (now (s .entry)) (now (row .entry)) (now (areas .entry)) (now (text .entry)) code (now (row .exit)) (now (areas .exit)) (now (text .exit)) ⌝ }
-{
-    notice_rows::read(s, language, row, areas, text)
-}
 
 // Writes the notice of these numbers, areas and text into the front of a lent buffer.
 #[no_mangle]

@@ -1,20 +1,11 @@
 // The packet's calls, and the splitter's.
 ghost use mathlib.Core.Path.{_≡_};
-ghost use Rattle.rows.specs.Row.{Fills};
-ghost use Rattle.packet_rows.specs.Packet.{numbersOf, recordOf};
+ghost use Rattle.packet_rows.specs.Packet.{recordOf};
 ghost use Rattle.packet_rows.specs.Split.{SplitsIn};
 ghost use Rattle.packet_reading.specs.Packet.{packets, valuesOf};
 ghost use Rattle.splitter.specs.Splitter.{nextNumber};
 ghost use Rattle.format.specs.Promises.{Writes, Corrects};
 use packet::Packet;
-
-// Reads the packet into a row of 6: language, number, total, own, where the content begins and its bytes.
-#[no_mangle]
-pub extern "C" fn bellnewt_packet_read(s: &[u8], row: &mut [i64]) -> u8
-    ensures { λ code. ⌜ Fills (numbersOf (now (s .entry))) (now (row .entry)) code (now (row .exit)) ⌝ }
-{
-    packet_rows::read(s, row)
-}
 
 // Writes the packet of these numbers and content into the front of a lent buffer.
 #[no_mangle]

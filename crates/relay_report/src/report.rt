@@ -1,17 +1,8 @@
 // The distress report's calls.
-ghost use Rattle.rows.specs.Row.{Fills};
-ghost use Rattle.report_rows.specs.Report.{numbersOf, recordOf};
+ghost use Rattle.report_rows.specs.Report.{recordOf};
 ghost use Rattle.distress_reading.specs.Report.{reports, valuesOf};
 ghost use Rattle.format.specs.Promises.{Writes, Corrects};
 use distress::report::Report;
-
-// Reads the report into a row of 9: mmsi, longitude, latitude, day, hour, minute, speed, course, kind.
-#[no_mangle]
-pub extern "C" fn bellnewt_distress_read(s: &[u8], row: &mut [i64]) -> u8
-    ensures { λ code. ⌜ Fills (numbersOf (now (s .entry))) (now (row .entry)) code (now (row .exit)) ⌝ }
-{
-    report_rows::report::read(s, row)
-}
 
 // Writes the report of these numbers into the front of a lent buffer.
 #[no_mangle]
