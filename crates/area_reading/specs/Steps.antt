@@ -10,7 +10,6 @@ use Rattle.layout.specs.Walk.{onward}
 use Rattle.layout.specs.declared.walk.Walk.{Walk}
 use Rattle.area_reading.specs.Shapes.{Kind, circle, rectangle, spellEast, spellNorth, eastOf, northOf}
 use Rattle.area_reading.specs.declared.shapes.Passed.{Passed}
-use Rattle.area_reading.specs.declared.shapes.Reached.{Reached}
 use Rattle.area_reading.specs.declared.shapes.Shape.{Shape}
 use Rattle.area_reading.specs.declared.shapes.Shape.the-variants.{Circle, Rectangle}
 
@@ -22,29 +21,27 @@ eastRead s r = signedly s 28 108_000_000 160_435_456 108_600_000 r
 abbrev pub northRead : List ℕ → Walk → Walk
 northRead s r = signedly s 27 54_000_000 80_217_728 54_600_000 r
 
-unfoldable pub pointRead : List ℕ → Walk → Reached
-pointRead s r =
-    let a = eastRead s r in
-    let b = northRead s a in
-    record { walk = b; longitude = a .v; latitude = b .v }
+-- past a position
+abbrev pub pointRead : List ℕ → Walk → Walk
+pointRead s r = northRead s (eastRead s r)
 
 unfoldable pub circleRead : List ℕ → Walk → Passed
 circleRead s r =
     let p = pointRead s r in
-    let a = ranged s 7 true 0 127 4 (p .walk) in
-    record { walk = blanked s 48 a; shape = Circle (record { longitude = eastOf (p .longitude); latitude = northOf (p .latitude); radius = a .v }) }
+    let a = ranged s 7 true 0 127 4 p in
+    record { walk = blanked s 48 a; shape = Circle (record { longitude = eastOf (eastRead s r .v); latitude = northOf (p .v); radius = a .v }) }
 
 unfoldable pub rectangleRead : List ℕ → Walk → Passed
 rectangleRead s r =
     let p = pointRead s r in
-    let q = pointRead s (p .walk) in
+    let q = pointRead s p in
     record {
-      walk = q .walk;
+      walk = q;
       shape = Rectangle (record {
-        longitude = eastOf (p .longitude);
-        latitude = northOf (p .latitude);
-        «second_longitude» = eastOf (q .longitude);
-        «second_latitude» = northOf (q .latitude);
+        longitude = eastOf (eastRead s r .v);
+        latitude = northOf (p .v);
+        «second_longitude» = eastOf (eastRead s p .v);
+        «second_latitude» = northOf (q .v);
       });
     }
 

@@ -1,7 +1,7 @@
 // The two shapes of an area (003, tables 39 and 40): 110 bits.
 ghost use mathlib.Core.Path.{_≡_};
 ghost use Rattle.area_reading.specs.Shapes.{kindOf, typeOf, shapeKind};
-ghost use Rattle.area_reading.specs.Steps.{pointRead, circleRead, rectangleRead, shapeRead};
+ghost use Rattle.area_reading.specs.Steps.{eastRead, northRead, circleRead, rectangleRead, shapeRead};
 use layout::walk::Walk;
 
 // Ten-thousandths of a minute, 108,600,000 and 54,600,000 for none.
@@ -49,13 +49,6 @@ pub struct Passed {
     pub shape: Shape,
 }
 
-// The numbers that spell a position, and the walk past it.
-struct Reached {
-    walk: Walk,
-    longitude: u64,
-    latitude: u64,
-}
-
 // The shape of number `kind`; one of no shape's is read as the last.
 pub fn read(s: &[u8], kind: u64, w: Walk) -> Passed
     ensures { λ r. ⌜ r ≡ shapeRead (now (s .entry)) (kindOf kind) w ⌝ }
@@ -69,12 +62,13 @@ pub fn read(s: &[u8], kind: u64, w: Walk) -> Passed
 fn read_circle(s: &[u8], w: Walk) -> Passed
     ensures { λ r. ⌜ r ≡ circleRead (now (s .entry)) w ⌝ }
 {
-    let centre = read_point(s, w);
-    let w = centre.walk.num(s, 7, 0, 127);
+    let w = read_longitude(s, w);
+    let longitude = number::sign::int(w.v, EAST);
+    let w = read_latitude(s, w);
+    let latitude = number::sign::int(w.v, NORTH);
+    let w = w.num(s, 7, 0, 127);
     let radius = w.v as u8;
     let w = w.blank(s, 48);
-    let longitude = number::sign::int(centre.longitude, EAST);
-    let latitude = number::sign::int(centre.latitude, NORTH);
     let circle = Circle {
         longitude,
         latitude,
@@ -89,13 +83,14 @@ fn read_circle(s: &[u8], w: Walk) -> Passed
 fn read_rectangle(s: &[u8], w: Walk) -> Passed
     ensures { λ r. ⌜ r ≡ rectangleRead (now (s .entry)) w ⌝ }
 {
-    let first = read_point(s, w);
-    let second = read_point(s, first.walk);
-    let w = second.walk;
-    let longitude = number::sign::int(first.longitude, EAST);
-    let latitude = number::sign::int(first.latitude, NORTH);
-    let second_longitude = number::sign::int(second.longitude, EAST);
-    let second_latitude = number::sign::int(second.latitude, NORTH);
+    let w = read_longitude(s, w);
+    let longitude = number::sign::int(w.v, EAST);
+    let w = read_latitude(s, w);
+    let latitude = number::sign::int(w.v, NORTH);
+    let w = read_longitude(s, w);
+    let second_longitude = number::sign::int(w.v, EAST);
+    let w = read_latitude(s, w);
+    let second_latitude = number::sign::int(w.v, NORTH);
     let rectangle = Rectangle {
         longitude,
         latitude,
@@ -108,16 +103,15 @@ fn read_rectangle(s: &[u8], w: Walk) -> Passed
     }
 }
 
-fn read_point(s: &[u8], w: Walk) -> Reached
-    ensures { λ r. ⌜ r ≡ pointRead (now (s .entry)) w ⌝ }
+// A position's numbers, in two functions: one would be too long for the compiler to put it where it is called.
+fn read_longitude(s: &[u8], w: Walk) -> Walk
+    ensures { λ r. ⌜ r ≡ eastRead (now (s .entry)) w ⌝ }
 {
-    let w = w.signed(s, 28, 108_000_000, 160_435_456, 108_600_000);
-    let longitude = w.v;
-    let w = w.signed(s, 27, 54_000_000, 80_217_728, 54_600_000);
-    let latitude = w.v;
-    Reached {
-        walk: w,
-        longitude,
-        latitude,
-    }
+    w.signed(s, 28, 108_000_000, 160_435_456, 108_600_000)
+}
+
+fn read_latitude(s: &[u8], w: Walk) -> Walk
+    ensures { λ r. ⌜ r ≡ northRead (now (s .entry)) w ⌝ }
+{
+    w.signed(s, 27, 54_000_000, 80_217_728, 54_600_000)
 }

@@ -16,7 +16,7 @@ signing s at w top bottom none = cond (within (length s) at w) (cond (leb (got s
 
 -- a fill's, by its halves
 abbrev pub blanking : List ℕ → ℕ → ℕ → ℕ
-blanking s at w = cond (leb (at + w) (length s * 8)) (cond (eqb (got s at (w / 2)) 0) (cond (eqb (got s ((at + w / 2) % 2 ^ 64) (w - w / 2)) 0) 0 5) 5) 1
+blanking s at w = cond (within (length s) ((at + w / 2) % 2 ^ 64) (w - w / 2)) (cond (eqb (got s at (w / 2)) 0) (cond (eqb (got s ((at + w / 2) % 2 ^ 64) (w - w / 2)) 0) 0 5) 5) 1
 
 -- the whole bytes of s from bit `at` on
 abbrev pub wholly : List ℕ → ℕ → ℕ

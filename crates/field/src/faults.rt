@@ -34,17 +34,19 @@ pub fn lies(len: usize, at: usize, w: u32) -> bool
     at / 8 + (at % 8 + w as usize + 7) / 8 <= len
 }
 
-// 1 where w bits from bit `at` on do not lie within s, 5 where one of them is set, if they are no more than 64.
+// 1 where w bits from bit `at` on do not lie within s or are more than 64, 5 where one of them is set. They are looked at in
+// two halves, and lie within s where the second does.
 pub fn clear(s: &[u8], at: usize, w: u32) -> u8
     ensures { λ r. ⌜ r ≡ blanking (now (s .entry)) at w ⌝ }
 {
     let high = (w / 2) as usize;
     let low = (w - w / 2) as usize;
-    if lies(s.len(), at, w) {
+    let middle = std::num::wrapping_add_usize(at, high);
+    if bits::holds(s.len(), middle, low) {
         if bits::get(s, at, high) != 0 {
             return format::FILL;
         }
-        if bits::get(s, std::num::wrapping_add_usize(at, high), low) != 0 {
+        if bits::get(s, middle, low) != 0 {
             return format::FILL;
         }
         return 0;

@@ -2,7 +2,7 @@
 ghost use mathlib.Core.Path.{_≡_};
 ghost use Prim.Native.Nat.{_^_, _<_};
 ghost use Rattle.time.specs.Time.{spellTime, timeOf, spellShort, shortOf};
-ghost use Rattle.time.specs.Steps.{dateRead, timeRead, shortRead, datePieced, timeJudged, shortJudged};
+ghost use Rattle.time.specs.Steps.{timeRead, shortRead, datePieced, timeJudged, shortJudged};
 use layout::walk::Walk;
 use pieces::Pieces;
 
@@ -95,35 +95,21 @@ impl ShortTime {
     }
 }
 
-// ---- reading: a time's parts are judged one by one, and it is corrected as one number; where it is there, by its number, so that the bytes are looked at once
+// ---- reading: a time's parts are judged one by one, and it is corrected as one number. Whoever reads it has tested the
+// message's size: it is there, and its number says all of its parts. Past the end the number is 0.
 
 pub fn read(s: &[u8], w: Walk) -> Walk
     ensures { λ r. ⌜ (r ≡ timeRead (now (s .entry)) w) × (r .v < 2 ^ 20) ⌝ }
 {
     let at = w.at;
-    if bits::holds(s.len(), at, Time::BITS) {
-        return judged(w, bits::get(s, at, Time::BITS));
-    }
-    let parts = date(s, w).part(s, 6, 0, 59);
-    w.group(s, Time::BITS, parts)
+    judged(w, bits::get(s, at, Time::BITS))
 }
 
 pub fn read_short(s: &[u8], w: Walk) -> Walk
     ensures { λ r. ⌜ (r ≡ shortRead (now (s .entry)) w) × (r .v < 2 ^ 14) ⌝ }
 {
     let at = w.at;
-    if bits::holds(s.len(), at, ShortTime::BITS) {
-        return judged_short(w, bits::get(s, at, ShortTime::BITS));
-    }
-    let parts = date(s, w);
-    w.group(s, ShortTime::BITS, parts)
-}
-
-// Month, day and hour.
-fn date(s: &[u8], w: Walk) -> Walk
-    ensures { λ r. ⌜ r ≡ dateRead (now (s .entry)) w ⌝ }
-{
-    w.part(s, 4, 0, 12).part(s, 5, 0, 31).part(s, 5, 0, 23)
+    judged_short(w, bits::get(s, at, ShortTime::BITS))
 }
 
 // ---- judging what a record spells

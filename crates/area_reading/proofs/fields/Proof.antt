@@ -2,6 +2,7 @@
 use mathlib.Core.Path.{_≡_, refl, sym, ap, _∙_, subst⁻¹}
 use mathlib.Core.Bool.{cond}
 use lib.Dec.{eqb, lit<, lit≤}
+use lib.ListN.{length}
 use Rattle.format.specs.Fmt.{also, read}
 use Rattle.format.specs.Words.{_‥_}
 use Rattle.format.specs.laws.Answers.{told-so}
@@ -159,8 +160,9 @@ returns-2 c =
     let r11 = step-decide 2 (lit< tt) (lit≤ tt) (lit< tt) 1 1 2 (1 ‥ 2) (λ v. refl) r10 (nk .number .ensures .0) in
     let kind = nk .number .result .v in
     let r12 = shape-read (kindOf kind) r11 (sh .read .ensures) in
-    let r13 = time-read (lit< tt) r12 (s1 .read2 .ensures .0) in
-    let r14 = short-read (lit< tt) r13 (s2 .read-short .ensures .0) in
+    let long : length s ≡ 31 = test .if1 .left in
+    let r13 = time-read {at = 204} (lit< tt) (omega (arith, long)) r12 (s1 .read2 .ensures .0) in
+    let r14 = short-read {at = 224} (lit< tt) (omega (arith, long)) r13 (s2 .read-short .ensures .0) in
     let r15 = step-num 4 (lit< tt) (lit≤ tt) (lit< tt) 1 6 r14 (n7 .num7 .ensures .0) in
     let r16 = step-fill 6 (lit≤ tt) (lit< tt) r15 (f2 .fill2 .ensures) in
     let w = finish (lit< tt) r16 (ended .end .ensures) in

@@ -18,7 +18,7 @@ use Rattle.layout.specs.laws.Reading.{step-num, step-signed, step-blank, got-lt
 use Rattle.layout.specs.laws.Step.{Reading}
 use Rattle.layout.specs.declared.walk.Walk.{Walk}
 use Rattle.area_reading.specs.Shapes.{Kind, circle, rectangle, kindOf, typeOf, point, shape, spellEast, spellNorth, eastOf, northOf, shapeKind, shapeValues}
-use Rattle.area_reading.specs.Steps.{eastRead, pointRead, circleRead, rectangleRead, shapeRead, pointJudged, shapeJudged, shapePut}
+use Rattle.area_reading.specs.Steps.{eastRead, northRead, pointRead, circleRead, rectangleRead, shapeRead, pointJudged, shapeJudged, shapePut}
 use Rattle.area_reading.specs.declared.shapes.Passed.{Passed}
 use Rattle.area_reading.specs.declared.shapes.Shape.{Shape}
 use Rattle.area_reading.specs.declared.shapes.Shape.the-variants.{Circle, Rectangle}
@@ -36,24 +36,22 @@ backwards (Rectangle b) h = spellNorth (b .«second_latitude») ∷ spellEast (b
 -- ---- read
 
 -- a position's numbers are spelled by the position
-east-again : (s : List ℕ) (r : Walk) → spellEast (eastOf (pointRead s r .longitude)) ≡ pointRead s r .longitude
-unfolding pointRead onward
+east-again : (s : List ℕ) (r : Walk) → spellEast (eastOf (eastRead s r .v)) ≡ eastRead s r .v
+unfolding onward
 east-again s r = spell-int (2 ^ 28) _ (lit≤ tt) refl (got-lt s (r .at) 28 refl)
 
-north-again : (s : List ℕ) (r : Walk) → spellNorth (northOf (pointRead s r .latitude)) ≡ pointRead s r .latitude
-unfolding pointRead onward
-north-again s r = spell-int (2 ^ 27) _ (lit≤ tt) refl (got-lt s (eastRead s r .at) 27 refl)
+north-again : (s : List ℕ) (r : Walk) → spellNorth (northOf (northRead s r .v)) ≡ northRead s r .v
+unfolding onward
+north-again s r = spell-int (2 ^ 27) _ (lit≤ tt) refl (got-lt s (r .at) 27 refl)
 
 module _ {o : Out (List ℕ)} {all : Fmt} {i : ℕ} {s : List ℕ} {h : List ℕ} {at : ℕ} {k : List ℕ → List ℕ} {r : Walk} {f : Fmt} where
-  point-read : at + 28 + 27 < 2 ^ 64 → at + 28 < 2 ^ 64 → Reading o all i s (point f) h at k r
-      → let p = pointRead s r in let x = spellEast (eastOf (p .longitude)) in let y = spellNorth (northOf (p .latitude)) in
-      Reading o all i s f (y ∷ x ∷ h) (at + 28 + 27) (λ vs. k (x ∷ y ∷ vs)) (p .walk)
-  unfolding pointRead
+  point-read : at + 28 + 27 < 2 ^ 64 → at + 28 < 2 ^ 64 → Reading o all i s (point f) h at k r → let x = spellEast (eastOf (eastRead s r .v)) in let y = spellNorth (northOf (pointRead s r .v)) in
+      Reading o all i s f (y ∷ x ∷ h) (at + 28 + 27) (λ vs. k (x ∷ y ∷ vs)) (pointRead s r)
   point-read reach near e =
       let r1 = step-signed 28 (lit< tt) (lit≤ tt) near 108_000_000 108_600_000 e refl in
       let r2 = step-signed 27 (lit< tt) (lit≤ tt) reach 54_000_000 54_600_000 r1 refl in
-      subst⁻¹ (λ x. Reading o all i s f (spellNorth (northOf (pointRead s r .latitude)) ∷ x ∷ h) (at + 28 + 27) (λ vs. k (x ∷ spellNorth (northOf (pointRead s r .latitude)) ∷ vs)) (pointRead s r .walk)) (east-again s r)
-      (subst⁻¹ (λ y. Reading o all i s f (y ∷ pointRead s r .longitude ∷ h) (at + 28 + 27) (λ vs. k (pointRead s r .longitude ∷ y ∷ vs)) (pointRead s r .walk)) (north-again s r) r2)
+      subst⁻¹ (λ x. Reading o all i s f (spellNorth (northOf (pointRead s r .v)) ∷ x ∷ h) (at + 28 + 27) (λ vs. k (x ∷ spellNorth (northOf (pointRead s r .v)) ∷ vs)) (pointRead s r)) (east-again s r)
+      (subst⁻¹ (λ y. Reading o all i s f (y ∷ eastRead s r .v ∷ h) (at + 28 + 27) (λ vs. k (eastRead s r .v ∷ y ∷ vs)) (pointRead s r)) (north-again s (eastRead s r)) r2)
 
 -- a shape that is read has the kind that it was read by, and fits its bits
 pub read-kind : (s : List ℕ) (t : Kind) (r : Walk) → shapeKind (shapeRead s t r .shape) ≡ t
@@ -61,18 +59,18 @@ unfolding circleRead rectangleRead
 read-kind s circle r = refl
 read-kind s rectangle r = refl
 
-east-narrow : (s : List ℕ) (r : Walk) → spellEast (eastOf (pointRead s r .longitude)) < 2 ^ 28
-unfolding pointRead onward
+east-narrow : (s : List ℕ) (r : Walk) → spellEast (eastOf (eastRead s r .v)) < 2 ^ 28
+unfolding onward
 east-narrow s r = rw (east-again s r) (got-lt s (r .at) 28 refl)
 
-north-narrow : (s : List ℕ) (r : Walk) → spellNorth (northOf (pointRead s r .latitude)) < 2 ^ 27
-unfolding pointRead onward
-north-narrow s r = rw (north-again s r) (got-lt s (eastRead s r .at) 27 refl)
+north-narrow : (s : List ℕ) (r : Walk) → spellNorth (northOf (northRead s r .v)) < 2 ^ 27
+unfolding onward
+north-narrow s r = rw (north-again s r) (got-lt s (r .at) 27 refl)
 
 pub read-narrow : (s : List ℕ) (t : Kind) (r : Walk) → Narrow (shapeRead s t r .shape)
 unfolding circleRead rectangleRead
-read-narrow s circle r = (east-narrow s r, north-narrow s r)
-read-narrow s rectangle r = (east-narrow s r, north-narrow s r, east-narrow s (pointRead s r .walk), north-narrow s (pointRead s r .walk))
+read-narrow s circle r = (east-narrow s r, north-narrow s (eastRead s r))
+read-narrow s rectangle r = (east-narrow s r, north-narrow s (eastRead s r), east-narrow s (pointRead s r), north-narrow s (eastRead s (pointRead s r)))
 
 module _ {o : Out (List ℕ)} {all : Fmt} {i : ℕ} {s : List ℕ} {h : List ℕ} {k : List ℕ → List ℕ} {r : Walk} {g : Passed} {f : Fmt} where
   pub shape-read : (t : Kind) → Reading o all i s (shape t f) h 94 k r → g ≡ shapeRead s t r → Reading o all i s f (backwards (g .shape) h) 204 (λ vs. k (shapeValues (g .shape) vs)) (g .walk)

@@ -26,6 +26,16 @@ pub zero-cut : (n : ℕ) (j : Judge) (h : List ℕ) (b : List Bool) → length b
 unfolding orZero
 zero-cut n j h b l = rw (ne-eqb (length b) n (λ z. omega arith)) refl
 
+-- by its number, where it is there
+module _ {o : Out (List ℕ)} {all : Fmt} {i : ℕ} {s : List ℕ} {h : List ℕ} {at : ℕ} {k : List ℕ → List ℕ} {r q : Walk} {f : Fmt} {j : Judge} {g : Pieces} (n : ℕ) where
+  pub step-there : 0 < n → n ≤ 32 → at + n < 2 ^ 64 → at + n ≤ length s * 8 → Pieced j h n (got s (r .at) n) g → Reading o all i s (field n j free f) h at k r → q ≡ judgedAs g r
+      → Reading o all i s f (q .v ∷ h) (at + n) (λ vs. k (q .v ∷ vs)) q
+  unfolding onward
+  step-there some small reach fits x e is =
+      let y = subst (λ a. Pieced j h n (got s a n) g) (e .here) x in
+      let v : q .v ≡ got s at n = ap (λ q. q .v) is ∙ y .value in
+      subst⁻¹ (λ v. Reading o all i s f (v ∷ h) (at + n) (λ vs. k (v ∷ vs)) q) v (step-pieced some small reach fits y e is)
+
 -- of bits that are cut the judge j says what the parts ps say
 module _ {o : Out (List ℕ)} {all : Fmt} {i : ℕ} {s : List ℕ} {h : List ℕ} {at : ℕ} {k : List ℕ → List ℕ} {r q : Walk} {f : Fmt} {j : Judge} {g : Pieces} (n : ℕ) (ps : List Part) (p : Walk) where
   pub step-parts : wide ps ≡ n → 0 < n → n ≤ 32 → at + n < 2 ^ 64 → let b = take n (drop at (bitsOf s)) in (length b < n → j h b ≡ walk ps 0 h b) → Passes r (walk ps 0 h b) at p → Pieced j h n (got s (r .at) n) g
@@ -48,11 +58,7 @@ module _ {o : Out (List ℕ)} {all : Fmt} {i : ℕ} {s : List ℕ} {h : List ℕ
           omega (arith, leb-false (at + n) (length s * 8) z, long)
 
       go : (t : Bool) → within (length s) at n ≡ t → Reading o all i s f (q .v ∷ h) (at + n) (λ vs. k (q .v ∷ vs)) q
-      go true t =
-          let is : q ≡ judgedAs g r = here ∙ rw t refl in
-          let y = subst (λ a. Pieced j h n (got s a n) g) (e .here) x in
-          let v : q .v ≡ got s at n = ap (λ q. q .v) is ∙ y .value in
-          subst⁻¹ (λ v. Reading o all i s f (v ∷ h) (at + n) (λ vs. k (v ∷ vs)) q) v (step-pieced some small reach (within-true (length s) at n t .1) y e is)
+      go true t = step-there n some small reach (within-true (length s) at n t .1) x e (here ∙ rw t refl)
       go false t =
           let is : q ≡ grouped s n p r = here ∙ rw t refl in
           let same = cut (short t) in

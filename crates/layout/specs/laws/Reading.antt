@@ -77,6 +77,13 @@ step-content {o} {all} {i} {s} {h} {at} {k} {r} {f = f} w reach e d =
     (d ∙ ap (λ a. onward w false 0 (cond (leb (a + w) (length s * 8)) 0 1) 0 r) (e .here))
     (step-late 0 reach e (λ _ l. told s at w (only w 4 any) h (only-tells w 3 any h) reach (λ m. absurd (omega arith))))
 
+-- two halves lie within the bytes where the second does
+blank-within : (n at w : ℕ) → w ≤ 64 → at + w < 2 ^ 64 → within n ((at + w / 2) % 2 ^ 64) (w - w / 2) ≡ leb (at + w) (n * 8)
+blank-within n at w small reach =
+    let below : at + w / 2 < 2 ^ 64 = omega arith in
+    let whole : at + w / 2 + (w - w / 2) ≡ at + w = omega arith in
+    rw (mod-eq-of-lt below, le-leb (w - w / 2) 32 (omega arith), whole) refl
+
 -- what stands in two halves is nothing where both are nothing
 blank-field : (s : List ℕ) (at w : ℕ) → w ≤ 64 → at + w < 2 ^ 64 → at + w ≤ length s * 8 → blanking s at w ≡ cond (leb 0 (fieldAt s at w) && leb (fieldAt s at w) 0) 0 5
 blank-field s at w small reach fits =
@@ -84,7 +91,7 @@ blank-field s at w small reach fits =
     let b = w - w / 2 in
     let whole : fieldAt s at w ≡ fieldAt s at a * 2 ^ b + fieldAt s (at + a) b = ap (fieldAt s at) (halves w) ∙ field-join s at a b (omega arith) in
     let below : at + a < 2 ^ 64 = omega arith in
-    rw (le-leb (at + w) (length s * 8) fits, mod-eq-of-lt below, got-fits s at a (omega arith) (omega arith), got-fits s (at + a) b (omega arith) (omega arith), whole)
+    rw (blank-within (length s) at w small reach ∙ le-leb (at + w) (length s * 8) fits, mod-eq-of-lt below, got-fits s at a (omega arith) (omega arith), whole)
     (go (fieldAt s at a) (fieldAt s (at + a) b) (2 ^ b) (pow-pos b))
   where
     halves : (w : ℕ) → w ≡ w / 2 + (w - w / 2)
@@ -113,7 +120,7 @@ step-blank {o} {all} {i} {s} {h} {at} {k} {r} {f = f} w small reach e d =
 
     same : (y : Bool) → leb (at + w) (length s * 8) ≡ y → blanking s at w ≡ cond (leb (at + w) (length s * 8)) (cond (leb 0 v && leb v 0) 0 5) 1
     same true y = blank-field s at w small reach (leb-true (at + w) (length s * 8) y) ∙ rw y refl
-    same false y = rw y refl
+    same false y = rw (blank-within (length s) at w small reach, y) refl
 
     none : (y : Bool) (v : ℕ) → _≡_ {A = ℕ} (cond y (cond (leb 0 v && leb v 0) 0 5) 1) 0 → v ≡ 0
     none true v z = only-one 0 v 4 z

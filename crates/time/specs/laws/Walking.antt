@@ -2,10 +2,10 @@
 use mathlib.Core.Path.{_≡_, refl}
 use mathlib.Core.Bool.{Bool}
 use mathlib.Core.List.{List, [], _∷_}
-use Prim.Native.Nat.{ℕ, _+_, _≤_, _<_, _^_}
+use Prim.Native.Nat.{ℕ, _+_, _*_, _≤_, _<_, _^_}
 use native.Mathlib.Omega.{arith}
 use lib.Dec.{lit<, lit≤}
-use lib.ListN.{take, drop}
+use lib.ListN.{length}
 use Rattle.bits.specs.Answers.{got}
 use Rattle.bits.specs.Bits.{valueOf, bitsOf}
 use Rattle.format.specs.Fmt.{Out, Fmt}
@@ -13,12 +13,12 @@ use Rattle.layout.specs.Reading.{parted}
 use Rattle.format.specs.Words.{Part, part, _‥_, walk, wide}
 use Rattle.layout.specs.laws.Group.{Parting, part-start, part-step, part-end}
 use Rattle.layout.specs.laws.Judging.{Judging}
-use Rattle.layout.specs.laws.Parts.{step-parts}
+use Rattle.layout.specs.laws.Parts.{step-there}
 use Rattle.layout.specs.laws.Pieces.{Pieced, piece-start, piece-step, piece-end, judge-group}
 use Rattle.layout.specs.laws.Step.{Reading}
 use Rattle.format.specs.laws.Zero.{Judged, Numbered, Coded, walk-numbered}
 use Rattle.layout.specs.declared.walk.Walk.{Walk}
-use Rattle.time.specs.Steps.{dateRead, timePieced, shortPieced, timeRead, shortRead, timeJudged, shortJudged}
+use Rattle.time.specs.Steps.{timePieced, shortPieced, timeRead, shortRead, timeJudged, shortJudged}
 use Rattle.time.specs.Time.{dateParts, time, shortTime}
 
 -- ---- the number's parts judged
@@ -49,35 +49,16 @@ module _ {o : Out (List Bool)} {f : Fmt} {h : List ℕ} {at v : ℕ} {vs : List 
   unfolding wide
   short-judged reach e d = judge-group reach (short-pieces h v) e d
 
--- ---- read
-
--- a part's number
-abbrev told : List Bool → ℕ → ℕ → ℕ
-told b into w = valueOf (take w (drop into b))
-
--- over month, day and hour, the first of n bits, and in front of the parts ps
-date-parts : (s : List ℕ) (h : List ℕ) (at : ℕ) (r : Walk) (n : ℕ) (ps : List Part) → 14 ≤ n → at + n < 2 ^ 64 → r .at ≡ at → let b = take n (drop at (bitsOf s)) in
-    Parting r (walk (dateParts ps) 0 h b) at 14 b ps (told b 9 5 ∷ told b 4 5 ∷ told b 0 4 ∷ h) (dateRead s r)
-date-parts s h at r n ps inner reach here =
-    let b = take n (drop at (bitsOf s)) in
-    let p0 = part-start r at b (dateParts ps) h here in
-    let p1 = part-step s at n 0 4 0 12 (omega (arith, inner)) (lit< tt) (lit≤ tt) h _ reach p0 refl in
-    let p2 = part-step s at n 4 5 0 31 (omega (arith, inner)) (lit< tt) (lit≤ tt) _ _ reach p1 refl in
-    part-step s at n 9 5 0 23 (omega (arith, inner)) (lit< tt) (lit≤ tt) _ ps reach p2 refl
+-- ---- read, where it is there
 
 module _ {o : Out (List ℕ)} {all : Fmt} {i : ℕ} {s : List ℕ} {h : List ℕ} {at : ℕ} {k : List ℕ → List ℕ} {r q : Walk} {f : Fmt} where
-  pub time-read : at + 20 < 2 ^ 64 → Reading o all i s (time f) h at k r → q ≡ timeRead s r → Reading o all i s f (q .v ∷ h) (at + 20) (λ vs. k (q .v ∷ vs)) q
+  pub time-read : at + 20 < 2 ^ 64 → at + 20 ≤ length s * 8 → Reading o all i s (time f) h at k r → q ≡ timeRead s r → Reading o all i s f (q .v ∷ h) (at + 20) (λ vs. k (q .v ∷ vs)) q
   unfolding wide
-  time-read reach e d =
-      let ps = part 6 4 (0 ‥ 59) ∷ [] in
-      let p = part-step s at 20 14 6 0 59 (lit≤ tt) (lit< tt) (lit≤ tt) _ [] reach (date-parts s h at r 20 ps (lit≤ tt) reach (e .here)) refl in
-      step-parts 20 (dateParts ps) (parted s 6 0 59 (dateRead s r)) refl (lit< tt) (lit≤ tt) reach (λ _. refl) (part-end p) (time-pieces h (got s (r .at) 20)) e d
+  time-read reach there e d = step-there 20 (lit< tt) (lit≤ tt) reach there (time-pieces h (got s (r .at) 20)) e d
 
-  pub short-read : at + 14 < 2 ^ 64 → Reading o all i s (shortTime f) h at k r → q ≡ shortRead s r → Reading o all i s f (q .v ∷ h) (at + 14) (λ vs. k (q .v ∷ vs)) q
+  pub short-read : at + 14 < 2 ^ 64 → at + 14 ≤ length s * 8 → Reading o all i s (shortTime f) h at k r → q ≡ shortRead s r → Reading o all i s f (q .v ∷ h) (at + 14) (λ vs. k (q .v ∷ vs)) q
   unfolding wide
-  short-read reach e d =
-      let p = date-parts s h at r 14 [] (lit≤ tt) reach (e .here) in
-      step-parts 14 (dateParts []) (dateRead s r) refl (lit< tt) (lit≤ tt) reach (λ _. refl) (part-end p) (short-pieces h (got s (r .at) 14)) e d
+  short-read reach there e d = step-there 14 (lit< tt) (lit≤ tt) reach there (short-pieces h (got s (r .at) 14)) e d
 
 -- ---- their refusals are numbers of the paper
 

@@ -2,6 +2,7 @@
 use mathlib.Core.Path.{_≡_, refl, sym, ap, _∙_}
 use mathlib.Core.Bool.{cond}
 use lib.Dec.{eqb, lit<, lit≤}
+use lib.ListN.{length}
 use Rattle.bodies.specs.Bodies.{kindOf, bodyKind}
 use Rattle.bodies.specs.laws.Walking.{body-read, read-kind}
 use Rattle.format.specs.Fmt.{also, read}
@@ -136,7 +137,8 @@ returns-2 c =
     let r9 = step-num 23 (lit< tt) (lit≤ tt) (lit< tt) 0 7_200_000 r8 (n4 .num4 .ensures .0) in
     let kind = kindOf (type .number .result .v) in
     let r10 = body-read kind r9 (body .read .ensures) in
-    let r11 = time-read (lit< tt) r10 (times .read2 .ensures .0) in
+    let long : length s ≡ 23 = test .if1 .left in
+    let r11 = time-read {at = 156} (lit< tt) (omega (arith, long)) r10 (times .read2 .ensures .0) in
     let r12 = step-num 6 (lit< tt) (lit≤ tt) (lit< tt) 0 48 r11 (n5 .num5 .ensures .0) in
     let r13 = step-fill 2 (lit≤ tt) (lit< tt) r12 (fill2 .fill2 .ensures) in
     let w = finish (lit< tt) r13 (ended .end .ensures) in

@@ -5,14 +5,23 @@ use mathlib.Core.Path.{ap, _∙_}
 use mathlib.Core.Bool.{true}
 use Rattle.layout.specs.Reading.{ranged, blanked}
 use Rattle.area_reading.specs.Shapes.{eastOf, northOf}
-use Rattle.area_reading.specs.Steps.{circleRead}
+use Rattle.area_reading.specs.Steps.{northRead, circleRead}
 use Rattle.area_reading.specs.declared.shapes.Shape.the-variants.{Circle as IsCircle}
 use borrow.Author.Needs.{needs}
 use Rattle.area_reading.proofs.shapes.read_circle.Statement.{statement}
 use Rattle.area_reading.proofs.shapes.read_circle.Tie as tie
 
-read-point-requires : tie.Need-read-point-requires
-read-point-requires c κs = search needs
+read-longitude-requires : tie.Need-read-longitude-requires
+read-longitude-requires c κs = search needs
+
+int-requires : tie.Need-int-requires
+int-requires c κs = search needs
+
+read-latitude-requires : tie.Need-read-latitude-requires
+read-latitude-requires c κs = search needs
+
+int-requires-2 : tie.Need-int-requires-2
+int-requires-2 c κs = search needs
 
 num-requires : tie.Need-num-requires
 num-requires c κs = search needs
@@ -23,36 +32,33 @@ cast-radius c = search needs
 blank-requires : tie.Need-blank-requires
 blank-requires c κs = search needs
 
-int-requires : tie.Need-int-requires
-int-requires c κs = search needs
-
-int-requires-2 : tie.Need-int-requires-2
-int-requires-2 c κs = search needs
-
 returns : tie.Need-returns
 unfolding circleRead
 returns c =
-    let n3 = c .before in
-    let n2 = n3 .before in
-    let n1 = n2 .before .before in
-    let p = n1 .before in
+    let n1 = c .before .before in
+    let y = n1 .before in
+    let q = y .before in
+    let x = q .before in
+    let p = x .before in
     let st = p .before .before in
     let s = st .args .s .now in
-    let e0 = p .read-point .ensures in
-    let e1 = n1 .num .ensures .0 ∙ ap (λ p. ranged s 7 true 0 127 4 (p .walk)) e0 in
-    let e2 = n2 .blank .ensures ∙ ap (blanked s 48) e1 in
-    let east = toZ-ofZ w32 (n3 .int .result) (record { sfits = n3 .int .ok }) ∙ n3 .int .ensures ∙ ap (λ p. eastOf (p .longitude)) e0 in
-    let north = toZ-ofZ w32 (c .int2 .result) (record { sfits = c .int2 .ok }) ∙ c .int2 .ensures ∙ ap (λ p. northOf (p .latitude)) e0 in
-    λ i. record { walk = e2 i; shape = IsCircle (record { longitude = east i; latitude = north i; radius = e1 i .v }) }
+    let e0 = p .read-longitude .ensures in
+    let e1 = q .read-latitude .ensures ∙ ap (northRead s) e0 in
+    let e2 = n1 .num .ensures .0 ∙ ap (ranged s 7 true 0 127 4) e1 in
+    let e3 = c .blank .ensures ∙ ap (blanked s 48) e2 in
+    let east = toZ-ofZ w32 (x .int .result) (record { sfits = x .int .ok }) ∙ x .int .ensures ∙ ap (λ p. eastOf (p .v)) e0 in
+    let north = toZ-ofZ w32 (y .int2 .result) (record { sfits = y .int2 .ok }) ∙ y .int2 .ensures ∙ ap (λ p. northOf (p .v)) e1 in
+    λ i. record { walk = e3 i; shape = IsCircle (record { longitude = east i; latitude = north i; radius = e2 i .v }) }
 
 pub read-circle-spec : {M : Type 1} → statement M
 read-circle-spec =
     tie.close
     (tie.spec
-    read-point-requires
+    read-longitude-requires
+    int-requires
+    read-latitude-requires
+    int-requires-2
     num-requires
     cast-radius
     blank-requires
-    int-requires
-    int-requires-2
     returns)
