@@ -7,11 +7,8 @@ use native.Mathlib.Omega.{arith}
 use lib.Dec.{lit<, lit≤}
 use lib.ListN.{length}
 use Rattle.bits.specs.Answers.{got}
-use Rattle.bits.specs.Bits.{valueOf, bitsOf}
 use Rattle.format.specs.Fmt.{Out, Fmt}
-use Rattle.layout.specs.Reading.{parted}
 use Rattle.format.specs.Words.{Part, part, _‥_, walk, wide}
-use Rattle.layout.specs.laws.Group.{Parting, part-start, part-step, part-end}
 use Rattle.layout.specs.laws.Judging.{Judging}
 use Rattle.layout.specs.laws.Parts.{step-there}
 use Rattle.layout.specs.laws.Pieces.{Pieced, piece-start, piece-step, piece-end, judge-group}
