@@ -1,18 +1,20 @@
 -- What the code's steps over one receipt answer and leave: read, judged, put; and the table of a correction. Assumes nothing.
-use Prim.Native.Nat.{ℕ, _+_}
+use Prim.Native.Nat.{ℕ, _+_, _*_, _/_}
 use mathlib.Core.Bool.{Bool, cond}
 use mathlib.Core.List.{List, [], _∷_}
 use lib.Dec.{ltb}
+use Rattle.bits.specs.Answers.{got}
+use Rattle.field.specs.Faults.{ranging}
 use Rattle.format.specs.Correcting.{putIn}
 use Rattle.layout.specs.Judging.{valued, filled}
-use Rattle.layout.specs.Reading.{ranged}
+use Rattle.layout.specs.Walk.{onward}
 use Rattle.layout.specs.declared.walk.Walk.{Walk}
 use Rattle.txhz_reading.specs.declared.Passed.{Passed}
 use Rattle.txhz_reading.specs.declared.Receipt.{Receipt}
 
--- a byte read: 0 to most where the receipt is held, else fill
+-- a byte read, that of the walk's bit: 0 to most where the receipt is held, else fill
 abbrev pub slotRead : List ℕ → Bool → ℕ → Walk → Walk
-slotRead s held most r = ranged s 8 held 0 (cond held most 0) (cond held 4 5) r
+slotRead s held most r = let p = r .at / 8 * 8 in onward 8 held (got s p 8) (ranging s p 8 0 (cond held most 0) (cond held 4 5)) 0 r
 
 -- a receipt read: the walk past its last byte, and the value of the walk behind each
 unfoldable pub receiptRead : List ℕ → Bool → Walk → Passed

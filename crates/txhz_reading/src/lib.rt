@@ -9,6 +9,7 @@ ghost use Rattle.txhz_reading.specs.Promises.{Reads};
 ghost use Rattle.txhz_reading.specs.Steps.{slotRead, receiptRead};
 ghost use Rattle.txhz_reading.specs.Txhz.{txhz, recordOf, answerOf, numberOf, countOf};
 ghost use Rattle.txhz_reading.specs.declared.Answer.the-variants.{Good, Refused};
+use field::faults::range;
 use number::choosing::choose;
 use number::choosing::none;
 
@@ -172,11 +173,13 @@ fn read_receipt(w: layout::walk::Walk, s: &[u8], held: bool) -> Passed
     Passed { walk: w, receipt }
 }
 
-// A byte of a receipt.
+// A byte of a receipt: that which the walk's bit lies in. Receipts stand at whole bytes, and so the compiler knows it.
 fn read_slot(w: layout::walk::Walk, s: &[u8], held: bool, most: u64) -> layout::walk::Walk
     ensures { λ r. ⌜ (r ≡ slotRead (now (s .entry)) held most w) × (r .v < 2 ^ 8) ⌝ }
 {
-    w.number(s, 8, held, 0, top(held, most), fault(held))
+    let at = w.at / 8 * 8;
+    let wrong = range(s, at, 8, 0, top(held, most), fault(held));
+    w.on(8, held, bits::get(s, at, 8), wrong, 0)
 }
 
 fn top(held: bool, most: u64) -> u64

@@ -86,11 +86,11 @@ returns-2 c =
     let r0 = head-read letters 35 35 _ s (a .code) (c0 .head .ensures .0) in
     let r1 = step-num 24 (lit< tt) (lit≤ tt) (lit< tt) 0 2_097_151 r0 (c1 .num .ensures .0) in
     let r2 = step-num 8 (lit< tt) (lit≤ tt) (lit< tt) 0 5 r1 (c2 .num2 .ensures .0) in
-    let r3 = receipt-read 0 _ (lit< tt) refl r2 (c3 .read-receipt .ensures) in
-    let r4 = receipt-read 1 _ (lit< tt) refl r3 (c4 .read-receipt2 .ensures) in
-    let r5 = receipt-read 2 _ (lit< tt) refl r4 (c5 .read-receipt3 .ensures) in
-    let r6 = receipt-read 3 _ (lit< tt) refl r5 (c6 .read-receipt4 .ensures) in
-    let r7 = receipt-read 4 _ (lit< tt) refl r6 (c7 .read-receipt5 .ensures) in
+    let r3 = receipt-read 0 _ (lit< tt) refl refl r2 (c3 .read-receipt .ensures) in
+    let r4 = receipt-read 1 _ (lit< tt) refl refl r3 (c4 .read-receipt2 .ensures) in
+    let r5 = receipt-read 2 _ (lit< tt) refl refl r4 (c5 .read-receipt3 .ensures) in
+    let r6 = receipt-read 3 _ (lit< tt) refl refl r5 (c6 .read-receipt4 .ensures) in
+    let r7 = receipt-read 4 _ (lit< tt) refl refl r6 (c7 .read-receipt5 .ensures) in
     let w = finish (lit< tt) r7 (ended .end .ensures) in
     c .told .ensures ∙ told-so Good Refused recordOf _ _ (ended .end .result .code) (ended .end .result .place) (w .so)
     ∙ sym (ap (λ o. answerOf (also recordOf o)) (exact-fields txhz 34 (a .code) s (λ z. test .if1 .left)))

@@ -2,7 +2,7 @@
 use mathlib.Core.Path.{_≡_, refl, ap, _∙_, subst⁻¹}
 use mathlib.Core.Bool.{Bool, true, false, cond, _&&_}
 use mathlib.Core.List.{List, _∷_}
-use Prim.Native.Nat.{ℕ, suc, _+_, _*_, _<_, _^_}
+use Prim.Native.Nat.{ℕ, suc, _+_, _*_, _/_, _%_, _<_, _^_}
 use native.Mathlib.Omega.{arith}
 use lib.Dec.{leb, lit<, lit≤}
 use lib.ListN.{length}
@@ -42,29 +42,30 @@ behind k a b c h held is =
 -- ---- read
 
 module _ {o : Out (List ℕ)} {all : Fmt} {i : ℕ} {s : List ℕ} {f : Fmt} where
-  slot-read : {h : List ℕ} {at : ℕ} {vs : List ℕ → List ℕ} {r g : Walk} (k back most : ℕ) (held : Bool) → at + 8 < 2 ^ 64 → held ≡ counted k back h
+  slot-read : {h : List ℕ} {at : ℕ} {vs : List ℕ → List ℕ} {r g : Walk} (k back most : ℕ) (held : Bool) → at + 8 < 2 ^ 64 → at % 8 ≡ 0 → held ≡ counted k back h
       → Reading o all i s (slot k back most f) h at vs r → g ≡ slotRead s held most r → Reading o all i s f (g .v ∷ h) (at + 8) (λ l. vs (g .v ∷ l)) g
   unfolding onward
-  slot-read {h} {at} {vs} {r} k back most held reach is e d =
+  slot-read {h} {at} {vs} {r} k back most held reach whole is e d =
+      let here : r .at / 8 * 8 ≡ at = omega (arith, e .here, whole) in
       subst⁻¹ (λ g. Reading o all i s f (g .v ∷ h) (at + 8) (λ l. vs (g .v ∷ l)) g)
-      (d ∙ ap (λ x. slotRead s x most r) is ∙ same (counted k back h) ∙ ap (λ a. onward 8 (counted k back h) (got s a 8) (cond (within (length s) a 8) (faultOf (counted k back h) most (got s a 8)) 1) 0 r) (e .here))
+      (d ∙ ap (λ x. slotRead s x most r) is ∙ same (counted k back h) ∙ ap (λ a. onward 8 (counted k back h) (got s a 8) (cond (within (length s) a 8) (faultOf (counted k back h) most (got s a 8)) 1) 0 r) here)
       (step (got s at 8) e (tested s at 8 _ h (slot-tells (counted k back h) most h) reach (λ l. lit< tt) (lit≤ tt) (counted k back h) (λ e. lit< tt)))
     where
-      same : (x : Bool) → slotRead s x most r ≡ onward 8 x (got s (r .at) 8) (cond (within (length s) (r .at) 8) (faultOf x most (got s (r .at) 8)) 1) 0 r
+      same : (x : Bool) → let p = r .at / 8 * 8 in slotRead s x most r ≡ onward 8 x (got s p 8) (cond (within (length s) p 8) (faultOf x most (got s p 8)) 1) 0 r
       same true = refl
       same false = refl
 
-pub receipt-read : {o : Out (List ℕ)} {all : Fmt} {i : ℕ} {s : List ℕ} {f : Fmt} {h : List ℕ} {at : ℕ} {vs : List ℕ → List ℕ} {r : Walk} {g : Passed} (k : ℕ) (held : Bool) → at + 32 < 2 ^ 64 → held ≡ counted k (4 * k) h
+pub receipt-read : {o : Out (List ℕ)} {all : Fmt} {i : ℕ} {s : List ℕ} {f : Fmt} {h : List ℕ} {at : ℕ} {vs : List ℕ → List ℕ} {r : Walk} {g : Passed} (k : ℕ) (held : Bool) → at + 32 < 2 ^ 64 → at % 8 ≡ 0 → held ≡ counted k (4 * k) h
     → Reading o all i s (receipt k f) h at vs r → g ≡ receiptRead s held r
     → let t = g .receipt in Reading o all i s f (t .«receipt_minute» ∷ t .«receipt_hour» ∷ t .«sent_minute» ∷ t .«sent_hour» ∷ h) (at + 8 + 8 + 8 + 8) (λ l. vs (times t l)) (g .walk)
 unfolding receiptRead
-receipt-read {o} {all} {i} {s} {f} {h} {at} {vs} {r} k held reach is e d =
+receipt-read {o} {all} {i} {s} {f} {h} {at} {vs} {r} k held reach whole is e d =
     let t = receiptRead s held r .receipt in
     let (is1, is2, is3) = behind k (t .«sent_hour») (t .«sent_minute») (t .«receipt_hour») h held is in
-    let r1 = slot-read k (4 * k) 23 held (omega arith) is e refl in
-    let r2 = slot-read k (4 * k + 1) 59 held (omega arith) is1 r1 refl in
-    let r3 = slot-read k (4 * k + 2) 23 held (omega arith) is2 r2 refl in
-    let r4 = slot-read k (4 * k + 3) 59 held (omega arith) is3 r3 refl in
+    let r1 = slot-read k (4 * k) 23 held (omega arith) whole is e refl in
+    let r2 = slot-read k (4 * k + 1) 59 held (omega arith) (omega (arith, whole)) is1 r1 refl in
+    let r3 = slot-read k (4 * k + 2) 23 held (omega arith) (omega (arith, whole)) is2 r2 refl in
+    let r4 = slot-read k (4 * k + 3) 59 held (omega arith) (omega (arith, whole)) is3 r3 refl in
     subst⁻¹ (λ g. let t = g .receipt in Reading o all i s f (t .«receipt_minute» ∷ t .«receipt_hour» ∷ t .«sent_minute» ∷ t .«sent_hour» ∷ h) (at + 8 + 8 + 8 + 8) (λ l. vs (times t l)) (g .walk)) d r4
 
 -- ---- judged
