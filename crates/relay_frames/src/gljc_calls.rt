@@ -1,4 +1,4 @@
-// The frame GLJC's calls.
+// The frame GLJC: writing and correcting.
 ghost use Rattle.frame_rows.specs.Gljc.{recordOf};
 ghost use Rattle.gljc_reading.specs.Gljc.{gljcs, valuesOf};
 ghost use Rattle.format.specs.Promises.{Writes, Corrects};

@@ -1,4 +1,4 @@
-// The frame TXHZ's calls.
+// The frame TXHZ: writing and correcting.
 ghost use Rattle.txhz_rows.specs.Txhz.{TxhzWrites};
 ghost use Rattle.txhz_reading.specs.Txhz.{txhzs};
 ghost use Rattle.format.specs.Promises.{Corrects};

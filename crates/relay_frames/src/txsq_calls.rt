@@ -1,4 +1,4 @@
-// The frame TXSQ's calls.
+// The frame TXSQ: writing and correcting.
 ghost use Rattle.frame_rows.specs.Txsq.{recordOf};
 ghost use Rattle.txsq_reading.specs.Txsq.{txsqs, valuesOf};
 ghost use Rattle.format.specs.Promises.{Writes, Corrects};

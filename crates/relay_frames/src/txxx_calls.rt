@@ -1,4 +1,4 @@
-// The frame TXXX's calls.
+// The frame TXXX: writing and correcting.
 ghost use Rattle.frame_rows.specs.Txxx.{recordOf};
 ghost use Rattle.txxx_reading.specs.Txxx.{txxxs, valuesOf};
 ghost use Rattle.format.specs.Promises.{Writes, Corrects};

@@ -1,4 +1,4 @@
-// An area's calls: message 6 with application 412/11.
+// An area, message 6 with application 412/11: writing and correcting.
 ghost use Rattle.bits.specs.Bits.{fieldAt};
 ghost use Rattle.area_rows.specs.Area.{recordOf, circleOf, rectangleOf};
 ghost use Rattle.area_reading.specs.Area.{areas, valuesOf};

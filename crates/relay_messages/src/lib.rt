@@ -1,4 +1,4 @@
-// What C and Rust link of the AIS messages: calls over numbers and lent slices. Each one hands on what the family's own call promises.
+// What C and Rust link of the AIS messages but their reading (`relay_reading`): calls over numbers and lent slices. Each one hands on what the family's own call promises.
 ghost use Rattle.slot_rows.specs.Slots.{SlotsTold};
 
 pub mod area_calls;

@@ -1,4 +1,4 @@
-// A warning's calls: message 8 with application 412/03.
+// A warning, message 8 with application 412/03: writing and correcting.
 ghost use Rattle.bits.specs.Bits.{fieldAt};
 ghost use Rattle.warning_rows.specs.Warning.{recordOf, cycloneOf, galeOf, wavesOf, fogOf, surgeOf};
 ghost use Rattle.format.specs.Promises.{Writes, Corrects};

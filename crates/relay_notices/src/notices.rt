@@ -1,4 +1,4 @@
-// The notice's calls. Language 0 is Chinese, 1 English; above that it is 4 before anything else.
+// The notice: writing and correcting. Language 0 is Chinese, 1 English; above that it is 4 before anything else.
 ghost use Rattle.notice_rows.specs.Notice.{recordOf};
 ghost use Rattle.notice_rows.specs.Making.{WritesIn, CorrectsIn};
 use notice_reading::Notice;

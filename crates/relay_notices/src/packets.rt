@@ -1,4 +1,4 @@
-// The packet's calls, and the splitter's.
+// The packet: writing and correcting; the splitter's calls.
 ghost use mathlib.Core.Path.{_≡_};
 ghost use Rattle.packet_rows.specs.Packet.{recordOf};
 ghost use Rattle.packet_rows.specs.Split.{SplitsIn};

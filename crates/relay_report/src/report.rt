@@ -1,4 +1,4 @@
-// The distress report's calls.
+// The distress report: writing and correcting.
 ghost use Rattle.report_rows.specs.Report.{recordOf};
 ghost use Rattle.distress_reading.specs.Report.{reports, valuesOf};
 ghost use Rattle.format.specs.Promises.{Writes, Corrects};
