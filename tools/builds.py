@@ -76,6 +76,13 @@ def parts(path, text):
             done = closing(text, brace)
             found[(module, kind if head.start() < kind_end else "", head[2])] = text[brace:done]
     found[""] += text[done:]
+    # A private constant that one function alone names is a part of that function's body.
+    alone = () if re.search(r"(?m)^(pub )?mod ", text) else re.finditer(r"(?m)^const (\w+): [^=]*= [^;]*;", text)
+    for one in alone:
+        users = [part for part, body in found.items() if part and re.search(rf"\b{one[1]}\b", body)]
+        if len(users) == 1 and len(re.findall(rf"\b{one[1]}\b", found[""])) == 1:
+            found[""] = found[""].replace(one[0], "")
+            found[users[0]] += one[0]
     return {part: re.sub(r"\s+", " ", body).strip() for part, body in found.items()}
 
 
