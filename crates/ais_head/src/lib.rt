@@ -3,9 +3,9 @@ ghost use mathlib.Core.Path.{_≡_};
 ghost use mathlib.Core.Bool.{_&&_};
 ghost use lib.Dec.{eqb, leb};
 ghost use Rattle.ais_head.specs.Lead.{told};
-use number::choosing::both;
-use number::choosing::choose;
-use number::choosing::inside;
+use walk::choosing::both;
+use walk::choosing::choose;
+use walk::choosing::inside;
 
 // The smallest size of a message, in bytes: a shorter one is of no kind.
 pub const SMALLEST: usize = 23;

@@ -2,17 +2,17 @@
 ghost use mathlib.Core.List.{[]};
 ghost use Rattle.format.specs.Fmt.{write as Fmt·write};
 ghost use Rattle.format.specs.laws.Putting.{Puts};
-ghost use Rattle.layout.specs.laws.Judging.{Judged};
+ghost use Rattle.walk.specs.laws.Judging.{Judged};
 ghost use Rattle.area_reading.specs.Area.{area, valuesAs};
 use crate::Area;
 
 // `time` and `second` are the numbers that the record's times spell.
-pub(crate) fn judged(r: Area, time: u64, second: u64) -> layout::walk::Walk
+pub(crate) fn judged(r: Area, time: u64, second: u64) -> walk::walk::Walk
     ensures { λ w. ⌜ Judged (Fmt·write area [] 0 (valuesAs r time second)) w ⌝ }
 {
     let shape = r.shape;
     let kind = shape.kind();
-    let w = layout::walk::Walk::begin(0, 0).fixed(6, crate::MESSAGE);
+    let w = walk::walk::Walk::begin(0, 0).fixed(6, crate::MESSAGE);
     let w = w.value(2, r.repeat as u64, 0, 3);
     let w = w.value(30, r.source as u64, 0, 999_999_999);
     let w = w.value(2, r.sequence as u64, 0, 3);

@@ -6,7 +6,7 @@ use lib.IntN.{pos, negsuc}
 use lib.ListN.{take, set}
 use Rattle.ais_head.specs.Lead.{told}
 use Rattle.bits.specs.Bits.{bit, valueOf, digits, bitsOf, bytesOf, fieldAt}
-use Rattle.number.specs.Sign.{intOf, spellOf}
+use Rattle.walk.specs.Sign.{intOf, spellOf}
 use Rattle.format.specs.Fmt.{accepted, refused, readField, read, writeField, write, spot}
 use Rattle.format.specs.Message.{codeOf, readMessage, writeMessage, correctMessage}
 use Rattle.format.specs.Promises.{readRecord}

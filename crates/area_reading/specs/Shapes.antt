@@ -5,7 +5,7 @@ use mathlib.Core.List.{List, _∷_}
 use lib.Dec.{eqb}
 use lib.IntN.{ℤ}
 use lib.ListN.{getD}
-use Rattle.number.specs.Sign.{intOf, spellOf}
+use Rattle.walk.specs.Sign.{intOf, spellOf}
 use Rattle.format.specs.Fmt.{Fmt}
 use Rattle.format.specs.Words.{_‥_, signed, _▹_, num, fill}
 use Rattle.area_reading.specs.declared.shapes.Shape.{Shape}

@@ -4,10 +4,10 @@ use mathlib.Core.Bool.{true, false}
 use mathlib.Core.List.{List}
 use lib.IntN.{ℤ}
 use Rattle.format.specs.Correcting.{putIn}
-use Rattle.layout.specs.Judging.{valued, signedlyValued}
-use Rattle.layout.specs.Reading.{ranged, blanked, signedly}
-use Rattle.layout.specs.Walk.{onward}
-use Rattle.layout.specs.declared.walk.Walk.{Walk}
+use Rattle.walk.specs.Judging.{valued, signedlyValued}
+use Rattle.walk.specs.Reading.{ranged, blanked, signedly}
+use Rattle.walk.specs.Walk.{onward}
+use Rattle.walk.specs.declared.walk.Walk.{Walk}
 use Rattle.area_reading.specs.Shapes.{Kind, circle, rectangle, spellEast, spellNorth, eastOf, northOf}
 use Rattle.area_reading.specs.declared.shapes.Passed.{Passed}
 use Rattle.area_reading.specs.declared.shapes.Shape.{Shape}

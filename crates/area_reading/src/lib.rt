@@ -8,8 +8,8 @@ ghost use Rattle.area_reading.specs.Area.{area, areas, recordOf, answerO
 ghost use Rattle.area_reading.specs.Promises.{Reads};
 ghost use Rattle.area_reading.specs.declared.Answer.the-variants.{Good, Refused};
 pub use ais_head::AUTHORITY;
-use number::choosing::choose;
-use number::choosing::none;
+use walk::choosing::choose;
+use walk::choosing::none;
 
 pub mod shapes;
 
@@ -132,7 +132,7 @@ pub fn fields(s: &[u8], lead: u8) -> Answer
     if s.len() != Area::LEAST {
         return Answer::Refused(choose(none(lead), format::SIZE, lead));
     }
-    let w = layout::walk::Walk::begin(lead, 0).code(s, 6, MESSAGE);
+    let w = walk::walk::Walk::begin(lead, 0).code(s, 6, MESSAGE);
     let w = w.num(s, 2, 0, 3);
     let repeat = w.v as u8;
     let w = w.num(s, 30, 0, 999_999_999);

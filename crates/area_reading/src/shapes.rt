@@ -2,7 +2,7 @@
 ghost use mathlib.Core.Path.{_≡_};
 ghost use Rattle.area_reading.specs.Shapes.{kindOf, typeOf, shapeKind};
 ghost use Rattle.area_reading.specs.Steps.{eastRead, northRead, circleRead, rectangleRead, shapeRead};
-use layout::walk::Walk;
+use walk::walk::Walk;
 
 // Ten-thousandths of a minute, 108,600,000 and 54,600,000 for none.
 pub struct Circle {
@@ -63,9 +63,9 @@ fn read_circle(s: &[u8], w: Walk) -> Passed
     ensures { λ r. ⌜ r ≡ circleRead (now (s .entry)) w ⌝ }
 {
     let w = read_longitude(s, w);
-    let longitude = number::sign::int(w.v, EAST);
+    let longitude = walk::sign::int(w.v, EAST);
     let w = read_latitude(s, w);
-    let latitude = number::sign::int(w.v, NORTH);
+    let latitude = walk::sign::int(w.v, NORTH);
     let w = w.num(s, 7, 0, 127);
     let radius = w.v as u8;
     let w = w.blank(s, 48);
@@ -84,13 +84,13 @@ fn read_rectangle(s: &[u8], w: Walk) -> Passed
     ensures { λ r. ⌜ r ≡ rectangleRead (now (s .entry)) w ⌝ }
 {
     let w = read_longitude(s, w);
-    let longitude = number::sign::int(w.v, EAST);
+    let longitude = walk::sign::int(w.v, EAST);
     let w = read_latitude(s, w);
-    let latitude = number::sign::int(w.v, NORTH);
+    let latitude = walk::sign::int(w.v, NORTH);
     let w = read_longitude(s, w);
-    let second_longitude = number::sign::int(w.v, EAST);
+    let second_longitude = walk::sign::int(w.v, EAST);
     let w = read_latitude(s, w);
-    let second_latitude = number::sign::int(w.v, NORTH);
+    let second_latitude = walk::sign::int(w.v, NORTH);
     let rectangle = Rectangle {
         longitude,
         latitude,

@@ -5,8 +5,8 @@ use mathlib.Core.List.{List}
 use lib.Dec.{eqb}
 use lib.ListN.{getD}
 use Rattle.format.specs.Correcting.{putIn}
-use Rattle.layout.specs.Judging.{valued}
-use Rattle.layout.specs.declared.walk.Walk.{Walk}
+use Rattle.walk.specs.Judging.{valued}
+use Rattle.walk.specs.declared.walk.Walk.{Walk}
 use Rattle.notice_areas.specs.Areas.{Kind, sea, circle, several, kindOf}
 use Rattle.notice_parts.specs.Parts.{latitudeBits, longitudeBits, pointBits}
 use Rattle.notice_parts.specs.Steps.{latitudeJudged, longitudeJudged}

@@ -6,13 +6,13 @@ ghost use Rattle.areas_making.specs.Making.{pointsJudged, areaJudged, ar
 ghost use Rattle.notice_areas.specs.Row.{longMost};
 ghost use Rattle.notice_areas.specs.Standing.{front, areaMost};
 ghost use Rattle.notice_parts.specs.Steps.{bare};
-use layout::walk::Walk;
 use notice_areas::CIRCLE;
 use notice_areas::FRONT;
 use notice_areas::SEA;
 use notice_parts::LATITUDE;
 use notice_parts::LONGITUDE;
 use notice_parts::POINT;
+use walk::walk::Walk;
 
 // What the four bits of a count can tell: 0 to 15 points.
 const COUNTS: u64 = 16;

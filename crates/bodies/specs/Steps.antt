@@ -3,10 +3,10 @@ use Prim.Native.Nat.{ℕ}
 use mathlib.Core.Bool.{true, false}
 use mathlib.Core.List.{List}
 use Rattle.format.specs.Correcting.{putIn}
-use Rattle.layout.specs.Judging.{valued}
-use Rattle.layout.specs.Reading.{ranged, blanked}
-use Rattle.layout.specs.Walk.{onward}
-use Rattle.layout.specs.declared.walk.Walk.{Walk}
+use Rattle.walk.specs.Judging.{valued}
+use Rattle.walk.specs.Reading.{ranged, blanked}
+use Rattle.walk.specs.Walk.{onward}
+use Rattle.walk.specs.declared.walk.Walk.{Walk}
 use Rattle.bodies.specs.Bodies.{Kind, cyclone, gale, waves, fog, surge}
 use Rattle.bodies.specs.declared.Body.{Body}
 use Rattle.bodies.specs.declared.Body.the-variants.{Cyclone, Gale, Waves, Fog, Surge}

@@ -2,7 +2,7 @@
 ghost use mathlib.Core.Path.{_≡_};
 ghost use Rattle.bodies.specs.Bodies.{kindOf, typeOf, bodyKind};
 ghost use Rattle.bodies.specs.Steps.{cycloneRead, galeRead, wavesRead, fogRead, surgeRead, bodyRead};
-use layout::walk::Walk;
+use walk::walk::Walk;
 
 // A number outside the range that 003 prints for it means none; it is carried.
 pub struct Cyclone {

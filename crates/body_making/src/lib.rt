@@ -8,7 +8,7 @@ use bodies::Fog;
 use bodies::Gale;
 use bodies::Surge;
 use bodies::Waves;
-use layout::walk::Walk;
+use walk::walk::Walk;
 
 pub fn judged(w: Walk, body: Body) -> Walk
     ensures { λ r. ⌜ r ≡ bodyJudged body w ⌝ }

@@ -3,7 +3,7 @@ ghost use mathlib.Core.Bool.{true};
 ghost use mathlib.Core.Path.{_≡_};
 ghost use Rattle.format.specs.Message.{body, firstOf, sealFault};
 ghost use Rattle.format.specs.Sealing.{resealed, stamped};
-use number::choosing::less;
+use walk::choosing::less;
 
 // What the layout lays out: all bytes but the last.
 pub fn inner(s: &[u8]) -> &[u8]

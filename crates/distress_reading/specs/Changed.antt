@@ -5,7 +5,7 @@ use mathlib.Core.List.{List, [], _∷_}
 use lib.Dec.{eqb}
 use lib.ListN.{getD}
 use Rattle.format.specs.Fmt.{Spot, none, found}
-use Rattle.number.specs.Sign.{intOf}
+use Rattle.walk.specs.Sign.{intOf}
 use Rattle.distress_reading.specs.declared.report.Report.{Report}
 
 -- the fields in bit order: where each that may be corrected stands, and its width; the code and the fill may not be

@@ -6,7 +6,7 @@ use lib.IntN.{pos}
 use Rattle.bits.specs.Bits.{bit, valueOf, digits, bytesOf}
 use Rattle.format.specs.Fmt.{accepted, refused, writeField, write}
 use Rattle.format.specs.Message.{writeMessage}
-use Rattle.number.specs.Sign.{spellOf}
+use Rattle.walk.specs.Sign.{spellOf}
 use Rattle.format.specs.Words.{walk}
 use Rattle.distress_reading.specs.Report.{report, reports, valuesOf}
 use Rattle.distress_reading.specs.declared.report.Report.{Report}

@@ -9,10 +9,10 @@ use Rattle.bits.specs.Bits.{fieldAt}
 use Rattle.format.specs.Fmt.{Out, accepted, refused, Fmt, end}
 use Rattle.format.specs.Message.{Layout, led, between, codeOf}
 use Rattle.format.specs.Promises.{answered}
-use Rattle.number.specs.Sign.{intOf, spellOf}
+use Rattle.walk.specs.Sign.{intOf, spellOf}
 use Rattle.format.specs.Words.{_‥_, signed, _▹_, num, code, fill}
 use Rattle.format.specs.laws.Extent.{Plain, span}
-use Rattle.number.specs.laws.Sign.{int-spell}
+use Rattle.walk.specs.laws.Sign.{int-spell}
 use Rattle.distress_reading.specs.declared.report.Report.{Report}
 use Rattle.distress_reading.specs.declared.report.Answer.{Answer}
 use Rattle.distress_reading.specs.declared.report.Answer.the-variants.{Good, Refused}

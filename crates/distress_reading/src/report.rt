@@ -7,8 +7,8 @@ ghost use Rattle.distress_reading.specs.Report.{reports, report, reportO
 ghost use Rattle.distress_reading.specs.Promises.{Reads};
 ghost use Rattle.format.specs.Fmt.{also};
 ghost use Rattle.format.specs.Message.{fieldsOf};
-use number::choosing::choose;
-use number::choosing::none;
+use walk::choosing::choose;
+use walk::choosing::none;
 
 pub struct Report {
     pub mmsi: u32,
@@ -111,13 +111,13 @@ pub fn fields(s: &[u8], lead: u8) -> Answer
     if s.len() != Report::LEAST {
         return Answer::Refused(choose(none(lead), format::SIZE, lead));
     }
-    let w = layout::walk::Walk::begin(lead, 0).code(s, 16, CODE);
+    let w = walk::walk::Walk::begin(lead, 0).code(s, 16, CODE);
     let w = w.num(s, 32, 0, 999_999_999);
     let mmsi = w.v as u32;
     let w = w.signed(s, 25, 10_800_000, 22_754_432, 10_860_000);
-    let longitude = number::sign::int(w.v, 33_554_432);
+    let longitude = walk::sign::int(w.v, 33_554_432);
     let w = w.signed(s, 24, 5_400_000, 11_377_216, 5_460_000);
-    let latitude = number::sign::int(w.v, 16_777_216);
+    let latitude = walk::sign::int(w.v, 16_777_216);
     let w = w.num(s, 5, 0, 31);
     let day = w.v as u8;
     let w = w.num(s, 5, 0, 24);

@@ -3,10 +3,10 @@ use Prim.Native.Nat.{ℕ}
 use mathlib.Core.Bool.{true, false}
 use mathlib.Core.List.{List}
 use Rattle.format.specs.Correcting.{putIn}
-use Rattle.layout.specs.Judging.{valued}
-use Rattle.layout.specs.Reading.{ranged}
-use Rattle.layout.specs.Walk.{begun, onward}
-use Rattle.layout.specs.declared.walk.Walk.{Walk}
+use Rattle.walk.specs.Judging.{valued}
+use Rattle.walk.specs.Reading.{ranged}
+use Rattle.walk.specs.Walk.{begun, onward}
+use Rattle.walk.specs.declared.walk.Walk.{Walk}
 
 -- read behind first tests that answered c, the length from lo to hi
 abbrev pub headed : List ℕ → ℕ → ℕ → ℕ → ℕ → Walk

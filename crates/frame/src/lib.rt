@@ -56,10 +56,10 @@ fn lead(s: &[u8], letters: u64, least: usize, most: usize) -> u8
 }
 
 // The walk over the head, behind the first tests' answer: it ends with the own address as its value.
-pub fn head(s: &[u8], code: u8, letters: u64, least: u64, most: u64) -> layout::walk::Walk
+pub fn head(s: &[u8], code: u8, letters: u64, least: u64, most: u64) -> walk::walk::Walk
     ensures { λ r. ⌜ (r ≡ headed (now (s .entry)) code letters least most) × (r .v < 2 ^ 24) ⌝ }
 {
-    let w = layout::walk::Walk::begin(code, 0);
+    let w = walk::walk::Walk::begin(code, 0);
     let w = w.code(s, 8, DOLLAR);
     let w = w.code(s, 32, letters);
     let w = w.number(s, 16, false, least, most, format::SIZE);
@@ -78,10 +78,10 @@ pub fn declared(fixed: u8, content: usize) -> u64
 }
 
 // The head of a record's frame, judged.
-pub fn judged(letters: u64, length: u64, address: u64) -> layout::walk::Walk
+pub fn judged(letters: u64, length: u64, address: u64) -> walk::walk::Walk
     ensures { λ r. ⌜ r ≡ headJudged letters length address ⌝ }
 {
-    let w = layout::walk::Walk::begin(0, 0);
+    let w = walk::walk::Walk::begin(0, 0);
     let w = w.fixed(8, DOLLAR);
     let w = w.fixed(32, letters);
     let w = w.fixed(16, length);

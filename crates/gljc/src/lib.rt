@@ -2,7 +2,7 @@
 ghost use mathlib.Core.List.{[]};
 ghost use Rattle.format.specs.Fmt.{write as Fmt·write};
 ghost use Rattle.format.specs.Promises.{Writes};
-ghost use Rattle.layout.specs.laws.Judging.{Judged};
+ghost use Rattle.walk.specs.laws.Judging.{Judged};
 ghost use Rattle.format.specs.laws.Putting.{Puts};
 ghost use Rattle.gljc_reading.specs.Gljc.{gljc, gljcs, valuesOf};
 pub use gljc_correcting::correct;
@@ -27,7 +27,7 @@ pub fn write(buf: &mut [u8], r: Gljc) -> u8
     0
 }
 
-fn judged(r: Gljc) -> layout::walk::Walk
+fn judged(r: Gljc) -> walk::walk::Walk
     ensures { λ w. ⌜ Judged (Fmt·write gljc [] 0 (valuesOf r)) w ⌝ }
 {
     let w = frame::judged(LETTERS, LENGTH, r.address as u64);

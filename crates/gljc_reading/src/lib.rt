@@ -7,8 +7,8 @@ ghost use Rattle.format.specs.Message.{fieldsOf};
 ghost use Rattle.gljc_reading.specs.Gljc.{gljc, recordOf, answerOf, numberOf};
 ghost use Rattle.gljc_reading.specs.Promises.{Reads};
 ghost use Rattle.gljc_reading.specs.declared.Answer.the-variants.{Good, Refused};
-use number::choosing::choose;
-use number::choosing::none;
+use walk::choosing::choose;
+use walk::choosing::none;
 
 pub struct Gljc {
     pub address: u32,

@@ -7,9 +7,9 @@ use lib.ListN.{length}
 use Rattle.bits.specs.Bits.{Bytes}
 use Rattle.format.specs.Fmt.{accepted, write}
 use Rattle.format.specs.laws.Putting.{Putting, Puts}
-use Rattle.layout.specs.Judging.{beyond}
-use Rattle.layout.specs.laws.Judging.{Judging, Judged}
-use Rattle.layout.specs.declared.walk.Walk.{Walk}
+use Rattle.walk.specs.Judging.{beyond}
+use Rattle.walk.specs.laws.Judging.{Judging, Judged}
+use Rattle.walk.specs.declared.walk.Walk.{Walk}
 use Rattle.areas_making.specs.declared.Stepped.{Stepped}
 use Rattle.notice_areas.specs.Row.{areasLong}
 use Rattle.notice_areas.specs.Standing.{front}

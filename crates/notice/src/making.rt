@@ -4,9 +4,9 @@ ghost use lib.ListN.{length};
 ghost use Rattle.packet_reading.specs.Packet.{joined};
 ghost use Rattle.notice.specs.Making.{HeadJudged, NoticeJudged, HeadPut, NoticePut};
 use areas_making::Stepped;
-use layout::walk::Walk;
 use notice_reading::Notice;
-use number::choosing::choose;
+use walk::choosing::choose;
+use walk::walk::Walk;
 
 // The values in bit order, the text by itself, and how many numbers of the row were asked for.
 pub(crate) fn judged(r: Notice, areas: &[u32], text: &[u8], english: bool) -> Stepped

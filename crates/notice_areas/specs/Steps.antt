@@ -3,8 +3,8 @@ use Prim.Native.Nat.{ℕ, zero, suc}
 use mathlib.Core.Bool.{true, false, cond}
 use mathlib.Core.List.{List}
 use lib.Dec.{eqb}
-use Rattle.layout.specs.Reading.{ranged}
-use Rattle.layout.specs.declared.walk.Walk.{Walk}
+use Rattle.walk.specs.Reading.{ranged}
+use Rattle.walk.specs.declared.walk.Walk.{Walk}
 use Rattle.notice_parts.specs.Steps.{latitudeRead, longitudeRead}
 use Rattle.notice_areas.specs.Areas.{Kind, sea, circle, several, kindOf}
 use Rattle.notice_areas.specs.declared.Opened.{Opened}

@@ -2,7 +2,7 @@
 ghost use mathlib.Core.Path.{_≡_};
 ghost use Rattle.notice_areas.specs.Areas.{leastOf, kindOf};
 ghost use Rattle.notice_areas.specs.Steps.{openedAs, closedAs, areasWalked};
-use layout::walk::Walk;
+use walk::walk::Walk;
 
 // The kinds of area whose number decides what they hold; all others are counted points.
 pub const SEA: u64 = 0;

@@ -4,10 +4,10 @@ use mathlib.Core.Bool.{false, _||_, cond}
 use mathlib.Core.List.{List}
 use lib.Dec.{eqb}
 use Rattle.bits.specs.Answers.{got}
-use Rattle.pieces.specs.Pieces.{unpieced, pieced, unlessZero}
-use Rattle.layout.specs.Reading.{parted, judgedAs, partwise}
-use Rattle.pieces.specs.declared.Pieces.{Pieces}
-use Rattle.layout.specs.declared.walk.Walk.{Walk}
+use Rattle.walk.specs.Pieces.{unpieced, pieced, unlessZero}
+use Rattle.walk.specs.Reading.{parted, judgedAs, partwise}
+use Rattle.walk.specs.declared.pieces.Pieces.{Pieces}
+use Rattle.walk.specs.declared.walk.Walk.{Walk}
 use Rattle.notice_parts.specs.Parts.{latitudeBits, longitudeBits}
 
 -- the subtypes of the type t: from the least to the most

@@ -3,8 +3,8 @@ ghost use mathlib.Core.Path.{_≡_};
 ghost use Prim.Native.Nat.{_^_, _<_};
 ghost use Rattle.notice_parts.specs.Parts.{latitudeBits, longitudeBits};
 ghost use Rattle.notice_parts.specs.Steps.{leastSubtype, mostSubtype, momentRead, expiryRead, bare, angleParted, latitudeRead, longitudeRead, expiryJudged, angleJudged, latitudeJudged, longitudeJudged};
-use layout::walk::Walk;
-use pieces::Pieces;
+use walk::pieces::Pieces;
+use walk::walk::Walk;
 
 // The bits of each.
 pub const EXPIRY: usize = 21;

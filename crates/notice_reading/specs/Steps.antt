@@ -6,11 +6,11 @@ use lib.Dec.{eqb}
 use lib.ListN.{length}
 use Rattle.bits.specs.Answers.{spanned}
 use Rattle.bits.specs.Bits.{bitsOf, bytesAt}
-use Rattle.field.specs.Faults.{wholly}
+use Rattle.walk.specs.Faults.{wholly}
 use Rattle.format.specs.Fmt.{Out, read}
-use Rattle.layout.specs.Reading.{ranged, ended}
-use Rattle.layout.specs.Walk.{begun, onward}
-use Rattle.layout.specs.declared.walk.Walk.{Walk}
+use Rattle.walk.specs.Reading.{ranged, ended}
+use Rattle.walk.specs.Walk.{begun, onward}
+use Rattle.walk.specs.declared.walk.Walk.{Walk}
 use Rattle.notice_areas.specs.Steps.{areasWalked}
 use Rattle.notice_parts.specs.Steps.{leastSubtype, mostSubtype, expiryRead}
 use Rattle.text.specs.Text.{inLanguage}

@@ -7,8 +7,8 @@ ghost use Rattle.notice_reading.specs.Notice.{notices, sizes};
 ghost use Rattle.notice_reading.specs.Promises.{Reads, numberOf};
 ghost use Rattle.notice_reading.specs.Steps.{openingOf, endingOf, unreadBy, courseOf};
 ghost use Rattle.packet_reading.specs.Packet.{joined};
-use layout::walk::Walk;
-use number::choosing::choose;
+use walk::choosing::choose;
+use walk::walk::Walk;
 
 // The numbers of its areas stand beside the record in a row, one area behind another, and its text in a buffer: both are lent.
 pub struct Notice {

@@ -9,15 +9,15 @@ ghost use mathlib.Core.List.{List, []};
 ghost use lib.ListN.{length};
 ghost use Rattle.format.specs.Fmt.{write};
 ghost use Rattle.format.specs.laws.Putting.{Puts};
-ghost use Rattle.layout.specs.Judging.{beyond};
-ghost use Rattle.layout.specs.laws.Judging.{Judged};
+ghost use Rattle.walk.specs.Judging.{beyond};
+ghost use Rattle.walk.specs.laws.Judging.{Judged};
 ghost use Rattle.packet_reading.specs.Packet.{packet, valuesOf};
 
 // The head's values judged in bit order, whatever content follows.
-pub(crate) fn judged(r: Packet) -> layout::walk::Walk
+pub(crate) fn judged(r: Packet) -> walk::walk::Walk
     ensures { λ w. ⌜ ((c : List ℕ) → Judged (write packet [] 0 (valuesOf (r, c))) (beyond (length c * 8) 0 w)) ⌝ }
 {
-    let w = layout::walk::Walk::begin(0, 0);
+    let w = walk::walk::Walk::begin(0, 0);
     let w = w.fixed(8, CODE);
     let w = w.fixed(3, VERSION);
     let w = w.value(1, r.language as u64, 0, 1);

@@ -8,8 +8,8 @@ ghost use Rattle.format.specs.Message.{fieldsOf};
 ghost use Rattle.packet_reading.specs.Packet.{greatest, packet, packets, recordOf, answerOf, numberOf};
 ghost use Rattle.packet_reading.specs.Promises.{Reads, Shows};
 ghost use Rattle.packet_reading.specs.declared.Answer.the-variants.{Good, Refused};
-use number::choosing::choose;
-use number::choosing::none;
+use walk::choosing::choose;
+use walk::choosing::none;
 
 // The content stands beside the record: in the packet that was read, or lent to be written.
 pub struct Packet {
@@ -131,7 +131,7 @@ pub fn fields(s: &[u8], lead: u8) -> Answer
         return Answer::Refused(other);
     }
     let content = (s.len() - Packet::CONTENT) as u32 * 8;
-    let w = layout::walk::Walk::begin(lead, 0)
+    let w = walk::walk::Walk::begin(lead, 0)
         .code(s, 8, CODE)
         .code(s, 3, VERSION);
     let w = w.num(s, 1, 0, 1);

@@ -7,7 +7,7 @@ use area_reading::shapes::EAST;
 use area_reading::shapes::NORTH;
 use area_reading::shapes::Rectangle;
 use area_reading::shapes::Shape;
-use layout::walk::Walk;
+use walk::walk::Walk;
 
 pub fn judged(w: Walk, shape: Shape) -> Walk
     ensures { λ r. ⌜ r ≡ shapeJudged shape w ⌝ }
@@ -41,8 +41,8 @@ fn judged_rectangle(w: Walk, b: Rectangle) -> Walk
 fn judged_point(w: Walk, longitude: i32, latitude: i32) -> Walk
     ensures { λ r. ⌜ r ≡ pointJudged longitude latitude w ⌝ }
 {
-    let east = number::sign::spelled(longitude, EAST);
-    let north = number::sign::spelled(latitude, NORTH);
+    let east = walk::sign::spelled(longitude, EAST);
+    let north = walk::sign::spelled(latitude, NORTH);
     let w = w.signed_value(28, east, EAST, 108_000_000, 160_435_456, 108_600_000);
     w.signed_value(27, north, NORTH, 54_000_000, 80_217_728, 54_600_000)
 }
@@ -61,8 +61,8 @@ fn put_circle(buf: &mut [u8], b: Circle)
 {
     let east = b.longitude;
     let north = b.latitude;
-    let longitude = number::sign::spelled(east, EAST);
-    let latitude = number::sign::spelled(north, NORTH);
+    let longitude = walk::sign::spelled(east, EAST);
+    let latitude = walk::sign::spelled(north, NORTH);
     bits::put(buf, 94, 28, longitude);
     bits::put(buf, 122, 27, latitude);
     bits::put(buf, 149, 7, b.radius as u64);
@@ -77,10 +77,10 @@ fn put_rectangle(buf: &mut [u8], b: Rectangle)
     let north = b.latitude;
     let second_east = b.second_longitude;
     let second_north = b.second_latitude;
-    let longitude = number::sign::spelled(east, EAST);
-    let latitude = number::sign::spelled(north, NORTH);
-    let second_longitude = number::sign::spelled(second_east, EAST);
-    let second_latitude = number::sign::spelled(second_north, NORTH);
+    let longitude = walk::sign::spelled(east, EAST);
+    let latitude = walk::sign::spelled(north, NORTH);
+    let second_longitude = walk::sign::spelled(second_east, EAST);
+    let second_latitude = walk::sign::spelled(second_north, NORTH);
     bits::put(buf, 94, 28, longitude);
     bits::put(buf, 122, 27, latitude);
     bits::put(buf, 149, 28, second_longitude);

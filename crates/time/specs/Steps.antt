@@ -2,10 +2,10 @@
 use Prim.Native.Nat.{ℕ}
 use mathlib.Core.List.{List}
 use Rattle.bits.specs.Answers.{got}
-use Rattle.pieces.specs.Pieces.{unpieced, pieced}
-use Rattle.layout.specs.Reading.{judgedAs}
-use Rattle.pieces.specs.declared.Pieces.{Pieces}
-use Rattle.layout.specs.declared.walk.Walk.{Walk}
+use Rattle.walk.specs.Pieces.{unpieced, pieced}
+use Rattle.walk.specs.Reading.{judgedAs}
+use Rattle.walk.specs.declared.pieces.Pieces.{Pieces}
+use Rattle.walk.specs.declared.walk.Walk.{Walk}
 
 abbrev pub datePieced : Pieces → Pieces
 datePieced g = pieced 5 0 23 (pieced 5 0 31 (pieced 4 0 12 g))

@@ -3,8 +3,8 @@ ghost use mathlib.Core.Path.{_≡_};
 ghost use Prim.Native.Nat.{_^_, _<_};
 ghost use Rattle.time.specs.Time.{spellTime, timeOf, spellShort, shortOf};
 ghost use Rattle.time.specs.Steps.{timeRead, shortRead, datePieced, timeJudged, shortJudged};
-use layout::walk::Walk;
-use pieces::Pieces;
+use walk::pieces::Pieces;
+use walk::walk::Walk;
 
 // 0 for a month or a day that is not needed.
 pub struct Time {

@@ -4,7 +4,7 @@ ghost use mathlib.Core.List.{[]};
 ghost use Prim.Native.Nat.{_<_};
 ghost use Rattle.format.specs.Fmt.{write as Fmt·write};
 ghost use Rattle.format.specs.Promises.{Writes};
-ghost use Rattle.layout.specs.laws.Judging.{Judged};
+ghost use Rattle.walk.specs.laws.Judging.{Judged};
 ghost use Rattle.format.specs.laws.Putting.{Puts};
 ghost use Rattle.txhz_reading.specs.Steps.{slotJudged, receiptJudged, receiptPut};
 ghost use Rattle.txhz_reading.specs.Txhz.{txhz, txhzs, valuesOf};
@@ -32,7 +32,7 @@ pub fn write(buf: &mut [u8], r: Txhz) -> u8
     0
 }
 
-fn judged(r: Txhz) -> layout::walk::Walk
+fn judged(r: Txhz) -> walk::walk::Walk
     ensures { λ w. ⌜ Judged (Fmt·write txhz [] 0 (valuesOf r)) w ⌝ }
 {
     let count = r.count;
@@ -47,7 +47,7 @@ fn judged(r: Txhz) -> layout::walk::Walk
 }
 
 // A receipt, which is kept fill where it is not held.
-fn judge_receipt(w: layout::walk::Walk, t: Receipt, held: bool) -> layout::walk::Walk
+fn judge_receipt(w: walk::walk::Walk, t: Receipt, held: bool) -> walk::walk::Walk
     ensures { λ r. ⌜ r ≡ receiptJudged held t w ⌝ }
 {
     let w = judge_slot(w, t.sent_hour, held, frame::HOUR);
@@ -57,7 +57,7 @@ fn judge_receipt(w: layout::walk::Walk, t: Receipt, held: bool) -> layout::walk:
 }
 
 // A byte of a receipt.
-fn judge_slot(w: layout::walk::Walk, v: u8, held: bool, most: u64) -> layout::walk::Walk
+fn judge_slot(w: walk::walk::Walk, v: u8, held: bool, most: u64) -> walk::walk::Walk
     ensures { λ r. ⌜ r ≡ slotJudged held v most w ⌝ }
 {
     if held {

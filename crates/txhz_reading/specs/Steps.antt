@@ -4,11 +4,11 @@ use mathlib.Core.Bool.{Bool, cond}
 use mathlib.Core.List.{List, [], _∷_}
 use lib.Dec.{ltb}
 use Rattle.bits.specs.Answers.{got}
-use Rattle.field.specs.Faults.{ranging}
+use Rattle.walk.specs.Faults.{ranging}
 use Rattle.format.specs.Correcting.{putIn}
-use Rattle.layout.specs.Judging.{valued, filled}
-use Rattle.layout.specs.Walk.{onward}
-use Rattle.layout.specs.declared.walk.Walk.{Walk}
+use Rattle.walk.specs.Judging.{valued, filled}
+use Rattle.walk.specs.Walk.{onward}
+use Rattle.walk.specs.declared.walk.Walk.{Walk}
 use Rattle.txhz_reading.specs.declared.Passed.{Passed}
 use Rattle.txhz_reading.specs.declared.Receipt.{Receipt}
 

@@ -9,9 +9,9 @@ ghost use Rattle.txhz_reading.specs.Promises.{Reads};
 ghost use Rattle.txhz_reading.specs.Steps.{slotRead, receiptRead};
 ghost use Rattle.txhz_reading.specs.Txhz.{txhz, recordOf, answerOf, numberOf, countOf};
 ghost use Rattle.txhz_reading.specs.declared.Answer.the-variants.{Good, Refused};
-use field::faults::range;
-use number::choosing::choose;
-use number::choosing::none;
+use walk::choosing::choose;
+use walk::choosing::none;
+use walk::faults::range;
 
 pub struct Receipt {
     pub sent_hour: u8,
@@ -148,12 +148,12 @@ pub fn fields(s: &[u8], code: u8) -> Answer
 
 // A receipt, and the walk past it.
 struct Passed {
-    walk: layout::walk::Walk,
+    walk: walk::walk::Walk,
     receipt: Receipt,
 }
 
 // A receipt, which is fill where it is not held.
-fn read_receipt(w: layout::walk::Walk, s: &[u8], held: bool) -> Passed
+fn read_receipt(w: walk::walk::Walk, s: &[u8], held: bool) -> Passed
     ensures { λ r. ⌜ r ≡ receiptRead (now (s .entry)) held w ⌝ }
 {
     let w = read_slot(w, s, held, frame::HOUR);
@@ -174,7 +174,7 @@ fn read_receipt(w: layout::walk::Walk, s: &[u8], held: bool) -> Passed
 }
 
 // A byte of a receipt: that which the walk's bit lies in. Receipts stand at whole bytes, and so the compiler knows it.
-fn read_slot(w: layout::walk::Walk, s: &[u8], held: bool, most: u64) -> layout::walk::Walk
+fn read_slot(w: walk::walk::Walk, s: &[u8], held: bool, most: u64) -> walk::walk::Walk
     ensures { λ r. ⌜ (r ≡ slotRead (now (s .entry)) held most w) × (r .v < 2 ^ 8) ⌝ }
 {
     let at = w.at / 8 * 8;

@@ -6,11 +6,11 @@ use txsq_reading::allowed;
 use txsq_reading::limit;
 ghost use mathlib.Core.List.{[]};
 ghost use Rattle.format.specs.Fmt.{write};
-ghost use Rattle.layout.specs.laws.Judging.{Judged};
+ghost use Rattle.walk.specs.laws.Judging.{Judged};
 ghost use Rattle.format.specs.laws.Putting.{Puts};
 ghost use Rattle.txsq_reading.specs.Txsq.{txsq, valuesOf};
 
-pub(crate) fn judged(r: Txsq, content: &[u8]) -> layout::walk::Walk
+pub(crate) fn judged(r: Txsq, content: &[u8]) -> walk::walk::Walk
     ensures { λ w. ⌜ Judged (write txsq [] 0 (valuesOf (r, now (content .entry)))) w ⌝ }
 {
     let length = frame::declared(18, content.len());

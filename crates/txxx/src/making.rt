@@ -4,11 +4,11 @@ use txxx_reading::Txxx;
 use txxx_reading::limit;
 ghost use mathlib.Core.List.{[]};
 ghost use Rattle.format.specs.Fmt.{write};
-ghost use Rattle.layout.specs.laws.Judging.{Judged};
+ghost use Rattle.walk.specs.laws.Judging.{Judged};
 ghost use Rattle.format.specs.laws.Putting.{Puts};
 ghost use Rattle.txxx_reading.specs.Txxx.{txxx, valuesOf};
 
-pub(crate) fn judged(r: Txxx, content: &[u8]) -> layout::walk::Walk
+pub(crate) fn judged(r: Txxx, content: &[u8]) -> walk::walk::Walk
     ensures { λ w. ⌜ Judged (write txxx [] 0 (valuesOf (r, now (content .entry)))) w ⌝ }
 {
     let length = frame::declared(20, content.len());

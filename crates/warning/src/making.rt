@@ -2,17 +2,17 @@
 ghost use mathlib.Core.List.{[]};
 ghost use Rattle.format.specs.Fmt.{write as Fmt·write};
 ghost use Rattle.format.specs.laws.Putting.{Puts};
-ghost use Rattle.layout.specs.laws.Judging.{Judged};
+ghost use Rattle.walk.specs.laws.Judging.{Judged};
 ghost use Rattle.warning_reading.specs.Warning.{warning, valuesAs};
 use crate::Warning;
 
 // `time` is the number that the record's time spells.
-pub(crate) fn judged(r: Warning, time: u64) -> layout::walk::Walk
+pub(crate) fn judged(r: Warning, time: u64) -> walk::walk::Walk
     ensures { λ w. ⌜ Judged (Fmt·write warning [] 0 (valuesAs r time)) w ⌝ }
 {
     let body = r.body;
     let kind = body.kind();
-    let w = layout::walk::Walk::begin(0, 0).fixed(6, crate::MESSAGE);
+    let w = walk::walk::Walk::begin(0, 0).fixed(6, crate::MESSAGE);
     let w = w.value(2, r.repeat as u64, 0, 3);
     let w = w.value(30, r.source as u64, 0, 999_999_999);
     let w = w.fixed(2, 0)

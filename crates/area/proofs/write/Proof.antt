@@ -1,7 +1,7 @@
 -- `write` answers as the walk over the values, the size made and the room decide.
 use mathlib.Core.Path.{refl, ap₂, subst}
 use Rattle.format.specs.Promises.{Writes}
-use Rattle.layout.specs.laws.Making.{write-refused, write-bare}
+use Rattle.walk.specs.laws.Making.{write-refused, write-bare}
 use Rattle.area_reading.specs.Area.{areas, valuesAs}
 use borrow.Author.Needs.{needs}
 use Rattle.area.proofs.write.Statement.{statement}

@@ -8,8 +8,8 @@ use Rattle.format.specs.Words.{_‥_}
 use Rattle.format.specs.laws.Answers.{told-so}
 use native.Mathlib.Omega.{arith}
 use Rattle.format.specs.laws.Lead.{exact-fields, other-size}
-use Rattle.layout.specs.laws.Reading.{start, step-code, step-num, step-decide, step-fill}
-use Rattle.layout.specs.laws.Walked.{finish}
+use Rattle.walk.specs.laws.Reading.{start, step-code, step-num, step-decide, step-fill}
+use Rattle.walk.specs.laws.Walked.{finish}
 use Rattle.time.specs.laws.Walking.{time-read, short-read}
 use Rattle.area_reading.specs.Area.{area, recordOf, answerOf}
 use Rattle.area_reading.specs.Shapes.{kindOf, shapeKind}

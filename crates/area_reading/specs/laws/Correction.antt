@@ -6,7 +6,7 @@ use Prim.Native.Nat.{ℕ, _≤_, _<_, _^_}
 use lib.Dec.{eqb, lit≤}
 use lib.IntN.{ℤ}
 use lib.ListN.{length, getD, set}
-use Rattle.number.specs.laws.Sign.{spell-int}
+use Rattle.walk.specs.laws.Sign.{spell-int}
 use Rattle.format.specs.Correcting.{standing, ofKind}
 use Rattle.format.specs.Fmt.{none, found, spot}
 use Rattle.format.specs.Words.{wide}

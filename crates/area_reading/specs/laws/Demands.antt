@@ -10,7 +10,7 @@ use borrow.Author.Tests.{eqb-true, eqb-false}
 use Rattle.bits.specs.Answers.{got}
 use Rattle.bits.specs.Bits.{Bytes, fieldAt}
 use Rattle.bits.specs.laws.Answers.{got-fits}
-use Rattle.number.specs.laws.Sign.{spell-int}
+use Rattle.walk.specs.laws.Sign.{spell-int}
 use Rattle.format.specs.Correcting.{standing, ofKind}
 use Rattle.format.specs.Fmt.{accepted, end, found, spot}
 use Rattle.format.specs.Message.{codeOf, leaves}

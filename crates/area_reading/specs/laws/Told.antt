@@ -3,7 +3,7 @@ use mathlib.Core.Path.{_≡_, refl, ap, _∙_}
 use mathlib.Core.List.{List, [], _∷_}
 use Prim.Native.Nat.{ℕ, _^_}
 use lib.Dec.{lit≤}
-use Rattle.number.specs.laws.Sign.{int-spell}
+use Rattle.walk.specs.laws.Sign.{int-spell}
 use Rattle.time.specs.Time.{timeOf, shortOf}
 use Rattle.area_reading.specs.Area.{recordOf}
 use Rattle.area_reading.specs.Shapes.{Kind, circle, rectangle, kindOf, typeOf, shapeKind, shapeValues, shapeOf}

@@ -5,18 +5,18 @@ use mathlib.Core.List.{List, _∷_}
 use Prim.Native.Nat.{ℕ, _+_, _<_, _^_}
 use lib.Dec.{lit<, lit≤}
 use lib.IntN.{ℤ}
-use Rattle.number.specs.laws.Sign.{spell-int}
+use Rattle.walk.specs.laws.Sign.{spell-int}
 use Rattle.format.specs.Fmt.{Out, Fmt, choice}
 use Rattle.format.specs.Words.{_‥_, only}
 use Rattle.format.specs.laws.Extent.{opens-field, opens-choice}
 use Rattle.format.specs.laws.Putting.{Putting, put-number, put-pair}
 use Rattle.format.specs.laws.Tells.{wrong-narrow}
 use Rattle.format.specs.laws.Zero.{Judged, only-numbered}
-use Rattle.layout.specs.Walk.{onward}
-use Rattle.layout.specs.laws.Judging.{Judging, judge, judge-num, judge-signed, judge-fixed}
-use Rattle.layout.specs.laws.Reading.{step-num, step-signed, step-blank, got-lt}
-use Rattle.layout.specs.laws.Step.{Reading}
-use Rattle.layout.specs.declared.walk.Walk.{Walk}
+use Rattle.walk.specs.Walk.{onward}
+use Rattle.walk.specs.laws.Judging.{Judging, judge, judge-num, judge-signed, judge-fixed}
+use Rattle.walk.specs.laws.Reading.{step-num, step-signed, step-blank, got-lt}
+use Rattle.walk.specs.laws.Step.{Reading}
+use Rattle.walk.specs.declared.walk.Walk.{Walk}
 use Rattle.area_reading.specs.Shapes.{Kind, circle, rectangle, kindOf, typeOf, point, shape, spellEast, spellNorth, eastOf, northOf, shapeKind, shapeValues}
 use Rattle.area_reading.specs.Steps.{eastRead, northRead, pointRead, circleRead, rectangleRead, shapeRead, pointJudged, shapeJudged, shapePut}
 use Rattle.area_reading.specs.declared.shapes.Passed.{Passed}

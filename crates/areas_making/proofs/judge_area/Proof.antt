@@ -5,9 +5,9 @@ use mathlib.Core.Bool.{cond}
 use native.Mathlib.Omega.{arith}
 use borrow.Author.Needs.{needs}
 use borrow.Author.Tests.{eq-eqb, ne-eqb}
-use Rattle.layout.specs.Judging.{valued}
-use Rattle.layout.specs.laws.Judging.{valued-between}
-use Rattle.layout.specs.declared.walk.Walk.{Walk}
+use Rattle.walk.specs.Judging.{valued}
+use Rattle.walk.specs.laws.Judging.{valued-between}
+use Rattle.walk.specs.declared.walk.Walk.{Walk}
 use Rattle.notice_areas.specs.Areas.{leastOf}
 use Rattle.notice_areas.specs.laws.Kinds.{kind-sea, kind-circle, kind-several}
 use Rattle.areas_making.specs.Making.{pointsJudged, insideJudged}

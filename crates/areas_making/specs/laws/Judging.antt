@@ -7,13 +7,13 @@ use native.Mathlib.Omega.{arith}
 use lib.Dec.{eqb, lit<}
 use lib.ListN.{drop, getD}
 use borrow.Author.Tests.{eqb-true, eqb-false}
-use Rattle.pieces.specs.Pieces.{pieced}
+use Rattle.walk.specs.Pieces.{pieced}
 use Rattle.format.specs.Fmt.{Fmt}
 use Rattle.format.specs.Words.{_‥_, _▹_, num, deciding}
-use Rattle.layout.specs.Judging.{valued}
-use Rattle.layout.specs.laws.Judging.{judge-num, judge-deciding, valued-between}
-use Rattle.layout.specs.laws.Loops.{JudgesAlong, going, judges-stay, judges-refused, judges-then, judges-under, step-near}
-use Rattle.layout.specs.declared.walk.Walk.{Walk}
+use Rattle.walk.specs.Judging.{valued}
+use Rattle.walk.specs.laws.Judging.{judge-num, judge-deciding, valued-between}
+use Rattle.walk.specs.laws.Loops.{JudgesAlong, going, judges-stay, judges-refused, judges-then, judges-under, step-near}
+use Rattle.walk.specs.declared.walk.Walk.{Walk}
 use Rattle.notice_parts.specs.Parts.{latitudeBits, longitudeBits, pointBits}
 use Rattle.notice_parts.specs.Steps.{latitudeJudged, longitudeJudged}
 use Rattle.notice_parts.specs.laws.Walking.{latitude-judged, longitude-judged}

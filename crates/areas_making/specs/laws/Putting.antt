@@ -13,7 +13,7 @@ use Rattle.format.specs.Words.{Test, _▹_, _‥_, num, deciding, wide}
 use Rattle.format.specs.laws.Extent.{opens-field, opens-choice}
 use Rattle.format.specs.laws.Putting.{Putting, put-number}
 use Rattle.format.specs.laws.Round.{written}
-use Rattle.layout.specs.laws.Loops.{PutsAlong, puts-stay, puts-then, puts-under}
+use Rattle.walk.specs.laws.Loops.{PutsAlong, puts-stay, puts-then, puts-under}
 use Rattle.notice_areas.specs.Areas.{Kind, sea, circle, several, kindOf, points, inside, areas}
 use Rattle.notice_areas.specs.Row.{first, longMost, areaLong, areasLong, areasTold}
 use Rattle.notice_areas.specs.Standing.{areaMost}

@@ -1,7 +1,7 @@
 -- `read_cyclone` is one step of the walk a field.
 use mathlib.Core.Path.{ap, _∙_}
 use mathlib.Core.Bool.{true}
-use Rattle.layout.specs.Reading.{ranged}
+use Rattle.walk.specs.Reading.{ranged}
 use Rattle.bodies.specs.Steps.{cycloneRead}
 use Rattle.bodies.specs.declared.Body.the-variants.{Cyclone as IsCyclone}
 use borrow.Author.Needs.{needs}

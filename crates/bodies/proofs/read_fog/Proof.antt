@@ -1,7 +1,7 @@
 -- `read_fog` is one step of the walk a field.
 use mathlib.Core.Path.{ap, _∙_}
 use mathlib.Core.Bool.{true}
-use Rattle.layout.specs.Reading.{ranged, blanked}
+use Rattle.walk.specs.Reading.{ranged, blanked}
 use Rattle.bodies.specs.Steps.{fogRead}
 use Rattle.bodies.specs.declared.Body.the-variants.{Fog as IsFog}
 use borrow.Author.Needs.{needs}

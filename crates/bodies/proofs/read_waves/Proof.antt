@@ -1,7 +1,7 @@
 -- `read_waves` is one step of the walk a field.
 use mathlib.Core.Path.{ap, _∙_}
 use mathlib.Core.Bool.{true, false}
-use Rattle.layout.specs.Reading.{ranged}
+use Rattle.walk.specs.Reading.{ranged}
 use Rattle.bodies.specs.Steps.{wavesRead}
 use Rattle.bodies.specs.declared.Body.the-variants.{Waves as IsWaves}
 use borrow.Author.Needs.{needs}

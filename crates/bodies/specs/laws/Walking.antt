@@ -6,12 +6,12 @@ use Prim.Native.Nat.{ℕ, _≤_}
 use lib.Dec.{lit<, lit≤}
 use Rattle.format.specs.Fmt.{Out, Fmt}
 use Rattle.format.specs.laws.Extent.{opens-field}
-use Rattle.layout.specs.laws.Judging.{Judging, judge-num, judge-fixed}
+use Rattle.walk.specs.laws.Judging.{Judging, judge-num, judge-fixed}
 use Rattle.format.specs.laws.Putting.{Putting, put-number, put-pair}
-use Rattle.layout.specs.laws.Reading.{step-num, step-fill, step-blank}
-use Rattle.layout.specs.laws.Step.{Reading}
+use Rattle.walk.specs.laws.Reading.{step-num, step-fill, step-blank}
+use Rattle.walk.specs.laws.Step.{Reading}
 use Rattle.format.specs.laws.Zero.{Judged, only-numbered}
-use Rattle.layout.specs.declared.walk.Walk.{Walk}
+use Rattle.walk.specs.declared.walk.Walk.{Walk}
 use Rattle.bodies.specs.Bodies.{Kind, cyclone, gale, waves, fog, surge, kindOf, typeOf, body, bodyKind, bodyValues}
 use Rattle.bodies.specs.Steps.{cycloneRead, galeRead, wavesRead, fogRead, surgeRead, bodyRead, bodyJudged, bodyPut}
 use Rattle.bodies.specs.declared.Body.{Body}

@@ -1,6 +1,6 @@
 -- `judged_cyclone` is one step of the walk a field.
 use mathlib.Core.Path.{ap, _∙_}
-use Rattle.layout.specs.Judging.{valued}
+use Rattle.walk.specs.Judging.{valued}
 use borrow.Author.Needs.{needs}
 use Rattle.body_making.proofs.judged_cyclone.Statement.{statement}
 use Rattle.body_making.proofs.judged_cyclone.Tie as tie

@@ -1,8 +1,8 @@
 -- `judged_fog` is one step of the walk a field.
 use mathlib.Core.Path.{ap, _∙_}
 use mathlib.Core.Bool.{false}
-use Rattle.layout.specs.Judging.{valued}
-use Rattle.layout.specs.Walk.{onward}
+use Rattle.walk.specs.Judging.{valued}
+use Rattle.walk.specs.Walk.{onward}
 use borrow.Author.Needs.{needs}
 use Rattle.body_making.proofs.judged_fog.Statement.{statement}
 use Rattle.body_making.proofs.judged_fog.Tie as tie

@@ -6,7 +6,7 @@ ghost use mathlib.Core.List.{[]};
 ghost use Rattle.distress_reading.specs.Report.{report, valuesOf};
 ghost use Rattle.distress.specs.Values.{listOf};
 ghost use Rattle.format.specs.Fmt.{write};
-ghost use Rattle.layout.specs.laws.Judging.{Judged};
+ghost use Rattle.walk.specs.laws.Judging.{Judged};
 ghost use Rattle.format.specs.laws.Putting.{Puts};
 
 // A record's fields as the numbers that their bits spell.
@@ -27,8 +27,8 @@ pub(crate) fn spelled(r: Report) -> Values
 {
     let east = r.longitude;
     let north = r.latitude;
-    let longitude = number::sign::spelled(east, 33_554_432);
-    let latitude = number::sign::spelled(north, 16_777_216);
+    let longitude = walk::sign::spelled(east, 33_554_432);
+    let latitude = walk::sign::spelled(north, 16_777_216);
     Values {
         mmsi: r.mmsi as u64,
         longitude,
@@ -43,10 +43,10 @@ pub(crate) fn spelled(r: Report) -> Values
 }
 
 // The values judged in bit order.
-pub(crate) fn judged(v: Values) -> layout::walk::Walk
+pub(crate) fn judged(v: Values) -> walk::walk::Walk
     ensures { λ w. ⌜ Judged (write report [] 0 (listOf v)) w ⌝ }
 {
-    let w = layout::walk::Walk::begin(0, 0);
+    let w = walk::walk::Walk::begin(0, 0);
     let w = w.fixed(16, CODE);
     let w = w.value(32, v.mmsi, 0, 999_999_999);
     let w = w.signed_value(

@@ -6,8 +6,8 @@ use Prim.Native.Nat.{ℕ, _≤_, _<_, _^_}
 use lib.Dec.{eqb, lit≤}
 use lib.ListN.{getD, set}
 use Rattle.format.specs.Fmt.{spot, none, found}
-use Rattle.number.specs.Sign.{intOf, spellOf}
-use Rattle.number.specs.laws.Sign.{spell-int}
+use Rattle.walk.specs.Sign.{intOf, spellOf}
+use Rattle.walk.specs.laws.Sign.{spell-int}
 use Rattle.format.specs.laws.Spots.{spotsAlong, spot-along, rows, eachAt, set-each, kept-entry, spelled-entry}
 use Rattle.distress_reading.specs.Changed.{spotOf, changed}
 use Rattle.distress_reading.specs.Report.{report, reports, valuesOf}

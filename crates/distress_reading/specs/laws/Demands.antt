@@ -12,7 +12,7 @@ use Rattle.format.specs.laws.Answers.{good-read}
 use Rattle.format.specs.laws.Entries.{entries, held-entries}
 use Rattle.format.specs.laws.Family.{Family, one-size, written-front, accepted-correction, corrected-as-written}
 use Rattle.format.specs.laws.Held.{Held, exactly}
-use Rattle.number.specs.laws.Sign.{spell-int}
+use Rattle.walk.specs.laws.Sign.{spell-int}
 use Rattle.format.specs.laws.Zero.{Judged, only-numbered}
 use Rattle.distress_reading.specs.Changed.{spotOf, changed}
 use Rattle.distress_reading.specs.Promises.{Reads}

@@ -1,7 +1,7 @@
 -- `head` is four steps of the walk.
 use mathlib.Core.Path.{ap, _∙_}
 use mathlib.Core.Bool.{true, false}
-use Rattle.layout.specs.Reading.{ranged}
+use Rattle.walk.specs.Reading.{ranged}
 use borrow.Author.Needs.{needs}
 use Rattle.frame.proofs.head.Statement.{statement}
 use Rattle.frame.proofs.head.Tie as tie

@@ -1,8 +1,8 @@
 -- `judged` is four steps of the walk.
 use mathlib.Core.Path.{ap, _∙_}
 use mathlib.Core.Bool.{false}
-use Rattle.layout.specs.Judging.{valued}
-use Rattle.layout.specs.Walk.{onward}
+use Rattle.walk.specs.Judging.{valued}
+use Rattle.walk.specs.Walk.{onward}
 use borrow.Author.Needs.{needs}
 use Rattle.frame.proofs.judged.Statement.{statement}
 use Rattle.frame.proofs.judged.Tie as tie

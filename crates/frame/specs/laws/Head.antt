@@ -10,16 +10,16 @@ use Rattle.bits.specs.Answers.{got}
 use Rattle.bits.specs.Bits.{bitsOf}
 use Rattle.format.specs.Fmt.{Fmt, check, read, write}
 use Rattle.format.specs.Message.{fault}
-use Rattle.layout.specs.Walk.{onward}
+use Rattle.walk.specs.Walk.{onward}
 use Rattle.format.specs.Words.{_‥_}
 use Rattle.format.specs.laws.Extent.{opens-field}
-use Rattle.layout.specs.laws.Judging.{Judging, judge-start, judge-fixed, judge-tells, judge-num}
+use Rattle.walk.specs.laws.Judging.{Judging, judge-start, judge-fixed, judge-tells, judge-num}
 use Rattle.format.specs.laws.Putting.{Putting, put-number}
-use Rattle.layout.specs.laws.Reading.{start, step-code, step-limits, step-num}
-use Rattle.layout.specs.laws.Step.{Reading}
+use Rattle.walk.specs.laws.Reading.{start, step-code, step-limits, step-num}
+use Rattle.walk.specs.laws.Step.{Reading}
 use Rattle.format.specs.laws.Tells.{only-tells}
 use Rattle.format.specs.laws.Zero.{Judged, only-numbered}
-use Rattle.layout.specs.declared.walk.Walk.{Walk}
+use Rattle.walk.specs.declared.walk.Walk.{Walk}
 use Rattle.frame.specs.Frame.{frame}
 use Rattle.frame.specs.Steps.{headed, headJudged, headPut}
 

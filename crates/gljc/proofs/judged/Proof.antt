@@ -2,7 +2,7 @@
 use mathlib.Core.List.{[], _∷_}
 use lib.Dec.{lit<, lit≤}
 use Rattle.frame.specs.laws.Head.{head-judged}
-use Rattle.layout.specs.laws.Judging.{judge-num, judge-end}
+use Rattle.walk.specs.laws.Judging.{judge-num, judge-end}
 use Rattle.gljc_reading.specs.Gljc.{letters, gljc, valuesOf}
 use borrow.Author.Needs.{needs}
 use Rattle.gljc.proofs.judged.Statement.{statement}

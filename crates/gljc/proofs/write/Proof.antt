@@ -1,6 +1,6 @@
 -- `write` answers as the walk over the values, the size made and the room decide.
 use mathlib.Core.Path.{refl}
-use Rattle.layout.specs.laws.Making.{write-refused, write-stamped}
+use Rattle.walk.specs.laws.Making.{write-refused, write-stamped}
 use Rattle.gljc_reading.specs.Gljc.{gljcs, valuesOf}
 use borrow.Author.Needs.{needs}
 use Rattle.gljc.proofs.write.Statement.{statement}

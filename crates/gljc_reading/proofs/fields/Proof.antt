@@ -5,8 +5,8 @@ use lib.Dec.{lit<, lit≤}
 use Rattle.format.specs.Fmt.{also}
 use Rattle.frame.specs.laws.Head.{head-read}
 use Rattle.format.specs.laws.Answers.{told-so}
-use Rattle.layout.specs.laws.Reading.{step-num}
-use Rattle.layout.specs.laws.Walked.{finish}
+use Rattle.walk.specs.laws.Reading.{step-num}
+use Rattle.walk.specs.laws.Walked.{finish}
 use native.Mathlib.Omega.{arith}
 use Rattle.format.specs.laws.Lead.{exact-fields, other-size}
 use Rattle.gljc_reading.specs.Gljc.{letters, gljc, recordOf, answerOf}

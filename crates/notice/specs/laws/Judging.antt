@@ -17,12 +17,12 @@ use Rattle.format.specs.Fmt.{Out, accepted, refused, Fmt, end, pad}
 use Rattle.format.specs.Words.{unless}
 use Rattle.format.specs.laws.Extent.{opens-field}
 use Rattle.format.specs.laws.Tells.{blamed, wrong}
-use Rattle.layout.specs.Judging.{beyond}
-use Rattle.layout.specs.Walk.{onward}
-use Rattle.layout.specs.laws.Judging.{Judging, Judged, judge-bytes, judge-beyond, judge-end}
-use Rattle.layout.specs.laws.Loops.{Going}
-use Rattle.layout.specs.laws.Step.{clear, stuck}
-use Rattle.layout.specs.declared.walk.Walk.{Walk}
+use Rattle.walk.specs.Judging.{beyond}
+use Rattle.walk.specs.Walk.{onward}
+use Rattle.walk.specs.laws.Judging.{Judging, Judged, judge-bytes, judge-beyond, judge-end}
+use Rattle.walk.specs.laws.Loops.{Going}
+use Rattle.walk.specs.laws.Step.{clear, stuck}
+use Rattle.walk.specs.declared.walk.Walk.{Walk}
 use Rattle.text.specs.Text.{inLanguage}
 use Rattle.notice_parts.specs.Steps.{bare}
 use Rattle.notice_areas.specs.Standing.{front}

@@ -9,10 +9,10 @@ use lib.ListN.{length}
 use borrow.Author.Tests.{leb-true, leb-false, lt-ltb, le-ltb, eqb-true, eqb-false, ne-eqb}
 use Rattle.format.specs.Fmt.{accepted, write}
 use Rattle.format.specs.laws.Putting.{Puts}
-use Rattle.layout.specs.Judging.{bytesTo, beyond, closing}
-use Rattle.layout.specs.laws.Making.{write-refused, write-bare}
-use Rattle.layout.specs.laws.Step.{clear}
-use Rattle.layout.specs.declared.walk.Walk.{Walk}
+use Rattle.walk.specs.Judging.{bytesTo, beyond, closing}
+use Rattle.walk.specs.laws.Making.{write-refused, write-bare}
+use Rattle.walk.specs.laws.Step.{clear}
+use Rattle.walk.specs.declared.walk.Walk.{Walk}
 use Rattle.notice_areas.specs.Row.{areasLong}
 use Rattle.packet_reading.specs.Packet.{joined}
 use Rattle.notice_reading.specs.Notice.{notice, notices}

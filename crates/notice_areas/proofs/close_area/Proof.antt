@@ -1,7 +1,7 @@
 -- `close_area` meets its contract: a circle has two numbers behind its point.
 use mathlib.Core.Path.{sym, ap, _∙_}
 use mathlib.Core.Bool.{true}
-use Rattle.layout.specs.Reading.{ranged}
+use Rattle.walk.specs.Reading.{ranged}
 use Rattle.notice_areas.specs.Steps.{closedAs}
 use Rattle.notice_areas.specs.laws.Kinds.{kind-circle, closed-plain}
 use borrow.Author.Needs.{needs}

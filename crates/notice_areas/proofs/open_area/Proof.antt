@@ -1,8 +1,8 @@
 -- `open_area` meets its contract: by the number of the kind, as `kindOf` goes.
 use mathlib.Core.Path.{_≡_, sym, ap, _∙_}
 use mathlib.Core.Bool.{false}
-use Rattle.layout.specs.Reading.{ranged}
-use Rattle.layout.specs.declared.walk.Walk.{Walk}
+use Rattle.walk.specs.Reading.{ranged}
+use Rattle.walk.specs.declared.walk.Walk.{Walk}
 use Rattle.notice_areas.specs.Areas.{leastOf}
 use Rattle.notice_areas.specs.Steps.{openedAs}
 use Rattle.notice_areas.specs.laws.Kinds.{kind-sea, kind-circle, kind-several}

@@ -6,7 +6,7 @@ use mathlib.Core.List.{List}
 use native.Mathlib.Omega.{arith}
 use borrow.Author.Needs.{needs}
 use borrow.Author.Tests.{eq-eqb, ne-eqb}
-use Rattle.layout.specs.declared.walk.Walk.{Walk}
+use Rattle.walk.specs.declared.walk.Walk.{Walk}
 use Rattle.notice_areas.specs.Areas.{kindOf}
 use Rattle.notice_areas.specs.Steps.{closedAs, pointsWalked, areasWalked}
 use Rattle.notice_areas.specs.laws.Walking.{point-turn, area-turn}

@@ -5,7 +5,7 @@ use mathlib.Core.Bool.{Bool, true, false, cond}
 use mathlib.Core.List.{List}
 use lib.Dec.{eqb}
 use borrow.Author.Tests.{eq-eqb, ne-eqb}
-use Rattle.layout.specs.declared.walk.Walk.{Walk}
+use Rattle.walk.specs.declared.walk.Walk.{Walk}
 use Rattle.notice_areas.specs.Areas.{sea, circle, several, leastOf, kindOf}
 use Rattle.notice_areas.specs.Steps.{closedAs}
 

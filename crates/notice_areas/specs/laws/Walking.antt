@@ -10,10 +10,10 @@ use borrow.Author.Tests.{eqb-false}
 use Rattle.bits.specs.Answers.{got}
 use Rattle.format.specs.Fmt.{Fmt}
 use Rattle.format.specs.Words.{_‥_, num}
-use Rattle.layout.specs.Reading.{ranged}
-use Rattle.layout.specs.laws.Along.{Along, go, stay, then, under, dropped, along-num, along-decide, ranged-v, ranged-at}
-use Rattle.layout.specs.laws.Reading.{got-lt}
-use Rattle.layout.specs.declared.walk.Walk.{Walk}
+use Rattle.walk.specs.Reading.{ranged}
+use Rattle.walk.specs.laws.Along.{Along, go, stay, then, under, dropped, along-num, along-decide, ranged-v, ranged-at}
+use Rattle.walk.specs.laws.Reading.{got-lt}
+use Rattle.walk.specs.declared.walk.Walk.{Walk}
 use Rattle.notice_parts.specs.Steps.{latitudeRead, longitudeRead}
 use Rattle.notice_parts.specs.laws.Walking.{latitude-read, longitude-read, latitude-v, latitude-at, longitude-v, longitude-at}
 use Rattle.notice_parts.specs.Parts.{latitudeBits, longitudeBits, pointBits}

@@ -4,7 +4,7 @@ use mathlib.Core.Path.{_≡_, sym, ap, _∙_}
 use native.Mathlib.Omega.{arith}
 use borrow.Author.Needs.{needs}
 use Rattle.bits.specs.Answers.{got}
-use Rattle.layout.specs.laws.Reading.{got-lt}
+use Rattle.walk.specs.laws.Reading.{got-lt}
 use Rattle.notice_areas.specs.Areas.{several, leastOf}
 use Rattle.notice_areas.specs.laws.Kinds.{kind-sea, kind-circle, kind-several}
 use Rattle.notice_parts.specs.Parts.{pointBits}

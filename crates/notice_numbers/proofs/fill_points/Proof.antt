@@ -5,7 +5,7 @@ use native.Mathlib.Omega.{arith}
 use borrow.Author.Needs.{needs}
 use lib.ListN.{length, length-set}
 use lib.Seq.{sets}
-use Rattle.layout.specs.laws.Reading.{got-lt}
+use Rattle.walk.specs.laws.Reading.{got-lt}
 use Rattle.notice_areas.specs.Standing.{pointsAt}
 use Rattle.notice_parts.specs.Parts.{latitudeBits, longitudeBits, pointBits}
 use Rattle.notice_numbers.specs.laws.Rows.{points-turn}

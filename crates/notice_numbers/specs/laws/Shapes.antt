@@ -6,7 +6,7 @@ use native.Mathlib.Omega.{arith}
 use native.Mathlib.Nat.{add-assoc}
 use lib.ListN.{length, length-append}
 use Rattle.bits.specs.Answers.{got}
-use Rattle.layout.specs.laws.Reading.{got-lt}
+use Rattle.walk.specs.laws.Reading.{got-lt}
 use Rattle.notice_areas.specs.Areas.{Kind, sea, circle, several, kindOf}
 use Rattle.notice_areas.specs.Row.{longMost}
 use Rattle.notice_areas.specs.Standing.{pointsAt, insideAt, areaAt, areaWide, areaMost, areasAt, areasEnd}

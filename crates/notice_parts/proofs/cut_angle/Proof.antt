@@ -1,6 +1,6 @@
 -- `cut_angle` is four parts of the walk.
 use mathlib.Core.Path.{ap, _∙_}
-use Rattle.layout.specs.Reading.{parted}
+use Rattle.walk.specs.Reading.{parted}
 use borrow.Author.Needs.{needs}
 use Rattle.notice_parts.proofs.cut_angle.Statement.{statement}
 use Rattle.notice_parts.proofs.cut_angle.Tie as tie

@@ -1,8 +1,8 @@
 -- `expiry` judges the number where it is there, else the parts and the whole past them.
 use mathlib.Core.Path.{sym, ap, _∙_}
-use Rattle.layout.specs.Reading.{grouped}
-use Rattle.layout.specs.laws.Parts.{by-number, by-parts}
-use Rattle.layout.specs.laws.Reading.{got-lt}
+use Rattle.walk.specs.Reading.{grouped}
+use Rattle.walk.specs.laws.Parts.{by-number, by-parts}
+use Rattle.walk.specs.laws.Reading.{got-lt}
 use Rattle.notice_parts.specs.Steps.{expiryJudged}
 use Rattle.notice_parts.specs.laws.Walking.{expiry-v}
 use borrow.Author.Needs.{needs}

@@ -1,7 +1,7 @@
 -- `judged_expiry` is the step over the number whose parts are judged, unless it is 0.
 use mathlib.Core.Path.{ap, _∙_}
-use Rattle.pieces.specs.Pieces.{pieced, unlessZero}
-use Rattle.layout.specs.Reading.{judgedAs}
+use Rattle.walk.specs.Pieces.{pieced, unlessZero}
+use Rattle.walk.specs.Reading.{judgedAs}
 use borrow.Author.Needs.{needs}
 use Rattle.notice_parts.proofs.judged_expiry.Statement.{statement}
 use Rattle.notice_parts.proofs.judged_expiry.Tie as tie

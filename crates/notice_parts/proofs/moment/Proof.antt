@@ -1,6 +1,6 @@
 -- `moment` is five parts of the walk.
 use mathlib.Core.Path.{ap, _∙_}
-use Rattle.layout.specs.Reading.{parted}
+use Rattle.walk.specs.Reading.{parted}
 use borrow.Author.Needs.{needs}
 use Rattle.notice_parts.proofs.moment.Statement.{statement}
 use Rattle.notice_parts.proofs.moment.Tie as tie

@@ -11,15 +11,15 @@ use Rattle.bits.specs.Bits.{bitsOf}
 use Rattle.format.specs.Fmt.{Out, Fmt, field}
 use Rattle.format.specs.Words.{walk, wide, orZero, free}
 use Rattle.format.specs.laws.Zero.{Numbered, walk-numbered, zero-numbered}
-use Rattle.pieces.specs.Pieces.{pieced}
-use Rattle.layout.specs.Reading.{grouped}
-use Rattle.layout.specs.laws.Group.{Passes, part-start, part-step, part-end}
-use Rattle.layout.specs.laws.Judging.{Judging}
-use Rattle.layout.specs.laws.Parts.{zero-cut, step-parts, parts-v, parts-at, by-number, by-parts}
-use Rattle.layout.specs.laws.Pieces.{Pieced, piece-start, piece-step, piece-end, piece-zero, judge-group}
-use Rattle.layout.specs.laws.Reading.{got-lt}
-use Rattle.layout.specs.laws.Step.{Reading}
-use Rattle.layout.specs.declared.walk.Walk.{Walk}
+use Rattle.walk.specs.Pieces.{pieced}
+use Rattle.walk.specs.Reading.{grouped}
+use Rattle.walk.specs.laws.Group.{Passes, part-start, part-step, part-end}
+use Rattle.walk.specs.laws.Judging.{Judging}
+use Rattle.walk.specs.laws.Parts.{zero-cut, step-parts, parts-v, parts-at, by-number, by-parts}
+use Rattle.walk.specs.laws.Pieces.{Pieced, piece-start, piece-step, piece-end, piece-zero, judge-group}
+use Rattle.walk.specs.laws.Reading.{got-lt}
+use Rattle.walk.specs.laws.Step.{Reading}
+use Rattle.walk.specs.declared.walk.Walk.{Walk}
 use Rattle.notice_parts.specs.Parts.{moment, expiry, angle, latitude, longitude, latitudeBits, longitudeBits}
 use Rattle.notice_parts.specs.Steps.{expiryPieced, expiryJudged, momentRead, expiryRead, anglePieced, angleJudged, angleParted, bare, angleRead, latitudeRead, longitudeRead, latitudeJudged, longitudeJudged}
 

@@ -7,9 +7,9 @@ use lib.ListN.{length}
 use borrow.Author.Needs.{needs}
 use Rattle.bits.specs.Answers.{spanned}
 use Rattle.bits.specs.Bits.{bytesAt}
-use Rattle.layout.specs.Reading.{ended}
-use Rattle.layout.specs.Walk.{onward}
-use Rattle.layout.specs.declared.walk.Walk.{Walk}
+use Rattle.walk.specs.Reading.{ended}
+use Rattle.walk.specs.Walk.{onward}
+use Rattle.walk.specs.declared.walk.Walk.{Walk}
 use Rattle.text.specs.Text.{inLanguage}
 use Rattle.notice_reading.specs.laws.Closing.{ending-good, ending-refused}
 use Rattle.notice_reading.proofs.close.Statement.{statement}

@@ -3,8 +3,8 @@ use Prim.Native.Nat.{_-_}
 use mathlib.Core.Path.{ap, ap₂, _∙_}
 use mathlib.Core.Bool.{true, false}
 use borrow.Author.Needs.{needs}
-use Rattle.layout.specs.Reading.{ranged}
-use Rattle.layout.specs.declared.walk.Walk.{Walk}
+use Rattle.walk.specs.Reading.{ranged}
+use Rattle.walk.specs.declared.walk.Walk.{Walk}
 use Rattle.notice_parts.specs.Steps.{leastSubtype, mostSubtype, expiryRead}
 use Rattle.notice_reading.specs.Steps.{openingOf}
 use Rattle.notice_reading.proofs.head.Statement.{statement}

@@ -1,7 +1,7 @@
 -- `unread` begins a walk by the refusal, and has nothing else.
 use mathlib.Core.Path.{ap}
 use Rattle.notice_reading.specs.Steps.{unreadBy}
-use Rattle.layout.specs.declared.walk.Walk.{Walk}
+use Rattle.walk.specs.declared.walk.Walk.{Walk}
 use borrow.Author.Needs.{needs}
 use Rattle.notice_reading.proofs.unread.Statement.{statement}
 use Rattle.notice_reading.proofs.unread.Tie as tie

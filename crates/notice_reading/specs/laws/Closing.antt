@@ -13,16 +13,16 @@ use Rattle.bits.specs.Bits.{valueOf, bitsOf, bytesOf, bytesAt, fieldAt}
 use Rattle.bits.specs.laws.Bytes.{length-bits}
 use Rattle.bits.specs.laws.Digits.{digits-value}
 use Rattle.bits.specs.laws.Runs.{length-run, run-value}
-use Rattle.field.specs.Faults.{wholly}
+use Rattle.walk.specs.Faults.{wholly}
 use Rattle.format.specs.Fmt.{Out, Fmt, good, end}
 use Rattle.format.specs.Words.{orElse, unless, _▹_}
 use Rattle.format.specs.laws.Runs.{run-stands}
 use Rattle.format.specs.laws.Tells.{blamed}
-use Rattle.layout.specs.laws.Along.{Going}
-use Rattle.layout.specs.laws.Reading.{step-rest}
-use Rattle.layout.specs.laws.Step.{Steps, stuck, step-late}
-use Rattle.layout.specs.laws.Walked.{Walked, finish, same-values}
-use Rattle.layout.specs.declared.walk.Walk.{Walk}
+use Rattle.walk.specs.laws.Along.{Going}
+use Rattle.walk.specs.laws.Reading.{step-rest}
+use Rattle.walk.specs.laws.Step.{Steps, stuck, step-late}
+use Rattle.walk.specs.laws.Walked.{Walked, finish, same-values}
+use Rattle.walk.specs.declared.walk.Walk.{Walk}
 use Rattle.packet_reading.specs.Packet.{joined}
 use Rattle.text.specs.Text.{inLanguage}
 use Rattle.notice_reading.specs.Notice.{text}

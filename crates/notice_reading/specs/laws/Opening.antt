@@ -6,10 +6,10 @@ use mathlib.Core.List.{List, []}
 use native.Mathlib.Omega.{arith}
 use lib.Dec.{lit<, lit≤}
 use Rattle.format.specs.Words.{_‥_}
-use Rattle.layout.specs.Reading.{ranged}
-use Rattle.layout.specs.Walk.{begun, onward}
-use Rattle.layout.specs.laws.Along.{Going, going}
-use Rattle.layout.specs.laws.Reading.{start, step-num, step-limits, step-decide, got-lt}
+use Rattle.walk.specs.Reading.{ranged}
+use Rattle.walk.specs.Walk.{begun, onward}
+use Rattle.walk.specs.laws.Along.{Going, going}
+use Rattle.walk.specs.laws.Reading.{start, step-num, step-limits, step-decide, got-lt}
 use Rattle.notice_areas.specs.Standing.{front}
 use Rattle.notice_parts.specs.Parts.{subtype}
 use Rattle.notice_parts.specs.Steps.{leastSubtype, mostSubtype, expiryRead}

@@ -20,9 +20,9 @@ use Rattle.format.specs.Correcting.{standing}
 use Rattle.format.specs.laws.Runs.{run-again}
 use Rattle.format.specs.laws.Round.{accepted-inj}
 use Rattle.format.specs.laws.Lead.{read-first, held-back, read-led}
-use Rattle.layout.specs.Walk.{begun}
-use Rattle.layout.specs.laws.Step.{clear, stuck}
-use Rattle.layout.specs.laws.Walked.{Walked, same-values}
+use Rattle.walk.specs.Walk.{begun}
+use Rattle.walk.specs.laws.Step.{clear, stuck}
+use Rattle.walk.specs.laws.Walked.{Walked, same-values}
 use Rattle.notice_areas.specs.Standing.{front, areasAt}
 use Rattle.notice_areas.specs.Steps.{areasWalked}
 use Rattle.notice_areas.specs.laws.Walking.{areas-along}

@@ -7,7 +7,7 @@ use mathlib.Core.Path.{_≡_, refl}
 use lib.ListN.{length, getD}
 use Rattle.bits.specs.Bits.{bit, valueOf, digits, bitsOf, bytesOf, fieldAt, putAt}
 use Rattle.bits.specs.Xor.{xorOf}
-use Rattle.number.specs.Sign.{intOf, spellOf}
+use Rattle.walk.specs.Sign.{intOf, spellOf}
 use Rattle.text.specs.Text.{english, chinese, inLanguage}
 use Rattle.format.specs.Fmt.{readField, read, writeField, sized, write, spot}
 use Rattle.format.specs.Message.{readMessage, writeMessage, correctMessage}

@@ -1,6 +1,6 @@
 -- `write` answers as the walk over the head, the content's size and the room decide.
 use mathlib.Core.Path.{refl}
-use Rattle.layout.specs.laws.Making.{write-refused, write-bare}
+use Rattle.walk.specs.laws.Making.{write-refused, write-bare}
 use Rattle.packet_reading.specs.Packet.{packets, valuesOf}
 use borrow.Author.Needs.{needs}
 use Rattle.packet.proofs.write.Statement.{statement}

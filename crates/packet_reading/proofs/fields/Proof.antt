@@ -6,15 +6,15 @@ use Prim.Native.Nat.{ℕ, _-_, _*_, _≤_}
 use native.Mathlib.Omega.{arith}
 use lib.Dec.{eqb, lit<, lit≤}
 use lib.ListN.{length}
-use Rattle.field.specs.Faults.{wholly}
+use Rattle.walk.specs.Faults.{wholly}
 use Rattle.format.specs.Fmt.{also}
 use Rattle.format.specs.Message.{fieldsOf}
 use Rattle.format.specs.Words.{_‥_, ago}
 use Rattle.format.specs.laws.Answers.{told-so}
 use Rattle.format.specs.laws.Lead.{sized-fields, other-size}
-use Rattle.layout.specs.Reading.{ranged, carried}
-use Rattle.layout.specs.laws.Reading.{start, step-code, step-num, step-limits, step-rest, step-content}
-use Rattle.layout.specs.laws.Walked.{finish}
+use Rattle.walk.specs.Reading.{ranged, carried}
+use Rattle.walk.specs.laws.Reading.{start, step-code, step-num, step-limits, step-rest, step-content}
+use Rattle.walk.specs.laws.Walked.{finish}
 use Rattle.packet_reading.specs.Packet.{version, greatest, mostPackets, packet, recordOf, answerOf}
 use Rattle.packet_reading.specs.declared.Answer.the-variants.{Good, Refused}
 use borrow.Author.Needs.{needs}

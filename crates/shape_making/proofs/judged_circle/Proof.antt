@@ -3,8 +3,8 @@ use mir.Syntax.{w32}
 use mir.ValLaws.{toZ-ofZ}
 use mathlib.Core.Path.{ap, ap₂, _∙_}
 use mathlib.Core.Bool.{false}
-use Rattle.layout.specs.Judging.{valued}
-use Rattle.layout.specs.Walk.{onward}
+use Rattle.walk.specs.Judging.{valued}
+use Rattle.walk.specs.Walk.{onward}
 use Rattle.area_reading.specs.Steps.{pointJudged}
 use borrow.Author.Needs.{needs}
 use Rattle.shape_making.proofs.judged_circle.Statement.{statement}

@@ -3,7 +3,7 @@ use mir.Syntax.{w32}
 use mir.ValLaws.{toZ-ofZ}
 use mathlib.Core.Path.{ap, ap₂, _∙_}
 use Prim.Native.Nat.{_^_}
-use Rattle.layout.specs.Judging.{signedlyValued}
+use Rattle.walk.specs.Judging.{signedlyValued}
 use Rattle.area_reading.specs.Shapes.{spellEast, spellNorth}
 use borrow.Author.Needs.{needs}
 use Rattle.shape_making.proofs.judged_point.Statement.{statement}

@@ -1,7 +1,7 @@
 -- `judged` is the step over the number whose parts are judged.
 use mathlib.Core.Path.{ap, _∙_}
-use Rattle.pieces.specs.Pieces.{pieced}
-use Rattle.layout.specs.Reading.{judgedAs}
+use Rattle.walk.specs.Pieces.{pieced}
+use Rattle.walk.specs.Reading.{judgedAs}
 use Rattle.time.specs.Steps.{datePieced}
 use borrow.Author.Needs.{needs}
 use Rattle.time.proofs.judged.Statement.{statement}

@@ -1,6 +1,6 @@
 -- `judged_date` is three parts of a number.
 use mathlib.Core.Path.{ap, _∙_}
-use Rattle.pieces.specs.Pieces.{pieced}
+use Rattle.walk.specs.Pieces.{pieced}
 use borrow.Author.Needs.{needs}
 use Rattle.time.proofs.judged_date.Statement.{statement}
 use Rattle.time.proofs.judged_date.Tie as tie

@@ -1,6 +1,6 @@
 -- `judged_short` is the step over the number whose parts are judged.
 use mathlib.Core.Path.{ap, _∙_}
-use Rattle.layout.specs.Reading.{judgedAs}
+use Rattle.walk.specs.Reading.{judgedAs}
 use Rattle.time.specs.Steps.{datePieced}
 use borrow.Author.Needs.{needs}
 use Rattle.time.proofs.judged_short.Statement.{statement}

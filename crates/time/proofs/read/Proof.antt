@@ -1,8 +1,8 @@
 -- `read` judges the number that stands there.
 use mathlib.Core.Path.{ap, _∙_}
-use Rattle.pieces.specs.Pieces.{pieced}
-use Rattle.layout.specs.Walk.{onward}
-use Rattle.layout.specs.laws.Reading.{got-lt}
+use Rattle.walk.specs.Pieces.{pieced}
+use Rattle.walk.specs.Walk.{onward}
+use Rattle.walk.specs.laws.Reading.{got-lt}
 use Rattle.time.specs.Steps.{timeJudged}
 use borrow.Author.Needs.{needs}
 use Rattle.time.proofs.read.Statement.{statement}

@@ -9,12 +9,12 @@ use lib.ListN.{length}
 use Rattle.bits.specs.Answers.{got}
 use Rattle.format.specs.Fmt.{Out, Fmt}
 use Rattle.format.specs.Words.{Part, part, _‥_, walk, wide}
-use Rattle.layout.specs.laws.Judging.{Judging}
-use Rattle.layout.specs.laws.Parts.{step-there}
-use Rattle.layout.specs.laws.Pieces.{Pieced, piece-start, piece-step, piece-end, judge-group}
-use Rattle.layout.specs.laws.Step.{Reading}
+use Rattle.walk.specs.laws.Judging.{Judging}
+use Rattle.walk.specs.laws.Parts.{step-there}
+use Rattle.walk.specs.laws.Pieces.{Pieced, piece-start, piece-step, piece-end, judge-group}
+use Rattle.walk.specs.laws.Step.{Reading}
 use Rattle.format.specs.laws.Zero.{Judged, Numbered, Coded, walk-numbered}
-use Rattle.layout.specs.declared.walk.Walk.{Walk}
+use Rattle.walk.specs.declared.walk.Walk.{Walk}
 use Rattle.time.specs.Steps.{timePieced, shortPieced, timeRead, shortRead, timeJudged, shortJudged}
 use Rattle.time.specs.Time.{dateParts, time, shortTime}
 

@@ -4,7 +4,7 @@ use mathlib.Core.List.{[], _∷_}
 use Prim.Native.Nat.{_<_}
 use lib.Dec.{lit<, lit≤}
 use Rattle.frame.specs.laws.Head.{head-judged}
-use Rattle.layout.specs.laws.Judging.{judge-num, judge-end}
+use Rattle.walk.specs.laws.Judging.{judge-num, judge-end}
 use Rattle.txhz_reading.specs.Txhz.{letters, txhz, times, valuesOf}
 use Rattle.txhz_reading.specs.laws.Receipts.{receipt-judged}
 use borrow.Author.Needs.{needs}

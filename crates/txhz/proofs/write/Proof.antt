@@ -1,6 +1,6 @@
 -- `write` answers as the walk over the values, the size made and the room decide.
 use mathlib.Core.Path.{refl}
-use Rattle.layout.specs.laws.Making.{write-refused, write-stamped}
+use Rattle.walk.specs.laws.Making.{write-refused, write-stamped}
 use Rattle.txhz_reading.specs.Txhz.{txhzs, valuesOf}
 use borrow.Author.Needs.{needs}
 use Rattle.txhz.proofs.write.Statement.{statement}

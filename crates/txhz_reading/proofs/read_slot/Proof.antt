@@ -1,9 +1,9 @@
 -- `read_slot` is one step of the walk, its limit and its refusal by whether the receipt is held.
 use mathlib.Core.Path.{ap, ap₂, _∙_}
 use Prim.Native.Nat.{_*_, _/_}
-use Rattle.field.specs.Faults.{ranging}
-use Rattle.layout.specs.Walk.{onward}
-use Rattle.layout.specs.laws.Reading.{got-lt}
+use Rattle.walk.specs.Faults.{ranging}
+use Rattle.walk.specs.Walk.{onward}
+use Rattle.walk.specs.laws.Reading.{got-lt}
 use borrow.Author.Needs.{needs}
 use Rattle.txhz_reading.proofs.read_slot.Statement.{statement}
 use Rattle.txhz_reading.proofs.read_slot.Tie as tie

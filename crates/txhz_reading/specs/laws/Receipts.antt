@@ -9,15 +9,15 @@ use lib.ListN.{length}
 use Rattle.bits.specs.Answers.{within, got}
 use Rattle.format.specs.Correcting.{putIn}
 use Rattle.format.specs.Fmt.{Out, bad, Fmt}
-use Rattle.layout.specs.Walk.{onward}
+use Rattle.walk.specs.Walk.{onward}
 use Rattle.format.specs.Words.{_‥_, only}
 use Rattle.format.specs.laws.Extent.{opens-field}
-use Rattle.layout.specs.laws.Judging.{Judging, judge-tells}
+use Rattle.walk.specs.laws.Judging.{Judging, judge-tells}
 use Rattle.format.specs.laws.Putting.{Putting, put-number}
-use Rattle.layout.specs.laws.Step.{Reading, step, tested}
+use Rattle.walk.specs.laws.Step.{Reading, step, tested}
 use Rattle.format.specs.laws.Tells.{Tells, only-tells, cond-tells}
 use Rattle.format.specs.laws.Zero.{Judged, Numbered, only-numbered}
-use Rattle.layout.specs.declared.walk.Walk.{Walk}
+use Rattle.walk.specs.declared.walk.Walk.{Walk}
 use Rattle.txhz_reading.specs.Steps.{slotRead, receiptRead, slotJudged, receiptJudged, receiptPut}
 use Rattle.txhz_reading.specs.Txhz.{counted, slot, receipt, times}
 use Rattle.txhz_reading.specs.declared.Passed.{Passed}

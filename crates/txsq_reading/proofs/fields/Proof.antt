@@ -6,12 +6,12 @@ use native.Mathlib.Omega.{arith}
 use lib.Dec.{lit<, lit≤}
 use Rattle.frame.specs.laws.Head.{head-read}
 use Rattle.format.specs.Fmt.{pad}
-use Rattle.layout.specs.Reading.{ranged}
+use Rattle.walk.specs.Reading.{ranged}
 use Rattle.format.specs.Words.{_‥_, ago}
 use Rattle.format.specs.laws.Answers.{told-so}
-use Rattle.layout.specs.laws.Reading.{step-code, step-num, step-limits, step-given, step-content, step-fill}
+use Rattle.walk.specs.laws.Reading.{step-code, step-num, step-limits, step-given, step-content, step-fill}
 use Rattle.format.specs.laws.Tells.{twice-tells}
-use Rattle.layout.specs.laws.Walked.{finish}
+use Rattle.walk.specs.laws.Walked.{finish}
 use Rattle.txsq_reading.specs.Txsq.{letters, allowed, bounded, limits, filling, txsq, recordOf}
 use Rattle.txsq_reading.specs.declared.Answer.the-variants.{Good, Refused}
 use borrow.Author.Needs.{needs}

@@ -1,7 +1,7 @@
 -- `write` answers as the walk over the values, the size and the room decide.
 use mathlib.Core.Path.{refl, subst}
 use Rattle.format.specs.Promises.{Writes}
-use Rattle.layout.specs.laws.Making.{write-refused, write-bare}
+use Rattle.walk.specs.laws.Making.{write-refused, write-bare}
 use Rattle.warning_reading.specs.Warning.{warnings, valuesAs}
 use borrow.Author.Needs.{needs}
 use Rattle.warning.proofs.write.Statement.{statement}

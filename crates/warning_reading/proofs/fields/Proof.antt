@@ -10,8 +10,8 @@ use Rattle.format.specs.Words.{_‥_}
 use Rattle.format.specs.laws.Answers.{told-so}
 use native.Mathlib.Omega.{arith}
 use Rattle.format.specs.laws.Lead.{exact-fields, other-size}
-use Rattle.layout.specs.laws.Reading.{start, step-code, step-fill, step-num, step-decide}
-use Rattle.layout.specs.laws.Walked.{finish}
+use Rattle.walk.specs.laws.Reading.{start, step-code, step-fill, step-num, step-decide}
+use Rattle.walk.specs.laws.Walked.{finish}
 use Rattle.time.specs.laws.Walking.{time-read}
 use Rattle.warning_reading.specs.Warning.{warning, recordOf, answerOf}
 use Rattle.warning_reading.specs.laws.Told.{recorded}

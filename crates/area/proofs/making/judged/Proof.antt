@@ -4,8 +4,8 @@ use mathlib.Core.Bool.{false}
 use Prim.Native.Nat.{_<_}
 use native.Mathlib.Omega.{arith}
 use lib.Dec.{lit<}
-use Rattle.layout.specs.Walk.{onward}
-use Rattle.layout.specs.laws.Judging.{judge-start, judge-fixed, judge-num, judge-end}
+use Rattle.walk.specs.Walk.{onward}
+use Rattle.walk.specs.laws.Judging.{judge-start, judge-fixed, judge-num, judge-end}
 use Rattle.time.specs.laws.Walking.{time-judged, short-judged}
 use Rattle.area_reading.specs.Area.{area, valuesAs}
 use Rattle.area_reading.specs.Shapes.{shapeKind}

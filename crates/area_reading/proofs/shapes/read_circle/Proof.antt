@@ -3,7 +3,7 @@ use mir.Syntax.{w32}
 use mir.ValLaws.{toZ-ofZ}
 use mathlib.Core.Path.{ap, _∙_}
 use mathlib.Core.Bool.{true}
-use Rattle.layout.specs.Reading.{ranged, blanked}
+use Rattle.walk.specs.Reading.{ranged, blanked}
 use Rattle.area_reading.specs.Shapes.{eastOf, northOf}
 use Rattle.area_reading.specs.Steps.{northRead, circleRead}
 use Rattle.area_reading.specs.declared.shapes.Shape.the-variants.{Circle as IsCircle}

@@ -1,7 +1,7 @@
 -- `write` answers as the walk over the values and the room decide.
 use mathlib.Core.Path.{subst}
 use Rattle.format.specs.Promises.{Writes}
-use Rattle.layout.specs.laws.Flat.{write-fails, write-cramped, write-flat}
+use Rattle.walk.specs.laws.Flat.{write-fails, write-cramped, write-flat}
 use Rattle.distress_reading.specs.Report.{reports, plain}
 use borrow.Author.Needs.{needs}
 use Rattle.distress.proofs.report.write.Statement.{statement}

@@ -3,14 +3,14 @@ use mathlib.Core.Path.{refl, sym, ap, _∙_}
 use Prim.Native.Nat.{_≤_, _<_, _^_}
 use mathlib.Core.List.{[], _∷_}
 use lib.Dec.{eqb, lit<, lit≤}
-use Rattle.number.specs.Sign.{spellOf}
-use Rattle.layout.specs.laws.Reading.{start, step-code, step-num, step-signed, step-fill}
+use Rattle.walk.specs.Sign.{spellOf}
+use Rattle.walk.specs.laws.Reading.{start, step-code, step-num, step-signed, step-fill}
 use Rattle.format.specs.Fmt.{also}
 use mathlib.Core.Bool.{cond}
-use Rattle.layout.specs.laws.Walked.{finish, same-values}
+use Rattle.walk.specs.laws.Walked.{finish, same-values}
 use native.Mathlib.Omega.{arith}
 use Rattle.format.specs.laws.Lead.{exact-fields, other-size}
-use Rattle.number.specs.laws.Sign.{spell-int}
+use Rattle.walk.specs.laws.Sign.{spell-int}
 use mir.Syntax.{w32}
 use mir.ValLaws.{toZ-ofZ}
 use Rattle.distress_reading.specs.Report.{report, valuesOf, reportOf, answerOf, again}

@@ -7,10 +7,10 @@ use native.Mathlib.Omega.{arith}
 use lib.ListN.{length}
 use borrow.Author.Needs.{needs}
 use Rattle.bits.specs.Bits.{Bytes}
-use Rattle.layout.specs.Walk.{onward}
-use Rattle.layout.specs.declared.walk.Walk.{Walk}
-use Rattle.layout.specs.laws.Loops.{going}
-use Rattle.layout.specs.laws.Step.{clean}
+use Rattle.walk.specs.Walk.{onward}
+use Rattle.walk.specs.declared.walk.Walk.{Walk}
+use Rattle.walk.specs.laws.Loops.{going}
+use Rattle.walk.specs.laws.Step.{clean}
 use Rattle.areas_making.specs.laws.Judging.{AreasAre, areas-are}
 use Rattle.notice_areas.specs.Row.{areasTold}
 use Rattle.notice_areas.specs.Standing.{front}

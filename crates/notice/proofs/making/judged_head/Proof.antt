@@ -4,8 +4,8 @@ use mathlib.Core.Path.{ap₂, _∙_}
 use mathlib.Core.List.{[], _∷_}
 use lib.Dec.{lit<}
 use borrow.Author.Needs.{needs}
-use Rattle.layout.specs.Judging.{valued}
-use Rattle.layout.specs.laws.Judging.{judge-start, judge-num, judge-limits, judge-deciding, valued-between}
+use Rattle.walk.specs.Judging.{valued}
+use Rattle.walk.specs.laws.Judging.{judge-start, judge-num, judge-limits, judge-deciding, valued-between}
 use Rattle.notice_parts.specs.Parts.{subtype}
 use Rattle.notice_parts.specs.Steps.{leastSubtype, mostSubtype}
 use Rattle.notice_parts.specs.laws.Subtypes.{subtype-limits, most-subtype-fits}

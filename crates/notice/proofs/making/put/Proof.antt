@@ -8,7 +8,7 @@ use Rattle.bits.specs.Bits.{Bytes, putBytesAt}
 use Rattle.format.specs.laws.Extent.{opens-field}
 use Rattle.format.specs.laws.Putting.{put-bytes, put-run, put-fill, put-end, begins}
 use Rattle.format.specs.laws.Runs.{run-bits}
-use Rattle.layout.specs.laws.Loops.{PutsAlong}
+use Rattle.walk.specs.laws.Loops.{PutsAlong}
 use Rattle.areas_making.specs.laws.Putting.{areas-along, areas-near}
 use Rattle.notice_areas.specs.Areas.{areas}
 use Rattle.notice_areas.specs.Row.{areasTold}

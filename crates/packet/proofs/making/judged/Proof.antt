@@ -9,8 +9,8 @@ use Rattle.bits.specs.laws.Runs.{bytes-value-lt}
 use Rattle.format.specs.Words.{any, _‥_, ago}
 use Rattle.format.specs.laws.Extent.{opens-field}
 use Rattle.format.specs.laws.Tells.{only-tells, wrong-tells}
-use Rattle.layout.specs.Judging.{valued}
-use Rattle.layout.specs.laws.Judging.{judge-start, judge-fixed, judge-num, judge-late, valued-between, judge-bytes, judge-beyond, judge-end}
+use Rattle.walk.specs.Judging.{valued}
+use Rattle.walk.specs.laws.Judging.{judge-start, judge-fixed, judge-num, judge-late, valued-between, judge-bytes, judge-beyond, judge-end}
 use Rattle.packet_reading.specs.Packet.{version, mostPackets, packet, valuesOf}
 use borrow.Author.Needs.{needs}
 use Rattle.packet.proofs.making.judged.Statement.{statement}

@@ -13,10 +13,10 @@ use Rattle.frame.specs.Steps.{headJudged}
 use Rattle.frame.specs.laws.Content.{declared-small, got-fill}
 use Rattle.frame.specs.laws.Head.{head-judged}
 use Rattle.format.specs.Fmt.{pad}
-use Rattle.layout.specs.Judging.{valued, filled}
+use Rattle.walk.specs.Judging.{valued, filled}
 use Rattle.format.specs.Words.{any, _‥_, ago}
 use Rattle.format.specs.laws.Extent.{opens-field, opens-choice}
-use Rattle.layout.specs.laws.Judging.{judge-fixed, judge-num, judge-limits, judge-tells, judge-end}
+use Rattle.walk.specs.laws.Judging.{judge-fixed, judge-num, judge-limits, judge-tells, judge-end}
 use Rattle.format.specs.laws.Tells.{only-tells, twice-tells}
 use Rattle.txsq_reading.specs.Txsq.{letters, body, allowed, bounded, limits, filling, txsq, valuesOf}
 use Rattle.txsq_reading.specs.laws.Demands.{allowed-below}

@@ -13,10 +13,10 @@ use Rattle.frame.specs.Steps.{headJudged}
 use Rattle.frame.specs.laws.Content.{declared-small, got-fill}
 use Rattle.frame.specs.laws.Head.{head-judged}
 use Rattle.format.specs.Fmt.{pad}
-use Rattle.layout.specs.Judging.{filled}
+use Rattle.walk.specs.Judging.{filled}
 use Rattle.format.specs.Words.{any, _‥_}
 use Rattle.format.specs.laws.Extent.{opens-field, opens-choice}
-use Rattle.layout.specs.laws.Judging.{judge-num, judge-tells, judge-end}
+use Rattle.walk.specs.laws.Judging.{judge-num, judge-tells, judge-end}
 use Rattle.format.specs.laws.Tells.{only-tells, twice-tells}
 use Rattle.txxx_reading.specs.Txxx.{letters, body, bounded, limits, filling, txxx, valuesOf}
 use borrow.Author.Needs.{needs}

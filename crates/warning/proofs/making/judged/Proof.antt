@@ -9,7 +9,7 @@ use Rattle.bodies.specs.laws.Walking.{type-small, body-judged}
 use Rattle.format.specs.Words.{_‥_}
 use Rattle.format.specs.laws.Extent.{opens-choice}
 use Rattle.format.specs.laws.Tells.{only-tells}
-use Rattle.layout.specs.laws.Judging.{judge-start, judge-fixed, judge-num, judge-tells, judge-end}
+use Rattle.walk.specs.laws.Judging.{judge-start, judge-fixed, judge-num, judge-tells, judge-end}
 use Rattle.time.specs.laws.Walking.{time-judged}
 use Rattle.warning_reading.specs.Warning.{warning, valuesAs}
 use borrow.Author.Needs.{needs}

@@ -1,7 +1,7 @@
 -- `judged` walks the record's values in bit order: each step is a law of judging.
 use mathlib.Core.Path.{refl}
 use lib.Dec.{lit<}
-use Rattle.layout.specs.laws.Judging.{judge-start, judge-fixed, judge-num, judge-signed, judge-end}
+use Rattle.walk.specs.laws.Judging.{judge-start, judge-fixed, judge-num, judge-signed, judge-end}
 use Rattle.distress_reading.specs.Report.{report}
 use Rattle.distress.specs.Values.{listOf}
 use borrow.Author.Needs.{needs}

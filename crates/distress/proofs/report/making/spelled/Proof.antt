@@ -4,7 +4,7 @@ use mir.ValLaws.{toZ-ofZ}
 use mathlib.Core.List.{[], _∷_}
 use mathlib.Core.Path.{ap, _∙_}
 use Prim.Native.Nat.{_^_}
-use Rattle.number.specs.Sign.{spellOf}
+use Rattle.walk.specs.Sign.{spellOf}
 use Rattle.distress_reading.specs.Report.{valuesOf}
 use Rattle.distress.specs.Values.{listOf}
 use borrow.Author.Needs.{needs}

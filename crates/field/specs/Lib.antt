@@ -1,2 +1,0 @@
--- What one field's code answers.
-pub mod Faults

@@ -1,2 +1,0 @@
-// One field: what is wrong with it. Nothing here is asked of a caller.
-pub mod faults;

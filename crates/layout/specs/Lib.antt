@@ -1,5 +1,0 @@
--- What the walk answers, and in `laws` that this is what reading and writing say.
-pub mod Walk
-pub mod Reading
-pub mod Judging
-pub mod laws

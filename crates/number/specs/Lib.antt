@@ -1,3 +1,0 @@
--- Two's complement.
-pub mod Sign
-pub mod laws

@@ -1,2 +1,0 @@
--- A number made of parts.
-pub mod Pieces

@@ -1,0 +1,66 @@
+-- `piece`: the part's bits are those between what is above and what is below them.
+use Prim.Native.Nat.{_-_, _/_, _%_, _^_}
+use mathlib.Core.Bool.{cond, _&&_}
+use mathlib.Core.Path.{ap, ap₂, _∙_}
+use lib.Dec.{leb}
+use Rattle.walk.specs.Pieces.{pieced}
+use borrow.Author.Needs.{needs}
+use Rattle.walk.proofs.pieces.Pieces.piece.Statement.{statement}
+use Rattle.walk.proofs.pieces.Pieces.piece.Tie as tie
+
+none-requires : tie.Need-none-requires
+none-requires c κs = search needs
+
+minus-requires : tie.Need-minus-requires
+minus-requires c κs = search needs
+
+above-requires : tie.Need-above-requires
+above-requires c κs = search needs
+
+below-requires : tie.Need-below-requires
+below-requires c κs = search needs
+
+inside-requires : tie.Need-inside-requires
+inside-requires c κs = search needs
+
+choose-requires : tie.Need-choose-requires
+choose-requires c κs = search needs
+
+minus-requires-2 : tie.Need-minus-requires-2
+minus-requires-2 c κs = search needs
+
+pick-requires : tie.Need-pick-requires
+pick-requires c κs = search needs
+
+returns : tie.Need-returns
+unfolding pieced
+returns c =
+    let c7 = c .before in
+    let c6 = c7 .before in
+    let c5 = c6 .before in
+    let c4 = c5 .before in
+    let c3 = c4 .before in
+    let c2 = c3 .before in
+    let c1 = c2 .before in
+    let a = c1 .before .args in
+    let clear = c1 .none .ensures in
+    let left = c2 .minus .ensures in
+    let u = c4 .below .ensures ∙ ap (_% 2 ^ a .w) (c3 .above .ensures ∙ ap (λ n. a .self .v / 2 ^ n) left) in
+    let fault = c5 .inside .ensures ∙ ap (λ x. cond (leb (a .lo) x && leb x (a .hi)) 0 4) u in
+    let code = c6 .choose .ensures ∙ ap₂ (λ b x. cond b x (a .self .code)) clear fault in
+    let into = c .pick .ensures ∙ ap₂ (λ b x. cond b x (a .self .into)) clear (c7 .minus2 .ensures) in
+    λ i. record { v = a .self .v; width = a .self .width; left = left i; code = code i; into = into i }
+
+pub piece-spec : {M : Type 1} → statement M
+piece-spec =
+    tie.close
+    (tie.spec
+    none-requires
+    minus-requires
+    above-requires
+    below-requires
+    inside-requires
+    choose-requires
+    minus-requires-2
+    pick-requires
+    returns)

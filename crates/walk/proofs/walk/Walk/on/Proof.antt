@@ -1,0 +1,97 @@
+-- `on` makes each entry of the walk by one of the small tests.
+use mathlib.Core.Bool.{true, false, cond, _&&_}
+use mathlib.Core.Path.{ap, ap₂, _∙_}
+use Rattle.walk.specs.Walk.{onward}
+use borrow.Author.Needs.{needs}
+use Rattle.walk.proofs.walk.Walk.on.Statement.{statement}
+use Rattle.walk.proofs.walk.Walk.on.Tie as tie
+
+none-requires : tie.Need-none-requires
+none-requires c κs = search needs
+
+last-requires : tie.Need-last-requires
+last-requires c κs = search needs
+
+both-requires : tie.Need-both-requires
+both-requires c κs = search needs
+
+wrapping-add-usize-requires : tie.Need-wrapping-add-usize-requires
+wrapping-add-usize-requires c κs = search needs
+
+choose-requires : tie.Need-choose-requires
+choose-requires c κs = search needs
+
+wrapping-add-usize-requires-2 : tie.Need-wrapping-add-usize-requires-2
+wrapping-add-usize-requires-2 c κs = search needs
+
+pick-requires : tie.Need-pick-requires
+pick-requires c κs = search needs
+
+last-requires-2 : tie.Need-last-requires-2
+last-requires-2 c κs = search needs
+
+not-requires : tie.Need-not-requires
+not-requires c κs = search needs
+
+both-requires-2 : tie.Need-both-requires-2
+both-requires-2 c κs = search needs
+
+less-requires : tie.Need-less-requires
+less-requires c κs = search needs
+
+pick-requires-2 : tie.Need-pick-requires-2
+pick-requires-2 c κs = search needs
+
+pick-requires-3 : tie.Need-pick-requires-3
+pick-requires-3 c κs = search needs
+
+pick-requires-4 : tie.Need-pick-requires-4
+pick-requires-4 c κs = search needs
+
+returns : tie.Need-returns
+unfolding onward
+returns c =
+    let c13 = c .before in
+    let c12 = c13 .before in
+    let c11 = c12 .before in
+    let c10 = c11 .before in
+    let c9 = c10 .before in
+    let c8 = c9 .before in
+    let c7 = c8 .before in
+    let c6 = c7 .before in
+    let c5 = c6 .before in
+    let c4 = c5 .before in
+    let c3 = c4 .before in
+    let c2 = c3 .before in
+    let c1 = c2 .before in
+    let a = c1 .before .args in
+    let hit = c3 .both .ensures ∙ ap (a .self .seek &&_) (c2 .last .ensures) in
+    let clear = c1 .none .ensures in
+    let at = c4 .wrapping-add-usize .ensures in
+    let code = c5 .choose .ensures ∙ ap (λ b. cond b (a .fault) (a .self .code)) clear in
+    let place = c7 .pick .ensures ∙ ap₂ (λ b x. cond b x (a .self .place)) clear (c6 .wrapping-add-usize2 .ensures) in
+    let seek = c10 .both2 .ensures ∙ ap (a .self .seek &&_) (c9 .not .ensures ∙ ap (λ b. cond b false true) (c8 .last2 .ensures)) in
+    let left = c11 .less .ensures in
+    let spot = c12 .pick2 .ensures ∙ ap (λ b. cond b (a .self .at) (a .self .spot)) hit in
+    let width = c .pick4 .ensures ∙ ap₂ (λ b x. cond b x (a .self .width)) hit (c13 .pick3 .ensures) in
+    λ i. record { at = at i; code = code i; place = place i; v = a .v; seek = seek i; left = left i; spot = spot i; width = width i }
+
+pub on-spec : {M : Type 1} → statement M
+on-spec =
+    tie.close
+    (tie.spec
+    none-requires
+    last-requires
+    both-requires
+    wrapping-add-usize-requires
+    choose-requires
+    wrapping-add-usize-requires-2
+    pick-requires
+    last-requires-2
+    not-requires
+    both-requires-2
+    less-requires
+    pick-requires-2
+    pick-requires-3
+    pick-requires-4
+    returns)

@@ -1,0 +1,46 @@
+-- `part` moves the place and keeps the first refusal; all else of the walk stays.
+use mathlib.Core.Bool.{cond}
+use mathlib.Core.Path.{ap, ap₂, _∙_}
+use Rattle.walk.specs.Reading.{parted}
+use borrow.Author.Needs.{needs}
+use Rattle.walk.proofs.walk.Walk.part.Statement.{statement}
+use Rattle.walk.proofs.walk.Walk.part.Tie as tie
+
+none-requires : tie.Need-none-requires
+none-requires c κs = search needs
+
+wrapping-add-usize-requires : tie.Need-wrapping-add-usize-requires
+wrapping-add-usize-requires c κs = search needs
+
+range-requires : tie.Need-range-requires
+range-requires c κs = search needs
+
+choose-requires : tie.Need-choose-requires
+choose-requires c κs = search needs
+
+pick-requires : tie.Need-pick-requires
+pick-requires c κs = search needs
+
+returns : tie.Need-returns
+unfolding parted
+returns c =
+    let c4 = c .before in
+    let c3 = c4 .before in
+    let c2 = c3 .before in
+    let c1 = c2 .before in
+    let a = c1 .before .before .args in
+    let at = c2 .wrapping-add-usize .ensures in
+    let code = c4 .choose .ensures ∙ ap₂ (λ b x. cond b x (a .self .code)) (c1 .none .ensures) (c3 .range .ensures) in
+    let place = c .pick .ensures ∙ ap (λ b. cond b (a .self .at) (a .self .place)) (c1 .none .ensures) in
+    λ i. record { at = at i; code = code i; place = place i; v = a .self .v; seek = a .self .seek; left = a .self .left; spot = a .self .spot; width = a .self .width }
+
+pub part-spec : {M : Type 1} → statement M
+part-spec =
+    tie.close
+    (tie.spec
+    none-requires
+    wrapping-add-usize-requires
+    range-requires
+    choose-requires
+    pick-requires
+    returns)

@@ -1,0 +1,28 @@
+-- `signed` is one step, with the bits' value and the fault of their sign and size.
+use mathlib.Core.Bool.{true}
+use mathlib.Core.Path.{ap, ap₂, _∙_}
+use Rattle.walk.specs.Walk.{onward}
+use Rattle.walk.specs.laws.Reading.{got-lt}
+use Rattle.walk.specs.declared.walk.Walk.{Walk}
+use borrow.Author.Needs.{needs}
+use Rattle.walk.proofs.walk.Walk.signed.Statement.{statement}
+use Rattle.walk.proofs.walk.Walk.signed.Tie as tie
+
+get-requires : tie.Need-get-requires
+get-requires c κs = search needs
+
+signs-requires : tie.Need-signs-requires
+signs-requires c κs = search needs
+
+on-requires : tie.Need-on-requires
+on-requires c κs = search needs
+
+returns : tie.Need-returns
+unfolding onward
+returns c =
+    let a = c .before .before .before .before .args in
+    let e = c .on .ensures ∙ ap₂ (λ v x. onward (a .w) true v x 0 (a .self)) (c .before .before .get .ensures) (c .before .signs .ensures) in
+    (e, got-lt (a .s .now) (a .self .at) (a .w) (ap (λ (r : Walk). r .v) e))
+
+pub signed-spec : {M : Type 1} → statement M
+signed-spec = tie.close (tie.spec get-requires signs-requires on-requires returns)
