@@ -7,3 +7,4 @@ pub mod Xor
 pub mod Answers
 pub mod Loops
 pub mod Window
+pub mod Pairs

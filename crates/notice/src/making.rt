@@ -53,7 +53,7 @@ pub(crate) fn put(buf: &mut [u8], r: Notice, areas: &[u32], text: &[u8])
 {
     put_head(buf, r);
     let at = areas_making::put(buf, areas, r.count);
-    runs::put_bytes(buf, at, text);
+    bits::whole_bytes::put_bytes(buf, at, text);
     change::putting::fill(buf, at + text.len() * 8);
 }
 

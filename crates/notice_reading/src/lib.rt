@@ -119,7 +119,7 @@ pub fn read(s: &[u8], english: bool, areas: &mut [u32], text: &mut [u8]) -> Answ
     if areas.len() < numbers {
         return Answer::Refused(format::ROOM);
     }
-    runs::get_bytes(s, f.at, n, text);
+    bits::whole_bytes::get_bytes(s, f.at, n, text);
     Answer::Good(Told {
         notice,
         numbers,

@@ -35,5 +35,5 @@ pub(crate) fn put(buf: &mut [u8], r: Packet, content: &[u8])
     bits::put(buf, 12, 8, r.number as u64);
     bits::put(buf, 20, 6, r.total as u64);
     bits::put(buf, 26, 6, r.own as u64);
-    runs::put_bytes(buf, Packet::BITS, content);
+    bits::whole_bytes::put_bytes(buf, Packet::BITS, content);
 }

@@ -8,8 +8,8 @@ use lib.ListN.{length, getD}
 use lib.Seq.{drop-drop}
 use Rattle.bits.specs.Bits.{Bytes, bitsOf, fieldAt, bytesAt}
 use Rattle.bits.specs.laws.Digits.{bytes-zero, bytes-suc}
-use Rattle.runs.specs.Across.{acrossOf}
-use Rattle.runs.specs.laws.Pairs.{byte-across}
+use Rattle.bits.specs.Across.{acrossOf}
+use Rattle.bits.specs.laws.Pairs.{byte-across}
 use Rattle.text.specs.Text.{plain, levelOne, english, chinese}
 
 -- the n bytes from bit `at`, without the first i

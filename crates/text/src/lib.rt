@@ -12,7 +12,7 @@ ghost use Rattle.text.specs.Text.{plain, levelOne, english, chinese, inL
 pub fn spoken(s: &[u8], at: usize, n: usize, english: bool) -> bool
     ensures { λ r. ⌜ r ≡ (spanned (length (now (s .entry))) at n && inLanguage english (bytesAt (now (s .entry)) at n)) ⌝ }
 {
-    if runs::spans(s.len(), at, n) {
+    if bits::whole_bytes::spans(s.len(), at, n) {
         if english {
             return is_english(s, at, n);
         }
@@ -27,11 +27,11 @@ fn is_english(s: &[u8], at: usize, n: usize) -> bool
     ensures { λ r. ⌜ r ≡ english (bytesAt (now (s .entry)) at n) ⌝ }
 {
     let high = at / 8;
-    let low = runs::bytes_to(at);
+    let low = bits::whole_bytes::bytes_to(at);
     let mut good = true;
     let mut i = 0;
     while i < n {
-        good = still_plain(good, runs::across(s[high + i], s[low + i], at));
+        good = still_plain(good, bits::whole_bytes::across(s[high + i], s[low + i], at));
         i += 1;
     }
     good
@@ -43,10 +43,10 @@ fn is_chinese(s: &[u8], at: usize, n: usize) -> bool
     ensures { λ r. ⌜ r ≡ chinese (bytesAt (now (s .entry)) at n) ⌝ }
 {
     let high = at / 8;
-    let low = runs::bytes_to(at);
+    let low = bits::whole_bytes::bytes_to(at);
     let mut i = 0;
     while i < n {
-        let x = runs::across(s[high + i], s[low + i], at);
+        let x = bits::whole_bytes::across(s[high + i], s[low + i], at);
         i += 1;
         if is_plain(x) {
             continue;
@@ -54,7 +54,7 @@ fn is_chinese(s: &[u8], at: usize, n: usize) -> bool
         if i == n {
             return false; // half a pair
         }
-        if is_level_one(x, runs::across(s[high + i], s[low + i], at)) {
+        if is_level_one(x, bits::whole_bytes::across(s[high + i], s[low + i], at)) {
             i += 1;
         } else {
             return false;

@@ -50,5 +50,5 @@ pub(crate) fn put(buf: &mut [u8], r: Txsq, content: &[u8])
     bits::put(buf, 88, 24, r.receiver as u64);
     bits::put(buf, 112, 16, r.size as u64);
     bits::put(buf, 128, 8, r.answer as u64);
-    runs::put_bytes(buf, 136, content);
+    bits::whole_bytes::put_bytes(buf, 136, content);
 }

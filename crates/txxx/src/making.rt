@@ -39,7 +39,7 @@ pub(crate) fn put(buf: &mut [u8], r: Txxx, content: &[u8])
     bits::put(buf, 112, 8, r.hour as u64);
     bits::put(buf, 120, 8, r.minute as u64);
     bits::put(buf, 128, 16, r.size as u64);
-    runs::put_bytes(buf, 144, content);
+    bits::whole_bytes::put_bytes(buf, 144, content);
     let size = r.size as usize;
     bits::put(buf, 144 + (size + 7) / 8 * 8, 8, r.mark as u64);
 }

@@ -6,11 +6,11 @@ use native.Mathlib.Nat.{add-zero, mod-eq-of-lt}
 use native.Mathlib.Omega.{arith}
 use lib.Arith.{digits-div}
 use lib.ListN.{length, take, drop, getD}
 use Rattle.bits.specs.Bits.{Bytes, valueOf, bitsOf, fieldAt}
 use Rattle.bits.specs.laws.Fields.{field-byte}
 use Rattle.bits.specs.laws.Loops.{value-none, value-next}
 use Rattle.bits.specs.laws.Window.{field-window}
-use Rattle.runs.specs.Across.{acrossOf}
+use Rattle.bits.specs.Across.{acrossOf}
 
 value-pair : (s : List ℕ) (k : ℕ) → Bytes s → k + 1 < length s → valueOf (bitsOf (take 2 (drop k s))) ≡ getD s k 0 * 256 + getD s (k + 1) 0
 value-pair s k bytes h =

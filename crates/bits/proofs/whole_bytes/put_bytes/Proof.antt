@@ -5,9 +5,9 @@ use native.Mathlib.Omega.{arith}
 use borrow.Author.Tests.{leb-true}
 use lib.ListN.{length}
 use borrow.Author.Needs.{needs}
-use Rattle.runs.proofs.Pouring.{poured-none}
-use Rattle.runs.proofs.put_bytes.Statement.{statement}
-use Rattle.runs.proofs.put_bytes.Tie as tie
+use Rattle.bits.proofs.Pouring.{poured-none}
+use Rattle.bits.proofs.whole_bytes.put_bytes.Statement.{statement}
+use Rattle.bits.proofs.whole_bytes.put_bytes.Tie as tie
 
 spans-requires : tie.Need-spans-requires
 spans-requires c κs = search needs

@@ -3,10 +3,10 @@ use mathlib.Core.Path.{sym}
 use Prim.Native.Nat.{_+_, _*_, _-_}
 use native.Mathlib.Omega.{arith}
 use borrow.Author.Tests.{lt-leb}
 use Rattle.bits.specs.laws.Window.{same-test}
 use borrow.Author.Needs.{needs}
-use Rattle.runs.proofs.spans.Statement.{statement}
-use Rattle.runs.proofs.spans.Tie as tie
+use Rattle.bits.proofs.whole_bytes.spans.Statement.{statement}
+use Rattle.bits.proofs.whole_bytes.spans.Tie as tie
 
 returns : tie.Need-returns
 returns c = let a = c .before .args in sym (lt-leb (a .at + a .n * 8) (a .len * 8) (omega arith))

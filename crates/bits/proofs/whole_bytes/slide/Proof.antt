@@ -4,10 +4,10 @@ use Prim.Native.Nat.{_-_, _≤_}
 use native.Mathlib.Omega.{arith}
 use borrow.Author.Needs.{needs}
 use lib.ListN.{length, length-set}
-use Rattle.runs.specs.laws.Pairs.{byte-across}
-use Rattle.runs.proofs.Sliding.{slid, slid-none, slid-next}
-use Rattle.runs.proofs.slide.Statement.{statement}
-use Rattle.runs.proofs.slide.Tie as tie
+use Rattle.bits.specs.laws.Pairs.{byte-across}
+use Rattle.bits.proofs.Sliding.{slid, slid-none, slid-next}
+use Rattle.bits.proofs.whole_bytes.slide.Statement.{statement}
+use Rattle.bits.proofs.whole_bytes.slide.Tie as tie
 
 abbrev Inv-loop : tie.InvT-loop
 Inv-loop s at n out₀ to high low i₀ out i = (i ≤ n) × (length out ≡ length out₀) × (out ≡ slid s at out₀ to i)

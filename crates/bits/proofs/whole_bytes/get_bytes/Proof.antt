@@ -7,8 +7,8 @@ use native.Mathlib.Omega.{arith}
 use borrow.Author.Tests.{leb-true, le-leb, lt-leb}
 use lib.ListN.{length}
 use borrow.Author.Needs.{needs}
-use Rattle.runs.proofs.get_bytes.Statement.{statement}
-use Rattle.runs.proofs.get_bytes.Tie as tie
+use Rattle.bits.proofs.whole_bytes.get_bytes.Statement.{statement}
+use Rattle.bits.proofs.whole_bytes.get_bytes.Tie as tie
 
 spans-requires : tie.Need-spans-requires
 spans-requires c κs = search needs

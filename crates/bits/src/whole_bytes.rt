@@ -4,9 +4,9 @@ ghost use mathlib.Core.List.{_++_};
 ghost use mathlib.Core.Path.{_≡_};
 ghost use Prim.Native.Nat.{_+_, _*_, _/_, _≤_, _<_};
 ghost use lib.ListN.{length, take, drop};
 ghost use Rattle.bits.specs.Answers.{spanned, gettable};
 ghost use Rattle.bits.specs.Bits.{bytesAt, putBytesAt};
-ghost use Rattle.runs.specs.Across.{acrossOf};
+ghost use Rattle.bits.specs.Across.{acrossOf};
 
 // The `n` bytes that start at bit `at` of `s`, which need be no byte's first, into the front of `out`. Where they do not lie
 // within `s`, or `out` is too short, says so and leaves every byte.
@@ -73,13 +73,13 @@ fn pour(buf: &mut [u8], at: usize, t: &[u8])
     let first = 8 - left;
     let whole = t.len() - 1;
     let end = at / 8 + t.len();
-    bits::put(buf, at, first, bits::get(t, 0, first));
+    crate::put(buf, at, first, crate::get(t, 0, first));
     slide(t, first, whole, buf, at / 8 + 1);
-    bits::put(
+    crate::put(
         &mut buf[end..],
         0,
         left,
-        bits::get(&t[whole..], first, left),
+        crate::get(&t[whole..], first, left),
     );
 }
 

@@ -1,9 +1,9 @@
 -- `runs::pour` meets its contract: its three parts are put in one behind the other (`poured`).
 use native.Mathlib.Omega.{arith}
-use Rattle.runs.proofs.Pouring.{poured}
+use Rattle.bits.proofs.Pouring.{poured}
 use borrow.Author.Needs.{needs}
-use Rattle.runs.proofs.pour.Statement.{statement}
-use Rattle.runs.proofs.pour.Tie as tie
+use Rattle.bits.proofs.whole_bytes.pour.Statement.{statement}
+use Rattle.bits.proofs.whole_bytes.pour.Tie as tie
 
 sub-first : tie.Need-sub-first
 sub-first c = search needs
