@@ -4,8 +4,8 @@ use mathlib.Core.List.{List, [], _∷_}
 use lib.IntN.{ℤ, pos}
 use Rattle.format.specs.Fmt.{Out, also}
 use Rattle.format.specs.Promises.{readRecord}
-use Rattle.gljc_reading.specs.Gljc.{gljcs, recordOf as framed}
-use Rattle.gljc_reading.specs.declared.Gljc.{Gljc}
+use Rattle.gljc.specs.Gljc.{gljcs, recordOf as framed}
+use Rattle.gljc.specs.declared.reading.Gljc.{Gljc}
 
 -- a record's numbers, in the paper's order
 unfoldable pub rowOf : Gljc → List ℤ

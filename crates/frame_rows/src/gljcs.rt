@@ -2,14 +2,14 @@
 ghost use mathlib.Core.Path.{_≡_};
 ghost use Rattle.rows.specs.Row.{Fills};
 ghost use Rattle.frame_rows.specs.Gljc.{rowOf, numbersOf};
-use gljc_reading::Answer;
-use gljc_reading::Gljc;
+use gljc::Answer;
+use gljc::Gljc;
 
 // Reads the frame into a row of 2: address, minutes.
 pub fn read(s: &[u8], row: &mut [i64]) -> u8
     ensures { λ code. ⌜ Fills (numbersOf (now (s .entry))) (now (row .entry)) code (now (row .exit)) ⌝ }
 {
-    let answer = gljc_reading::read(s);
+    let answer = gljc::read(s);
     match answer {
         Answer::Good(r) => {
             let numbers = numbers(r);

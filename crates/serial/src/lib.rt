@@ -18,8 +18,8 @@ pub fn code(s: &[u8]) -> u8
 fn code_as(letters: u64, s: &[u8]) -> u8
     ensures { λ r. ⌜ r ≡ codeAs letters (now (s .entry)) ⌝ }
 {
-    if letters == gljc_reading::LETTERS {
-        return gljc_reading::read(s).refusal();
+    if letters == gljc::LETTERS {
+        return gljc::read(s).refusal();
     }
     if letters == txsq_reading::LETTERS {
         return txsq_reading::read(s).refusal();

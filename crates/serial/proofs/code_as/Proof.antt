@@ -3,8 +3,8 @@ use mathlib.Core.Path.{refl, ap, _∙_}
 use borrow.Author.Tests.{eq-eqb, ne-eqb}
 use Rattle.format.specs.Message.{readMessage}
 use Rattle.format.specs.laws.Answers.{numbered}
-use Rattle.gljc_reading.specs.Gljc.{gljcs, recordOf as gljcOf, numberOf as gljcNumber, letters as GLJC}
-use Rattle.gljc_reading.specs.declared.Answer.the-variants.{Good as gljcGood, Refused as gljcBad}
+use Rattle.gljc.specs.Gljc.{gljcs, recordOf as gljcOf, numberOf as gljcNumber, letters as GLJC}
+use Rattle.gljc.specs.declared.reading.Answer.the-variants.{Good as gljcGood, Refused as gljcBad}
 use Rattle.txsq_reading.specs.Txsq.{txsqs, recordOf as txsqOf, numberOf as txsqNumber, letters as TXSQ}
 use Rattle.txsq_reading.specs.declared.Answer.the-variants.{Good as txsqGood, Refused as txsqBad}
 use Rattle.txxx_reading.specs.Txxx.{txxxs, recordOf as txxxOf, numberOf as txxxNumber, letters as TXXX}

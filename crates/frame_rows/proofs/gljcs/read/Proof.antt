@@ -2,8 +2,8 @@
 use mathlib.Core.Path.{refl}
 use Rattle.format.specs.Promises.{readRecord}
 use Rattle.rows.specs.laws.Row.{fills-good, fills-refused}
-use Rattle.gljc_reading.specs.Gljc.{gljcs, recordOf as framed, outOf}
-use Rattle.gljc_reading.specs.declared.Answer.the-variants.{Good, Refused}
+use Rattle.gljc.specs.Gljc.{gljcs, recordOf as framed, outOf}
+use Rattle.gljc.specs.declared.reading.Answer.the-variants.{Good, Refused}
 use Rattle.frame_rows.specs.Gljc.{rowOf}
 use borrow.Author.Needs.{needs}
 use Rattle.frame_rows.proofs.gljcs.read.Statement.{statement}

@@ -1,0 +1,77 @@
+-- `fields` walks the frame as its layout stands: one step a field, then the record is that of the values.
+use mathlib.Core.Path.{sym, ap, _∙_}
+use mathlib.Core.Bool.{cond}
+use lib.Dec.{lit<, lit≤}
+use Rattle.format.specs.Fmt.{also}
+use Rattle.frame.specs.laws.Head.{head-read}
+use Rattle.format.specs.laws.Answers.{told-so}
+use Rattle.walk.specs.laws.Reading.{step-num}
+use Rattle.walk.specs.laws.Walked.{finish}
+use native.Mathlib.Omega.{arith}
+use Rattle.format.specs.laws.Lead.{exact-fields, other-size}
+use Rattle.gljc.specs.Gljc.{letters, gljc, recordOf, answerOf}
+use Rattle.gljc.specs.declared.reading.Answer.the-variants.{Good, Refused}
+use borrow.Author.Needs.{needs}
+use Rattle.gljc.proofs.reading.fields.Statement.{statement}
+use Rattle.gljc.proofs.reading.fields.Tie as tie
+
+none-requires : tie.Need-none-requires
+none-requires c κs = search needs
+
+choose-requires : tie.Need-choose-requires
+choose-requires c κs = search needs
+
+returns : tie.Need-returns
+returns c =
+    let test = c .before .before in
+    let a = test .before .before .args in
+    ap Refused (c .choose .ensures ∙ ap (λ x. cond x 1 (a .code)) (c .before .none .ensures))
+    ∙ sym (ap (λ o. answerOf (also recordOf o)) (other-size gljc 11 11 (a .code) (a .s .now) (λ l u. test .if1 .taken (omega (arith, l, u)))))
+
+head-requires : tie.Need-head-requires
+head-requires c κs = search needs
+
+cast-address : tie.Need-cast-address
+cast-address c = search needs
+
+num-requires : tie.Need-num-requires
+num-requires c κs = search needs
+
+cast-minutes : tie.Need-cast-minutes
+cast-minutes c = search needs
+
+end-requires : tie.Need-end-requires
+end-requires c κs = search needs
+
+told-requires : tie.Need-told-requires
+told-requires c κs = search needs
+
+returns-2 : tie.Need-returns-2
+unfolding gljc recordOf
+returns-2 c =
+    let ended = c .before in
+    let c1 = ended .before .before in
+    let c0 = c1 .before .before in
+    let test = c0 .before in
+    let a = test .before .before .args in
+    let s = a .s .now in
+    let r0 = head-read letters 12 12 _ s (a .code) (c0 .head .ensures .0) in
+    let r1 = step-num 8 (lit< tt) (lit≤ tt) (lit< tt) 0 255 r0 (c1 .num .ensures .0) in
+    let w = finish (lit< tt) r1 (ended .end .ensures) in
+    c .told .ensures ∙ told-so Good Refused recordOf _ _ (ended .end .result .code) (ended .end .result .place) (w .so)
+    ∙ sym (ap (λ o. answerOf (also recordOf o)) (exact-fields gljc 11 (a .code) s (λ z. test .if1 .left)))
+
+pub fields-spec : {M : Type 1} → statement M
+fields-spec =
+    tie.close
+    (tie.spec
+    none-requires
+    choose-requires
+    returns
+    head-requires
+    cast-address
+    num-requires
+    cast-minutes
+    end-requires
+    told-requires
+    returns-2)
