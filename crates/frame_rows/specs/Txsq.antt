@@ -5,8 +5,8 @@ use lib.IntN.{ℤ, pos}
 use Rattle.frame.specs.Frame.{bytesFor}
 use Rattle.format.specs.Fmt.{Out, also}
 use Rattle.format.specs.Promises.{readRecord}
-use Rattle.txsq_reading.specs.Txsq.{txsqs, recordOf as framed}
-use Rattle.txsq_reading.specs.declared.Txsq.{Txsq}
+use Rattle.txsq.specs.Txsq.{txsqs, recordOf as framed}
+use Rattle.txsq.specs.declared.reading.Txsq.{Txsq}
 
 -- a record's numbers, in the paper's order; then the byte where the content begins, and its bytes
 unfoldable pub rowOf : Txsq → List ℤ

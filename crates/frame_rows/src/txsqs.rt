@@ -2,14 +2,14 @@
 ghost use mathlib.Core.Path.{_≡_};
 ghost use Rattle.rows.specs.Row.{Fills};
 ghost use Rattle.frame_rows.specs.Txsq.{rowOf, numbersOf};
-use txsq_reading::Answer;
-use txsq_reading::Txsq;
+use txsq::Answer;
+use txsq::Txsq;
 
 // Reads the frame into a row of 9: address, category, mode, password, receiver, size, answer, where the content begins and its bytes.
 pub fn read(s: &[u8], row: &mut [i64]) -> u8
     ensures { λ code. ⌜ Fills (numbersOf (now (s .entry))) (now (row .entry)) code (now (row .exit)) ⌝ }
 {
-    let answer = txsq_reading::read(s);
+    let answer = txsq::read(s);
     match answer {
         Answer::Good(r) => {
             let numbers = numbers(r);

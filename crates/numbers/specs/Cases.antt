@@ -8,7 +8,7 @@ use Rattle.bits.specs.Bits.{putAt}
 use Rattle.format.specs.Fmt.{Out, after}
 use Rattle.format.specs.Message.{leaves, writeMessage, correctMessage}
 use Rattle.format.specs.Promises.{answered, readRecord}
-use Rattle.txsq_reading.specs.Txsq.{txsqs, recordOf as txsqOf}
+use Rattle.txsq.specs.Txsq.{txsqs, recordOf as txsqOf}
 use Rattle.gljc.specs.Gljc.{gljcs, recordOf as gljcOf}
 use Rattle.distress_reading.specs.Report.{reports, reportOf, valuesOf as reportValues}
 use Rattle.distress_reading.specs.Changed.{changed}

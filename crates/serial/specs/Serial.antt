@@ -7,7 +7,7 @@ use lib.ListN.{length}
 use Rattle.bits.specs.Bits.{fieldAt}
 use Rattle.format.specs.Message.{readMessage, codeOf as refusal}
 use Rattle.gljc.specs.Gljc.{gljcs, letters as GLJC}
-use Rattle.txsq_reading.specs.Txsq.{txsqs, letters as TXSQ}
+use Rattle.txsq.specs.Txsq.{txsqs, letters as TXSQ}
 use Rattle.txxx_reading.specs.Txxx.{txxxs, letters as TXXX}
 use Rattle.txhz_reading.specs.Txhz.{txhzs, letters as TXHZ}
 

@@ -21,8 +21,8 @@ fn code_as(letters: u64, s: &[u8]) -> u8
     if letters == gljc::LETTERS {
         return gljc::read(s).refusal();
     }
-    if letters == txsq_reading::LETTERS {
-        return txsq_reading::read(s).refusal();
+    if letters == txsq::LETTERS {
+        return txsq::read(s).refusal();
     }
     if letters == txxx_reading::LETTERS {
         return txxx_reading::read(s).refusal();

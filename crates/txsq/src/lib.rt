@@ -1,27 +1,12 @@
 // The frame TXSQ (paper 01, "Serial frames"): content for a receiver.
-ghost use mathlib.Core.Bool.{true};
-ghost use Rattle.format.specs.Promises.{Writes};
-ghost use Rattle.txsq_reading.specs.Txsq.{txsqs, valuesOf};
-pub use txsq_correcting::correct;
-pub use txsq_reading::Answer;
-pub use txsq_reading::LETTERS;
-pub use txsq_reading::Txsq;
-pub use txsq_reading::content;
-pub use txsq_reading::read;
+pub use crate::correcting::correct;
+pub use crate::reading::Answer;
+pub use crate::reading::LETTERS;
+pub use crate::reading::Txsq;
+pub use crate::reading::content;
+pub use crate::reading::read;
+pub use crate::writing::write;
 
-mod making;
-
-// Writes the frame into the front of a lent buffer: record and content are judged, then room (6); the bytes past the frame stay.
-pub fn write(buf: &mut [u8], r: Txsq, content: &[u8]) -> u8
-    ensures { λ code. ⌜ Writes txsqs (now (buf .entry)) code (now (buf .exit)) (valuesOf (r, now (content .entry))) ⌝ }
-{
-    let w = making::judged(r, content);
-    let n = w.bytes(false);
-    let code = w.closes(true, Txsq::LEAST, Txsq::GREATEST, buf.len());
-    if code != 0 {
-        return code;
-    }
-    making::put(buf, r, content);
-    change::sealing::stamp(buf, n);
-    0
-}
+pub mod correcting;
+pub mod reading;
+pub mod writing;

@@ -13,7 +13,7 @@ use Rattle.format.specs.Fmt.{readField, read, writeField, sized, write, spot}
 use Rattle.format.specs.Message.{readMessage, writeMessage, correctMessage}
 use Rattle.format.specs.Words.{walk, wide, orZero}
 use Rattle.frame.specs.Frame.{leads}
-use Rattle.txsq_reading.specs.Txsq.{txsq, txsqs, recordOf as txsqOf}
+use Rattle.txsq.specs.Txsq.{txsq, txsqs, recordOf as txsqOf}
 use Rattle.gljc.specs.Gljc.{gljc, gljcs}
 use Rattle.distress_reading.specs.Report.{report, reports, reportOf, valuesOf as reportValues}
 use Rattle.distress_reading.specs.Changed.{changed}

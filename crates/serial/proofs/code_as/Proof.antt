@@ -5,8 +5,8 @@ use Rattle.format.specs.Message.{readMessage}
 use Rattle.format.specs.laws.Answers.{numbered}
 use Rattle.gljc.specs.Gljc.{gljcs, recordOf as gljcOf, numberOf as gljcNumber, letters as GLJC}
 use Rattle.gljc.specs.declared.reading.Answer.the-variants.{Good as gljcGood, Refused as gljcBad}
-use Rattle.txsq_reading.specs.Txsq.{txsqs, recordOf as txsqOf, numberOf as txsqNumber, letters as TXSQ}
-use Rattle.txsq_reading.specs.declared.Answer.the-variants.{Good as txsqGood, Refused as txsqBad}
+use Rattle.txsq.specs.Txsq.{txsqs, recordOf as txsqOf, numberOf as txsqNumber, letters as TXSQ}
+use Rattle.txsq.specs.declared.reading.Answer.the-variants.{Good as txsqGood, Refused as txsqBad}
 use Rattle.txxx_reading.specs.Txxx.{txxxs, recordOf as txxxOf, numberOf as txxxNumber, letters as TXXX}
 use Rattle.txxx_reading.specs.declared.Answer.the-variants.{Good as txxxGood, Refused as txxxBad}
 use Rattle.txhz_reading.specs.Txhz.{txhzs, recordOf as txhzOf, numberOf as txhzNumber, letters as TXHZ}
@@ -17,8 +17,8 @@ use Rattle.serial.proofs.code_as.Statement.{statement}
 use Rattle.serial.proofs.code_as.Tie as tie
 use Rattle.txhz_reading.proofs.Answer.refusal.Reads as Answer-refusal-reads′
 use Rattle.txhz_reading.proofs.read.Reads as read-reads′
-use Rattle.txsq_reading.proofs.Answer.refusal.Reads as Answer-refusal-reads′′
-use Rattle.txsq_reading.proofs.read.Reads as read-reads′′
+use Rattle.txsq.proofs.reading.Answer.refusal.Reads as Answer-refusal-reads′′
+use Rattle.txsq.proofs.reading.read.Reads as read-reads′′
 use Rattle.txxx_reading.proofs.Answer.refusal.Reads as Answer-refusal-reads′′′
 use Rattle.txxx_reading.proofs.read.Reads as read-reads′′′
 

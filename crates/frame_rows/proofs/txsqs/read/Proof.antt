@@ -2,8 +2,8 @@
 use mathlib.Core.Path.{refl}
 use Rattle.format.specs.Promises.{readRecord}
 use Rattle.rows.specs.laws.Row.{fills-good, fills-refused}
-use Rattle.txsq_reading.specs.Txsq.{txsqs, recordOf as framed, outOf}
-use Rattle.txsq_reading.specs.declared.Answer.the-variants.{Good, Refused}
+use Rattle.txsq.specs.Txsq.{txsqs, recordOf as framed, outOf}
+use Rattle.txsq.specs.declared.reading.Answer.the-variants.{Good, Refused}
 use Rattle.frame_rows.specs.Txsq.{rowOf}
 use borrow.Author.Needs.{needs}
 use Rattle.frame_rows.proofs.txsqs.read.Statement.{statement}

@@ -1,0 +1,167 @@
+-- `fields` walks the frame as its layout stands: one step a field, then the record is that of the values.
+use mathlib.Core.Path.{refl, ap, ap₂, _∙_}
+use mathlib.Core.Bool.{true, false}
+use Prim.Native.Nat.{_<_, _^_}
+use native.Mathlib.Omega.{arith}
+use lib.Dec.{lit<, lit≤}
+use Rattle.frame.specs.laws.Head.{head-read}
+use Rattle.format.specs.Fmt.{pad}
+use Rattle.walk.specs.Reading.{ranged}
+use Rattle.format.specs.Words.{_‥_, ago}
+use Rattle.format.specs.laws.Answers.{told-so}
+use Rattle.walk.specs.laws.Reading.{step-code, step-num, step-limits, step-given, step-content, step-fill}
+use Rattle.format.specs.laws.Tells.{twice-tells}
+use Rattle.walk.specs.laws.Walked.{finish}
+use Rattle.txsq.specs.Txsq.{letters, allowed, bounded, limits, filling, txsq, recordOf}
+use Rattle.txsq.specs.declared.reading.Answer.the-variants.{Good, Refused}
+use borrow.Author.Needs.{needs}
+use Rattle.txsq.proofs.reading.fields.Statement.{statement}
+use Rattle.txsq.proofs.reading.fields.Tie as tie
+
+head-requires : tie.Need-head-requires
+head-requires c κs = search needs
+
+cast-address : tie.Need-cast-address
+cast-address c = search needs
+
+code-requires : tie.Need-code-requires
+code-requires c κs = search needs
+
+num-requires : tie.Need-num-requires
+num-requires c κs = search needs
+
+cast-category : tie.Need-cast-category
+cast-category c = search needs
+
+num-requires-2 : tie.Need-num-requires-2
+num-requires-2 c κs = search needs
+
+cast-mode : tie.Need-cast-mode
+cast-mode c = search needs
+
+allowed-requires : tie.Need-allowed-requires
+allowed-requires c κs = search needs
+
+num-requires-3 : tie.Need-num-requires-3
+num-requires-3 c κs = search needs
+
+cast-password : tie.Need-cast-password
+cast-password c = search needs
+
+num-requires-4 : tie.Need-num-requires-4
+num-requires-4 c κs = search needs
+
+cast-receiver : tie.Need-cast-receiver
+cast-receiver c = search needs
+
+get-requires : tie.Need-get-requires
+get-requires c κs = search needs
+
+get-requires-2 : tie.Need-get-requires-2
+get-requires-2 c κs = search needs
+
+limit-requires : tie.Need-limit-requires
+limit-requires c κs = search needs
+
+given-requires : tie.Need-given-requires
+given-requires c κs = search needs
+
+cast-size : tie.Need-cast-size
+cast-size c = search needs
+
+allowed-requires-2 : tie.Need-allowed-requires-2
+allowed-requires-2 c κs = search needs
+
+num-requires-5 : tie.Need-num-requires-5
+num-requires-5 c κs = search needs
+
+cast-answer : tie.Need-cast-answer
+cast-answer c = search needs
+
+cast-content : tie.Need-cast-content
+cast-content c = search needs
+
+content-requires : tie.Need-content-requires
+content-requires c κs = search needs
+
+spare-requires : tie.Need-spare-requires
+spare-requires c κs = search needs
+
+fill-requires : tie.Need-fill-requires
+fill-requires c κs = search needs
+
+end-requires : tie.Need-end-requires
+end-requires c κs = search needs
+
+told-requires : tie.Need-told-requires
+told-requires c κs = search needs
+
+returns : tie.Need-returns
+unfolding txsq recordOf
+returns c =
+    let ended = c .before in
+    let fill = ended .before in
+    let spare = fill .before in
+    let carried = spare .before in
+    let answer = carried .before .before in
+    let with = answer .before in
+    let given = with .before .before in
+    let limit = given .before in
+    let bits = limit .before in
+    let length = bits .before in
+    let receiver = length .before .before in
+    let password = receiver .before .before in
+    let needs = password .before in
+    let mode = needs .before .before in
+    let category = mode .before .before in
+    let class = category .before in
+    let head = class .before .before in
+    let a = head .before .before .args in
+    let s = a .s .now in
+    let l = given .given .result .v in
+    let small : l < 2 ^ 16 = given .given .ensures .1 in
+    let r0 = head-read letters 0 65_535 _ s (a .code) (head .head .ensures .0) in
+    let r1 = step-code 4 (lit≤ tt) (lit< tt) 0b0100 r0 (class .code .ensures) in
+    let r2 = step-num 2 (lit< tt) (lit≤ tt) (lit< tt) 0 1 r1 (category .num .ensures .0) in
+    let r3 = step-num 1 (lit< tt) (lit≤ tt) (lit< tt) 0 1 r2 (mode .num2 .ensures .0) in
+    let r4 = step-limits 1 (lit< tt) (lit≤ tt) (lit< tt) 3 0 _ (λ h. (0 ‥ allowed (ago 1 h) 1) h) (λ v. refl) r3 (password .num3 .ensures .0 ∙ ap (λ n. ranged s 1 true 0 n 4 (mode .num2 .result)) (needs .allowed .ensures)) in
+    let r5 = step-num 24 (lit< tt) (lit≤ tt) (lit< tt) 0 2_097_151 r4 (receiver .num4 .ensures .0) in
+    let fault = limit .limit .ensures ∙ ap₂ (bounded (category .num .result .v) (mode .num2 .result .v) (password .num3 .result .v)) (length .get .ensures) (bits .get2 .ensures) in
+    let r6 = step-given 16 (lit≤ tt) (lit< tt) (lit< tt) (twice-tells 16 3 0 limits filling _) fault r5 (given .given .ensures .0) in
+    let r7 = step-limits 8 (lit< tt) (lit≤ tt) (lit< tt) 3 0 _ (λ h. (0 ‥ allowed (ago 2 h) 255) h) (λ v. refl) r6 (answer .num5 .ensures .0 ∙ ap (λ n. ranged s 8 true 0 n 4 (given .given .result)) (with .allowed2 .ensures)) in
+    let r8 = step-content l (omega (arith, small)) r7 (carried .content .ensures) in
+    let r9 = step-fill (pad l) (omega arith) (omega (arith, small)) r8 (fill .fill .ensures ∙ ap (λ p. ranged s p false 0 0 5 (carried .content .result)) (spare .spare .ensures)) in
+    let w = finish (omega (arith, small)) r9 (ended .end .ensures) in
+    c .told .ensures ∙ told-so (λ r. Good (r .0)) Refused recordOf _ _ (ended .end .result .code) (ended .end .result .place) (w .so)
+
+pub fields-spec : {M : Type 1} → statement M
+fields-spec =
+    tie.close
+    (tie.spec
+    head-requires
+    cast-address
+    code-requires
+    num-requires
+    cast-category
+    num-requires-2
+    cast-mode
+    allowed-requires
+    num-requires-3
+    cast-password
+    num-requires-4
+    cast-receiver
+    get-requires
+    get-requires-2
+    limit-requires
+    given-requires
+    cast-size
+    allowed-requires-2
+    num-requires-5
+    cast-answer
+    cast-content
+    content-requires
+    spare-requires
+    fill-requires
+    end-requires
+    told-requires
+    returns)

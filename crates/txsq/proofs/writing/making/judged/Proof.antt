@@ -1,0 +1,172 @@
+-- `judged` walks the values in bit order: each step is a law of judging.
+use mathlib.Core.Path.{refl, ap, ap₂, _∙_}
+use mathlib.Core.Bool.{false}
+use Prim.Native.Nat.{_<_, _^_}
+use native.Mathlib.Omega.{arith}
+use lib.Dec.{lit<}
+use lib.ListN.{length as length-of}
+use Rattle.bits.specs.Answers.{got as got-of}
+use Rattle.bits.specs.Bits.{fieldAt}
+use Rattle.bits.specs.laws.Fields.{field-lt}
+use Rattle.frame.specs.Frame.{declared}
+use Rattle.frame.specs.Steps.{headJudged}
+use Rattle.frame.specs.laws.Content.{declared-small, got-fill}
+use Rattle.frame.specs.laws.Head.{head-judged}
+use Rattle.format.specs.Fmt.{pad}
+use Rattle.walk.specs.Judging.{valued, filled}
+use Rattle.format.specs.Words.{any, _‥_, ago}
+use Rattle.format.specs.laws.Extent.{opens-field, opens-choice}
+use Rattle.walk.specs.laws.Judging.{judge-fixed, judge-num, judge-limits, judge-tells, judge-end}
+use Rattle.format.specs.laws.Tells.{only-tells, twice-tells}
+use Rattle.txsq.specs.Txsq.{letters, body, allowed, bounded, limits, filling, txsq, valuesOf}
+use Rattle.txsq.specs.laws.Demands.{allowed-below}
+use borrow.Author.Needs.{needs}
+use Rattle.txsq.proofs.writing.making.judged.Statement.{statement}
+use Rattle.txsq.proofs.writing.making.judged.Tie as tie
+
+declared-requires : tie.Need-declared-requires
+declared-requires c κs = search needs
+
+cast-size : tie.Need-cast-size
+cast-size c = search needs
+
+cast-judged : tie.Need-cast-judged
+cast-judged c = search needs
+
+judged-requires : tie.Need-judged-requires
+judged-requires c κs = search needs
+
+fixed-requires : tie.Need-fixed-requires
+fixed-requires c κs = search needs
+
+cast-value : tie.Need-cast-value
+cast-value c = search needs
+
+value-requires : tie.Need-value-requires
+value-requires c κs = search needs
+
+cast-value-2 : tie.Need-cast-value-2
+cast-value-2 c = search needs
+
+value-requires-2 : tie.Need-value-requires-2
+value-requires-2 c κs = search needs
+
+cast-value-3 : tie.Need-cast-value-3
+cast-value-3 c = search needs
+
+allowed-requires : tie.Need-allowed-requires
+allowed-requires c κs = search needs
+
+value-requires-3 : tie.Need-value-requires-3
+value-requires-3 c κs = search needs
+
+cast-value-4 : tie.Need-cast-value-4
+cast-value-4 c = search needs
+
+value-requires-4 : tie.Need-value-requires-4
+value-requires-4 c κs = search needs
+
+limit-requires : tie.Need-limit-requires
+limit-requires c κs = search needs
+
+on-requires : tie.Need-on-requires
+on-requires c κs = search needs
+
+cast-value-5 : tie.Need-cast-value-5
+cast-value-5 c = search needs
+
+allowed-requires-2 : tie.Need-allowed-requires-2
+allowed-requires-2 c κs = search needs
+
+value-requires-5 : tie.Need-value-requires-5
+value-requires-5 c κs = search needs
+
+cast-wide : tie.Need-cast-wide
+cast-wide c = search needs
+
+wide-requires : tie.Need-wide-requires
+wide-requires c κs = search needs
+
+spare-requires : tie.Need-spare-requires
+spare-requires c κs = search needs
+
+cast-get : tie.Need-cast-get
+cast-get c = search needs
+
+get-requires : tie.Need-get-requires
+get-requires c κs = search needs
+
+fill-value-requires : tie.Need-fill-value-requires
+fill-value-requires c κs = search needs
+
+returns : tie.Need-returns
+unfolding txsq valuesOf
+returns c =
+    let got = c .before in
+    let known = got .before in
+    let spare = known .before in
+    let wide = spare .before in
+    let answer = wide .before .before in
+    let with = answer .before in
+    let on = with .before .before in
+    let limit = on .before in
+    let receiver = limit .before in
+    let password = receiver .before .before in
+    let needs = password .before in
+    let mode = needs .before .before in
+    let category = mode .before .before in
+    let class = category .before .before in
+    let head = class .before in
+    let length = head .before .before .before in
+    let a = length .before .before .args in
+    let r = a .r in
+    let b = a .content .now in
+    let l = r .size in
+    let small : l < 2 ^ 16 = known .struct-known9 .given .1 .1 .1 .1 .1 .0 .fits in
+    let r0 = head-judged letters 0 65_535 body (declared 18 (length-of b)) (r .address) _ (lit< tt) (omega arith) (declared-small 18 (length-of b)) (lit< tt)
+    (head .judged .ensures ∙ ap (λ n. headJudged letters n (r .address)) (length .declared .ensures)) in
+    let r1 = judge-fixed 4 1 0b0100 (lit< tt) (lit< tt) r0 (class .fixed .ensures) in
+    let r2 = judge-num 2 (lit< tt) 0 1 (lit< tt) r1 (category .value .ensures) in
+    let r3 = judge-num 1 (lit< tt) 0 1 (lit< tt) r2 (mode .value2 .ensures) in
+    let r4 = judge-limits 1 (lit< tt) (λ h. (0 ‥ allowed (ago 1 h) 1) h) 0 (allowed (r .category) 1) (allowed-below (r .category) 1 2 (lit< tt) (lit< tt)) (λ l. refl) r3
+    (password .value3 .ensures ∙ ap (λ n. valued 1 (r .password) 0 n (mode .value2 .result)) (needs .allowed .ensures)) in
+    let r5 = judge-num 24 (lit< tt) 0 2_097_151 (lit< tt) r4 (receiver .value4 .ensures) in
+    let fault = limit .limit .ensures ∙ ap (λ n. bounded (r .category) (r .mode) (r .password) n l) (length .declared .ensures) in
+    let r6 = judge-tells 16 false l (limit .limit .result) (lit< tt) small (twice-tells 16 3 0 limits filling _) fault opens-choice r5 (on .on .ensures) in
+    let r7 = judge-limits 8 (lit< tt) (λ h. (0 ‥ allowed (ago 2 h) 255) h) 0 (allowed (r .password) 255) (allowed-below (r .password) 255 256 (lit< tt) (lit< tt)) (λ l. refl) r6
+    (answer .value5 .ensures ∙ ap (λ n. valued 8 (r .answer) 0 n (on .on .result)) (with .allowed2 .ensures)) in
+    let r8 = judge-tells l false 0 0 (omega (arith, small)) (field-lt b 0 l) (only-tells l 3 any _) refl opens-field r7 (wide .wide .ensures) in
+    let fill = got .get .ensures ∙ ap (λ p. got-of b l p) (spare .spare .ensures) ∙ got-fill b l in
+    judge-end (judge-tells (pad l) false (fieldAt b l (pad l)) _ (omega (arith, small)) (field-lt b l (pad l)) (only-tells (pad l) 4 (0 ‥ 0) _) refl opens-field r8
+    (c .fill-value .ensures ∙ ap₂ (λ p v. filled p v (wide .wide .result)) (spare .spare .ensures) fill))
+
+pub judged-spec : {M : Type 1} → statement M
+judged-spec =
+    tie.close
+    (tie.spec
+    declared-requires
+    cast-size
+    cast-judged
+    judged-requires
+    fixed-requires
+    cast-value
+    value-requires
+    cast-value-2
+    value-requires-2
+    cast-value-3
+    allowed-requires
+    value-requires-3
+    cast-value-4
+    value-requires-4
+    limit-requires
+    on-requires
+    cast-value-5
+    allowed-requires-2
+    value-requires-5
+    cast-wide
+    wide-requires
+    spare-requires
+    cast-get
+    get-requires
+    fill-value-requires
+    returns)

@@ -1,0 +1,180 @@
+// The frame TXSQ (paper 01, "Serial frames"): content for a receiver.
+ghost use mathlib.Core.Path.{_≡_};
+ghost use mathlib.Core.Bool.{true, cond};
+ghost use Prim.Native.Nat.{_%_};
+ghost use mathlib.Core.List.{[]};
+ghost use lib.Dec.{eqb};
+ghost use Rattle.bits.specs.Bits.{bitsOf};
+ghost use Rattle.format.specs.Fmt.{also, check, read as Fmt·read};
+ghost use Rattle.format.specs.Message.{fault};
+ghost use Rattle.txsq.specs.Txsq.{txsq, allowed as Txsq·allowed, bounded, recordOf, answerOf, numberOf};
+ghost use Rattle.txsq.specs.Promises.{Reads, Shows};
+ghost use Rattle.txsq.specs.declared.reading.Answer.the-variants.{Good, Refused};
+
+// The content, whole bytes with their unused low bits, stands beside the record: in the frame that was read, or lent to be written.
+pub struct Txsq {
+    pub address: u32,
+    // 0 or 1.
+    pub category: u8,
+    // 0 text, 1 code.
+    pub mode: u8,
+    // 1 only in category 1.
+    pub password: u8,
+    pub receiver: u32,
+    // How many bits the content has.
+    pub size: u16,
+    // 0 without a password.
+    pub answer: u8,
+}
+
+pub enum Answer {
+    Good(Txsq),
+    Refused(u8),
+}
+
+impl Answer {
+    // The record, unless a walk over its frame ended with a refusal.
+    fn told(code: u8, r: Txsq) -> Answer
+        ensures { λ a. ⌜ a ≡ cond (eqb code 0) (Good r) (Refused code) ⌝ }
+    {
+        if code != 0 {
+            return Answer::Refused(code);
+        }
+        Answer::Good(r)
+    }
+
+    // Its number: 0 for a good one.
+    pub fn refusal(self) -> u8
+        ensures { λ r. ⌜ r ≡ numberOf self ⌝ }
+    {
+        match self {
+            Answer::Good(_) => 0,
+            Answer::Refused(code) => code,
+        }
+    }
+}
+
+impl Txsq {
+    // The bits of a frame besides its content.
+    pub const BITS: usize = 144;
+
+    pub const LEAST: usize = Txsq::BITS / 8;
+
+    pub const GREATEST: usize = Txsq::LEAST + 210;
+
+    // Where the content begins.
+    pub const CONTENT: usize = 17;
+
+    // The fields that may be corrected, by their place among the frame's.
+    pub const ADDRESS: usize = 3;
+
+    pub const CATEGORY: usize = 5;
+
+    pub const MODE: usize = 6;
+
+    pub const PASSWORD: usize = 7;
+
+    pub const RECEIVER: usize = 8;
+
+    pub const ANSWER: usize = 10;
+}
+
+// `TXSQ`.
+pub const LETTERS: u64 = 0x5458_5351;
+
+// The class begins with 010 and key 0.
+pub const CLASS: u64 = 0b0100;
+
+pub fn read(s: &[u8]) -> Answer
+    ensures { λ r. ⌜ Reads (now (s .entry)) r ⌝ }
+{
+    let code = frame::first(s, LETTERS, Txsq::LEAST, Txsq::GREATEST);
+    fields(change::sealing::inner(s), code)
+}
+
+// The content, as a part of the frame itself; an empty part where the frame is refused.
+pub fn content(s: &[u8]) -> &[u8]
+    ensures { λ r. ⌜ Shows (now (s .entry)) (now r) ⌝ }
+{
+    let code = read(s).refusal();
+    if code != 0 {
+        return &s[..0];
+    }
+    frame::carried(s, Txsq::CONTENT, 1)
+}
+
+// The fields in bit order, behind the first tests' answer.
+pub fn fields(s: &[u8], code: u8) -> Answer
+    ensures { λ r. ⌜ r ≡ answerOf (also recordOf (check (fault code) 0 (Fmt·read txsq [] 0 (bitsOf (now (s .entry)))))) ⌝ }
+{
+    let w = frame::head(s, code, LETTERS, 0, frame::LONGEST);
+    let address = w.v as u32;
+    let w = w.code(s, 4, CLASS);
+    let w = w.num(s, 2, 0, 1);
+    let category = w.v as u8;
+    let w = w.num(s, 1, 0, 1);
+    let mode = w.v as u8;
+    let w = w.num(s, 1, 0, allowed(category, 1));
+    let password = w.v as u8;
+    let w = w.num(s, 24, 0, frame::ADDRESS);
+    let receiver = w.v as u32;
+    let fault = limit(
+        category,
+        mode,
+        password,
+        bits::get(s, 40, 16),
+        bits::get(s, 112, 16),
+    );
+    let w = w.given(s, 16, fault);
+    let size = w.v as u16;
+    let w = w.num(s, 8, 0, allowed(password, 255));
+    let answer = w.v as u8;
+    let w = w.content(s, size as u32).fill(s, frame::spare(size)).end(s);
+    let r = Txsq {
+        address,
+        category,
+        mode,
+        password,
+        receiver,
+        size,
+        answer,
+    };
+    Answer::told(w.code, r)
+}
+
+// A password needs category 1, and an answer a password: the greatest value, 0 without.
+pub fn allowed(with: u8, most: u64) -> u64
+    ensures { λ r. ⌜ r ≡ Txsq·allowed with most ⌝ }
+{
+    if with == 0 { 0 } else { most }
+}
+
+// What is wrong with a bit length: the limits (4), then the content's size (1).
+pub fn limit(category: u8, mode: u8, password: u8, length: u64, size: u64) -> u8
+    ensures { λ r. ⌜ r ≡ bounded category mode password length size ⌝ }
+{
+    if size > most(category, password) {
+        return format::RANGE;
+    }
+    if whole(mode, size) {
+        frame::sized(18, length, size)
+    } else {
+        format::RANGE
+    }
+}
+
+// Text is of whole bytes.
+fn whole(mode: u8, size: u64) -> bool
+    ensures { λ r. ⌜ r ≡ cond (eqb mode 0) (eqb (size % 8) 0) true ⌝ }
+{
+    if mode == 0 { size % 8 == 0 } else { true }
+}
+
+fn most(category: u8, password: u8) -> u64
+    ensures { λ r. ⌜ r ≡ cond (eqb category 0) 188 (cond (eqb password 0) 1_680 83) ⌝ }
+{
+    if category == 0 {
+        return 188;
+    }
+    if password == 0 { 1_680 } else { 83 }
+}
