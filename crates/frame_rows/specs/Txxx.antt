@@ -5,8 +5,8 @@ use lib.IntN.{ℤ, pos}
 use Rattle.frame.specs.Frame.{bytesFor}
 use Rattle.format.specs.Fmt.{Out, also}
 use Rattle.format.specs.Promises.{readRecord}
-use Rattle.txxx_reading.specs.Txxx.{txxxs, recordOf as framed}
-use Rattle.txxx_reading.specs.declared.Txxx.{Txxx}
+use Rattle.txxx.specs.Txxx.{txxxs, recordOf as framed}
+use Rattle.txxx.specs.declared.reading.Txxx.{Txxx}
 
 -- a record's numbers, in the paper's order; then the byte where the content begins, and its bytes
 unfoldable pub rowOf : Txxx → List ℤ

@@ -2,14 +2,14 @@
 ghost use mathlib.Core.Path.{_≡_};
 ghost use Rattle.rows.specs.Row.{Fills};
 ghost use Rattle.frame_rows.specs.Txxx.{rowOf, numbersOf};
-use txxx_reading::Answer;
-use txxx_reading::Txxx;
+use txxx::Answer;
+use txxx::Txxx;
 
 // Reads the frame into a row of 9: address, class, sender, hour, minute, size, mark, where the content begins and its bytes.
 pub fn read(s: &[u8], row: &mut [i64]) -> u8
     ensures { λ code. ⌜ Fills (numbersOf (now (s .entry))) (now (row .entry)) code (now (row .exit)) ⌝ }
 {
-    let answer = txxx_reading::read(s);
+    let answer = txxx::read(s);
     match answer {
         Answer::Good(r) => {
             let numbers = numbers(r);

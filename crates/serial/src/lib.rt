@@ -24,8 +24,8 @@ fn code_as(letters: u64, s: &[u8]) -> u8
     if letters == txsq::LETTERS {
         return txsq::read(s).refusal();
     }
-    if letters == txxx_reading::LETTERS {
-        return txxx_reading::read(s).refusal();
+    if letters == txxx::LETTERS {
+        return txxx::read(s).refusal();
     }
     if letters == txhz_reading::LETTERS {
         return txhz_reading::read(s).refusal();

@@ -7,8 +7,8 @@ use Rattle.gljc.specs.Gljc.{gljcs, recordOf as gljcOf, numberOf as gljcNumber, 
 use Rattle.gljc.specs.declared.reading.Answer.the-variants.{Good as gljcGood, Refused as gljcBad}
 use Rattle.txsq.specs.Txsq.{txsqs, recordOf as txsqOf, numberOf as txsqNumber, letters as TXSQ}
 use Rattle.txsq.specs.declared.reading.Answer.the-variants.{Good as txsqGood, Refused as txsqBad}
-use Rattle.txxx_reading.specs.Txxx.{txxxs, recordOf as txxxOf, numberOf as txxxNumber, letters as TXXX}
-use Rattle.txxx_reading.specs.declared.Answer.the-variants.{Good as txxxGood, Refused as txxxBad}
+use Rattle.txxx.specs.Txxx.{txxxs, recordOf as txxxOf, numberOf as txxxNumber, letters as TXXX}
+use Rattle.txxx.specs.declared.reading.Answer.the-variants.{Good as txxxGood, Refused as txxxBad}
 use Rattle.txhz_reading.specs.Txhz.{txhzs, recordOf as txhzOf, numberOf as txhzNumber, letters as TXHZ}
 use Rattle.txhz_reading.specs.declared.Answer.the-variants.{Good as txhzGood, Refused as txhzBad}
 use Rattle.serial.specs.Serial.{codeAs}
@@ -19,8 +19,8 @@ use Rattle.txhz_reading.proofs.Answer.refusal.Reads as Answer-refusal-reads′
 use Rattle.txhz_reading.proofs.read.Reads as read-reads′
 use Rattle.txsq.proofs.reading.Answer.refusal.Reads as Answer-refusal-reads′′
 use Rattle.txsq.proofs.reading.read.Reads as read-reads′′
-use Rattle.txxx_reading.proofs.Answer.refusal.Reads as Answer-refusal-reads′′′
-use Rattle.txxx_reading.proofs.read.Reads as read-reads′′′
+use Rattle.txxx.proofs.reading.Answer.refusal.Reads as Answer-refusal-reads′′′
+use Rattle.txxx.proofs.reading.read.Reads as read-reads′′′
 
 read-requires : tie.Need-read-requires
 read-requires c κs = search needs

@@ -2,8 +2,8 @@
 use mathlib.Core.Path.{refl}
 use Rattle.format.specs.Promises.{readRecord}
 use Rattle.rows.specs.laws.Row.{fills-good, fills-refused}
-use Rattle.txxx_reading.specs.Txxx.{txxxs, recordOf as framed, outOf}
-use Rattle.txxx_reading.specs.declared.Answer.the-variants.{Good, Refused}
+use Rattle.txxx.specs.Txxx.{txxxs, recordOf as framed, outOf}
+use Rattle.txxx.specs.declared.reading.Answer.the-variants.{Good, Refused}
 use Rattle.frame_rows.specs.Txxx.{rowOf}
 use borrow.Author.Needs.{needs}
 use Rattle.frame_rows.proofs.txxxs.read.Statement.{statement}

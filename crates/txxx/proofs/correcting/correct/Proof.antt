@@ -1,0 +1,126 @@
+-- `correct` is the correction in place of every family, with the frame's fields read before and behind the change and its table of places, the mark's hanging on the size.
+use mathlib.Core.Path.{refl, sym, ap, _∙_}
+use mathlib.Core.List.{List, []}
+use Prim.Native.Nat.{ℕ}
+use Rattle.bits.specs.Bits.{bitsOf}
+use Rattle.format.specs.Fmt.{also, read}
+use Rattle.format.specs.laws.Corrections.{family-early, family-late}
+use Rattle.format.specs.laws.Spots.{rows, slim, table-stands, table-slim}
+use Rattle.txxx.specs.Txxx.{txxx, txxxs, valuesOf, recordOf, answerOf, numberOf}
+use Rattle.txxx.specs.laws.Correction.{places, widths, along}
+use Rattle.txxx.specs.laws.Demands.{family}
+use Rattle.txxx.specs.laws.Shown.{mark-stands}
+use Rattle.txxx.specs.declared.reading.Txxx.{Txxx}
+use Rattle.txxx.specs.declared.reading.Answer.{Answer}
+use Rattle.txxx.specs.declared.reading.Answer.the-variants.{Good, Refused}
+use borrow.Author.Needs.{needs}
+use Rattle.txxx.proofs.correcting.correct.Statement.{statement}
+use Rattle.txxx.proofs.correcting.correct.Tie as tie
+
+-- the answer of an accepted record, whose content is shown beside it
+abbrev Shown : Txxx × List ℕ → Answer
+Shown r = Good (r .0)
+
+read-requires : tie.Need-read-requires
+read-requires c κs = search needs
+
+mark-requires : tie.Need-mark-requires
+mark-requires c κs = search needs
+
+slice-aggregate-look-up : tie.Need-slice-aggregate-look-up
+slice-aggregate-look-up c = search needs
+
+slice-aggregate-look-up-2 : tie.Need-slice-aggregate-look-up-2
+slice-aggregate-look-up-2 c = search needs
+
+look-up-requires : tie.Need-look-up-requires
+look-up-requires c κs = search needs
+
+refusal-requires : tie.Need-refusal-requires
+refusal-requires c κs = search needs
+
+admits-requires : tie.Need-admits-requires
+admits-requires c κs = search needs
+
+same-length : tie.Need-same-length
+same-length c = search needs
+
+returns : tie.Need-returns
+unfolding txxxs slim
+returns c =
+    let admits = c .before in
+    let number = admits .before in
+    let look = number .before in
+    let mark = look .before .before .before in
+    let was = mark .before in
+    let a = was .before .before .before .args in
+    family-early family Shown Refused numberOf (λ r. refl) (λ c. refl) (a .buf .now) (a .field) (a .value) _ _ (was .read .ensures) (number .refusal .ensures)
+    (λ r e. table-stands (places (mark .mark .result)) widths (a .field) (look .look-up .ensures) (txxxs .fmt) (valuesOf r) refl (along r ∙ ap (λ m. rows (places m) widths) (sym (mark .mark .ensures ∙ mark-stands (a .buf .now) r e))))
+    (table-slim (places (mark .mark .result)) widths (a .field) (look .look-up .ensures) refl)
+    (admits .admits .ensures) (c .if1 .taken)
+
+swap-requires : tie.Need-swap-requires
+swap-requires c κs = search needs
+
+inner-requires : tie.Need-inner-requires
+inner-requires c κs = search needs
+
+fields-requires : tie.Need-fields-requires
+fields-requires c κs = search needs
+
+refusal-requires-2 : tie.Need-refusal-requires-2
+refusal-requires-2 c κs = search needs
+
+settle-requires : tie.Need-settle-requires
+settle-requires c κs = search needs
+
+seal-requires : tie.Need-seal-requires
+seal-requires c κs = search needs
+
+same-length-2 : tie.Need-same-length-2
+same-length-2 c = search needs
+
+returns-2 : tie.Need-returns-2
+unfolding txxxs slim
+returns-2 c =
+    let seal = c .before .before in
+    let settle = seal .before .before .before .before in
+    let again = settle .before in
+    let f = again .before .before in
+    let inner = f .before in
+    let swap = inner .before .before .before .before in
+    let test = swap .before .before in
+    let admits = test .before in
+    let number = admits .before in
+    let look = number .before in
+    let mark = look .before .before .before in
+    let was = mark .before in
+    let known = was .before .before in
+    let a = known .before .args in
+    family-late family Shown Refused numberOf (λ r. refl) (λ c. refl) (a .buf .now) (a .field) (a .value) _ _ (was .read .ensures) (number .refusal .ensures)
+    (λ r e. table-stands (places (mark .mark .result)) widths (a .field) (look .look-up .ensures) (txxxs .fmt) (valuesOf r) refl (along r ∙ ap (λ m. rows (places m) widths) (sym (mark .mark .ensures ∙ mark-stands (a .buf .now) r e))))
+    (table-slim (places (mark .mark .result)) widths (a .field) (look .look-up .ensures) refl)
+    (λ i. known .slice-known .given i .fits) (admits .admits .ensures) (test .if1 .left) (swap .swap .ensures)
+    (f .fields .ensures ∙ ap (λ b. answerOf (also recordOf (read txxx [] 0 (bitsOf b)))) (inner .inner .ensures)) (again .refusal2 .ensures) (settle .settle .ensures) (seal .seal .ensures)
+
+pub correct-spec : {M : Type 1} → statement M
+correct-spec =
+    tie.close
+    (tie.spec
+    read-requires
+    mark-requires
+    slice-aggregate-look-up
+    slice-aggregate-look-up-2
+    look-up-requires
+    refusal-requires
+    admits-requires
+    same-length
+    returns
+    swap-requires
+    inner-requires
+    fields-requires
+    refusal-requires-2
+    settle-requires
+    seal-requires
+    same-length-2
+    returns-2)

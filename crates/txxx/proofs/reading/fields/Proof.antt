@@ -1,0 +1,150 @@
+-- `fields` walks the frame as its layout stands: one step a field, then the record is that of the values.
+use mathlib.Core.Path.{ap, ap₂, _∙_}
+use mathlib.Core.Bool.{false}
+use Prim.Native.Nat.{_<_, _^_}
+use native.Mathlib.Omega.{arith}
+use lib.Dec.{lit<, lit≤}
+use Rattle.frame.specs.laws.Head.{head-read}
+use Rattle.format.specs.Fmt.{pad}
+use Rattle.walk.specs.Reading.{ranged}
+use Rattle.format.specs.laws.Answers.{told-so}
+use Rattle.walk.specs.laws.Reading.{step-num, step-given, step-content, step-fill}
+use Rattle.format.specs.laws.Tells.{twice-tells}
+use Rattle.walk.specs.laws.Walked.{finish}
+use Rattle.txxx.specs.Txxx.{letters, bounded, limits, filling, txxx, recordOf}
+use Rattle.txxx.specs.declared.reading.Answer.the-variants.{Good, Refused}
+use borrow.Author.Needs.{needs}
+use Rattle.txxx.proofs.reading.fields.Statement.{statement}
+use Rattle.txxx.proofs.reading.fields.Tie as tie
+
+head-requires : tie.Need-head-requires
+head-requires c κs = search needs
+
+cast-address : tie.Need-cast-address
+cast-address c = search needs
+
+num-requires : tie.Need-num-requires
+num-requires c κs = search needs
+
+cast-class : tie.Need-cast-class
+cast-class c = search needs
+
+num-requires-2 : tie.Need-num-requires-2
+num-requires-2 c κs = search needs
+
+cast-sender : tie.Need-cast-sender
+cast-sender c = search needs
+
+num-requires-3 : tie.Need-num-requires-3
+num-requires-3 c κs = search needs
+
+cast-hour : tie.Need-cast-hour
+cast-hour c = search needs
+
+num-requires-4 : tie.Need-num-requires-4
+num-requires-4 c κs = search needs
+
+cast-minute : tie.Need-cast-minute
+cast-minute c = search needs
+
+get-requires : tie.Need-get-requires
+get-requires c κs = search needs
+
+get-requires-2 : tie.Need-get-requires-2
+get-requires-2 c κs = search needs
+
+limit-requires : tie.Need-limit-requires
+limit-requires c κs = search needs
+
+given-requires : tie.Need-given-requires
+given-requires c κs = search needs
+
+cast-size : tie.Need-cast-size
+cast-size c = search needs
+
+cast-content : tie.Need-cast-content
+cast-content c = search needs
+
+content-requires : tie.Need-content-requires
+content-requires c κs = search needs
+
+spare-requires : tie.Need-spare-requires
+spare-requires c κs = search needs
+
+fill-requires : tie.Need-fill-requires
+fill-requires c κs = search needs
+
+num-requires-5 : tie.Need-num-requires-5
+num-requires-5 c κs = search needs
+
+cast-mark : tie.Need-cast-mark
+cast-mark c = search needs
+
+end-requires : tie.Need-end-requires
+end-requires c κs = search needs
+
+told-requires : tie.Need-told-requires
+told-requires c κs = search needs
+
+returns : tie.Need-returns
+unfolding txxx recordOf
+returns c =
+    let ended = c .before in
+    let mark = ended .before .before in
+    let fill = mark .before in
+    let spare = fill .before in
+    let carried = spare .before in
+    let given = carried .before .before in
+    let limit = given .before in
+    let bits = limit .before in
+    let length = bits .before in
+    let minute = length .before .before in
+    let hour = minute .before .before in
+    let sender = hour .before .before in
+    let class = sender .before .before in
+    let head = class .before .before in
+    let a = head .before .before .args in
+    let s = a .s .now in
+    let l = given .given .result .v in
+    let small : l < 2 ^ 16 = given .given .ensures .1 in
+    let r0 = head-read letters 0 65_535 _ s (a .code) (head .head .ensures .0) in
+    let r1 = step-num 8 (lit< tt) (lit≤ tt) (lit< tt) 0 255 r0 (class .num .ensures .0) in
+    let r2 = step-num 24 (lit< tt) (lit≤ tt) (lit< tt) 0 2_097_151 r1 (sender .num2 .ensures .0) in
+    let r3 = step-num 8 (lit< tt) (lit≤ tt) (lit< tt) 0 23 r2 (hour .num3 .ensures .0) in
+    let r4 = step-num 8 (lit< tt) (lit≤ tt) (lit< tt) 0 59 r3 (minute .num4 .ensures .0) in
+    let fault = limit .limit .ensures ∙ ap₂ bounded (length .get .ensures) (bits .get2 .ensures) in
+    let r5 = step-given 16 (lit≤ tt) (lit< tt) (lit< tt) (twice-tells 16 3 0 limits filling _) fault r4 (given .given .ensures .0) in
+    let r6 = step-content l (omega (arith, small)) r5 (carried .content .ensures) in
+    let r7 = step-fill (pad l) (omega arith) (omega (arith, small)) r6 (fill .fill .ensures ∙ ap (λ p. ranged s p false 0 0 5 (carried .content .result)) (spare .spare .ensures)) in
+    let r8 = step-num 8 (lit< tt) (lit≤ tt) (omega (arith, small)) 0 255 r7 (mark .num5 .ensures .0) in
+    let w = finish (omega (arith, small)) r8 (ended .end .ensures) in
+    c .told .ensures ∙ told-so (λ r. Good (r .0)) Refused recordOf _ _ (ended .end .result .code) (ended .end .result .place) (w .so)
+
+pub fields-spec : {M : Type 1} → statement M
+fields-spec =
+    tie.close
+    (tie.spec
+    head-requires
+    cast-address
+    num-requires
+    cast-class
+    num-requires-2
+    cast-sender
+    num-requires-3
+    cast-hour
+    num-requires-4
+    cast-minute
+    get-requires
+    get-requires-2
+    limit-requires
+    given-requires
+    cast-size
+    cast-content
+    content-requires
+    spare-requires
+    fill-requires
+    num-requires-5
+    cast-mark
+    end-requires
+    told-requires
+    returns)

@@ -1,0 +1,153 @@
+-- `judged` walks the values in bit order: each step is a law of judging.
+use mathlib.Core.Path.{refl, ap, ap₂, _∙_}
+use mathlib.Core.Bool.{false}
+use Prim.Native.Nat.{_<_, _^_}
+use native.Mathlib.Omega.{arith}
+use lib.Dec.{lit<}
+use lib.ListN.{length as length-of}
+use Rattle.bits.specs.Answers.{got as got-of}
+use Rattle.bits.specs.Bits.{fieldAt}
+use Rattle.bits.specs.laws.Fields.{field-lt}
+use Rattle.frame.specs.Frame.{declared}
+use Rattle.frame.specs.Steps.{headJudged}
+use Rattle.frame.specs.laws.Content.{declared-small, got-fill}
+use Rattle.frame.specs.laws.Head.{head-judged}
+use Rattle.format.specs.Fmt.{pad}
+use Rattle.walk.specs.Judging.{filled}
+use Rattle.format.specs.Words.{any, _‥_}
+use Rattle.format.specs.laws.Extent.{opens-field, opens-choice}
+use Rattle.walk.specs.laws.Judging.{judge-num, judge-tells, judge-end}
+use Rattle.format.specs.laws.Tells.{only-tells, twice-tells}
+use Rattle.txxx.specs.Txxx.{letters, body, bounded, limits, filling, txxx, valuesOf}
+use borrow.Author.Needs.{needs}
+use Rattle.txxx.proofs.writing.making.judged.Statement.{statement}
+use Rattle.txxx.proofs.writing.making.judged.Tie as tie
+
+declared-requires : tie.Need-declared-requires
+declared-requires c κs = search needs
+
+cast-size : tie.Need-cast-size
+cast-size c = search needs
+
+cast-judged : tie.Need-cast-judged
+cast-judged c = search needs
+
+judged-requires : tie.Need-judged-requires
+judged-requires c κs = search needs
+
+cast-value : tie.Need-cast-value
+cast-value c = search needs
+
+value-requires : tie.Need-value-requires
+value-requires c κs = search needs
+
+cast-value-2 : tie.Need-cast-value-2
+cast-value-2 c = search needs
+
+value-requires-2 : tie.Need-value-requires-2
+value-requires-2 c κs = search needs
+
+cast-value-3 : tie.Need-cast-value-3
+cast-value-3 c = search needs
+
+value-requires-3 : tie.Need-value-requires-3
+value-requires-3 c κs = search needs
+
+cast-value-4 : tie.Need-cast-value-4
+cast-value-4 c = search needs
+
+value-requires-4 : tie.Need-value-requires-4
+value-requires-4 c κs = search needs
+
+limit-requires : tie.Need-limit-requires
+limit-requires c κs = search needs
+
+on-requires : tie.Need-on-requires
+on-requires c κs = search needs
+
+cast-wide : tie.Need-cast-wide
+cast-wide c = search needs
+
+wide-requires : tie.Need-wide-requires
+wide-requires c κs = search needs
+
+spare-requires : tie.Need-spare-requires
+spare-requires c κs = search needs
+
+cast-get : tie.Need-cast-get
+cast-get c = search needs
+
+get-requires : tie.Need-get-requires
+get-requires c κs = search needs
+
+fill-value-requires : tie.Need-fill-value-requires
+fill-value-requires c κs = search needs
+
+cast-value-5 : tie.Need-cast-value-5
+cast-value-5 c = search needs
+
+value-requires-5 : tie.Need-value-requires-5
+value-requires-5 c κs = search needs
+
+returns : tie.Need-returns
+unfolding txxx valuesOf
+returns c =
+    let fill = c .before .before in
+    let got = fill .before in
+    let known = got .before in
+    let spare = known .before in
+    let wide = spare .before in
+    let on = wide .before .before in
+    let limit = on .before in
+    let minute = limit .before in
+    let hour = minute .before .before in
+    let sender = hour .before .before in
+    let class = sender .before .before in
+    let head = class .before .before in
+    let length = head .before .before .before in
+    let a = length .before .before .args in
+    let r = a .r in
+    let b = a .content .now in
+    let l = r .size in
+    let small : l < 2 ^ 16 = known .struct-known8 .given .1 .1 .1 .1 .1 .0 .fits in
+    let r0 = head-judged letters 0 65_535 body (declared 20 (length-of b)) (r .address) _ (lit< tt) (omega arith) (declared-small 20 (length-of b)) (lit< tt)
+    (head .judged .ensures ∙ ap (λ n. headJudged letters n (r .address)) (length .declared .ensures)) in
+    let r1 = judge-num 8 (lit< tt) 0 255 (lit< tt) r0 (class .value .ensures) in
+    let r2 = judge-num 24 (lit< tt) 0 2_097_151 (lit< tt) r1 (sender .value2 .ensures) in
+    let r3 = judge-num 8 (lit< tt) 0 23 (lit< tt) r2 (hour .value3 .ensures) in
+    let r4 = judge-num 8 (lit< tt) 0 59 (lit< tt) r3 (minute .value4 .ensures) in
+    let fault = limit .limit .ensures ∙ ap (λ n. bounded n l) (length .declared .ensures) in
+    let r5 = judge-tells 16 false l (limit .limit .result) (lit< tt) small (twice-tells 16 3 0 limits filling _) fault opens-choice r4 (on .on .ensures) in
+    let r6 = judge-tells l false 0 0 (omega (arith, small)) (field-lt b 0 l) (only-tells l 3 any _) refl opens-field r5 (wide .wide .ensures) in
+    let spelled = got .get .ensures ∙ ap (λ p. got-of b l p) (spare .spare .ensures) ∙ got-fill b l in
+    let r7 = judge-tells (pad l) false (fieldAt b l (pad l)) _ (omega (arith, small)) (field-lt b l (pad l)) (only-tells (pad l) 4 (0 ‥ 0) _) refl opens-field r6
+    (fill .fill-value .ensures ∙ ap₂ (λ p v. filled p v (wide .wide .result)) (spare .spare .ensures) spelled) in
+    judge-end (judge-num 8 (omega (arith, small)) 0 255 (lit< tt) r7 (c .value5 .ensures))
+
+pub judged-spec : {M : Type 1} → statement M
+judged-spec =
+    tie.close
+    (tie.spec
+    declared-requires
+    cast-size
+    cast-judged
+    judged-requires
+    cast-value
+    value-requires
+    cast-value-2
+    value-requires-2
+    cast-value-3
+    value-requires-3
+    cast-value-4
+    value-requires-4
+    limit-requires
+    on-requires
+    cast-wide
+    wide-requires
+    spare-requires
+    cast-get
+    get-requires
+    fill-value-requires
+    cast-value-5
+    value-requires-5
+    returns)

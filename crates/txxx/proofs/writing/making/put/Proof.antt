@@ -1,0 +1,148 @@
+-- `put` puts the values in bit order: each step is a law of putting, and the content is one run of bytes.
+use mathlib.Core.Path.{_≡_, sym, ap, _∙_}
+use mathlib.Core.List.{[]}
+use Prim.Native.Nat.{_+_, _*_, _/_}
+use native.Mathlib.Omega.{arith}
+use lib.Dec.{lit≤}
+use Rattle.bits.specs.Bits.{Bytes, putBytesAt}
+use Rattle.frame.specs.Steps.{headPut}
+use Rattle.frame.specs.laws.Content.{padded, content-bits}
+use Rattle.frame.specs.laws.Head.{head-put}
+use Rattle.format.specs.Correcting.{putIn, put-in}
+use Rattle.format.specs.Fmt.{pad}
+use Rattle.format.specs.laws.Extent.{opens-field}
+use Rattle.format.specs.laws.Held.{held}
+use Rattle.format.specs.laws.Putting.{put-start, put-step, put-choice, put-number, begins, begins-then, put-run, put-end}
+use Rattle.txxx.specs.Txxx.{letters, body, txxx, valuesOf}
+use Rattle.txxx.specs.laws.Demands.{content-size}
+use borrow.Author.Needs.{needs}
+use Rattle.txxx.proofs.writing.making.put.Statement.{statement}
+use Rattle.txxx.proofs.writing.making.put.Tie as tie
+use Rattle.frame.proofs.put.Reads as put-reads′
+
+declared-requires : tie.Need-declared-requires
+declared-requires c κs = search needs
+
+cast-put : tie.Need-cast-put
+cast-put c = search needs
+
+put-requires : tie.Need-put-requires
+put-requires c κs = search needs
+
+cast-put-2 : tie.Need-cast-put-2
+cast-put-2 c = search needs
+
+put-requires-2 : tie.Need-put-requires-2
+put-requires-2 c κs = search needs
+
+cast-put-3 : tie.Need-cast-put-3
+cast-put-3 c = search needs
+
+put-requires-3 : tie.Need-put-requires-3
+put-requires-3 c κs = search needs
+
+cast-put-4 : tie.Need-cast-put-4
+cast-put-4 c = search needs
+
+put-requires-4 : tie.Need-put-requires-4
+put-requires-4 c κs = search needs
+
+cast-put-5 : tie.Need-cast-put-5
+cast-put-5 c = search needs
+
+put-requires-5 : tie.Need-put-requires-5
+put-requires-5 c κs = search needs
+
+cast-put-6 : tie.Need-cast-put-6
+cast-put-6 c = search needs
+
+put-requires-6 : tie.Need-put-requires-6
+put-requires-6 c κs = search needs
+
+put-bytes-requires : tie.Need-put-bytes-requires
+put-bytes-requires c κs = search needs
+
+cast-size : tie.Need-cast-size
+cast-size c = search needs
+
+add-put : tie.Need-add-put
+add-put c = search needs
+
+mul-put : tie.Need-mul-put
+mul-put c = search needs
+
+add-put-2 : tie.Need-add-put-2
+add-put-2 c = search needs
+
+cast-put-7 : tie.Need-cast-put-7
+cast-put-7 c = search needs
+
+put-requires-7 : tie.Need-put-requires-7
+put-requires-7 c κs = search needs
+
+same-length : tie.Need-same-length
+same-length c =
+    let p8 = c .before .before in
+    let p7 = p8 .before .before .before .before .before .before in
+    let p6 = p7 .before .before .before .before in
+    let p5 = p6 .before .before .before .before .before in
+    let p4 = p5 .before .before .before .before .before in
+    let p3 = p4 .before .before .before .before .before in
+    let p2 = p3 .before .before .before .before .before in
+    let p1 = p2 .before .before .before .before .before in
+    p8 .put7 .kept .0 ∙ p7 .put-bytes .kept .0 ∙ p6 .put6 .kept .0 ∙ p5 .put5 .kept .0 ∙ p4 .put4 .kept .0 ∙ p3 .put3 .kept .0 ∙ p2 .put2 .kept .0 ∙ p1 .put .kept .0
+
+returns : tie.Need-returns
+unfolding txxx valuesOf putBytesAt
+returns c b e l =
+    let p8 = c .before .before in
+    let p7 = p8 .before .before .before .before .before .before in
+    let p6 = p7 .before .before .before .before in
+    let p5 = p6 .before .before .before .before .before in
+    let p4 = p5 .before .before .before .before .before in
+    let p3 = p4 .before .before .before .before .before in
+    let p2 = p3 .before .before .before .before .before in
+    let p1 = p2 .before .before .before .before .before in
+    let d = p1 .before .before in
+    let known = d .before .before .before in
+    let a = known .before .args in
+    let r = a .r in
+    let x = a .content .now in
+    let fine : Bytes (a .buf .now) = λ i. known .slice-known .given i .fits in
+    let size = content-size (r, x) (held txxx [] 0 (valuesOf (r, x)) b e) in
+    let place : 144 + (r .size + 7) / 8 * 8 ≡ 144 + (r .size + pad (r .size)) = ap (144 +_) (sym (padded (r .size))) in
+    let r0 = head-put letters 0 65_535 body (put-start (a .buf .now) txxx (valuesOf (r, x)) b fine l e) (p1 .put .ensures ∙ ap (λ n. headPut letters n (r .address) (a .buf .now)) (d .declared .ensures)) in
+    let r1 = put-step 8 (lit≤ tt) r0 (p2 .put2 .ensures) in
+    let r2 = put-step 24 (lit≤ tt) r1 (p3 .put3 .ensures) in
+    let r3 = put-step 8 (lit≤ tt) r2 (p4 .put4 .ensures) in
+    let r4 = put-step 8 (lit≤ tt) r3 (p5 .put5 .ensures) in
+    let r5 = put-choice 16 (lit≤ tt) r4 (p6 .put6 .ensures) in
+    let r6 = put-run x (content-bits x (r .size) size) (begins-then (begins opens-field) (begins opens-field)) r5 (p7 .put-bytes .ensures) in
+    put-end fine (omega arith) (put-number 8 (lit≤ tt) opens-field r6 (put-in _ _ 8 (r .mark) (p8 .put7 .ensures) ∙ ap (λ k. putIn (p7 .put-bytes .last .0) k 8 (r .mark)) place))
+
+pub put-spec : {M : Type 1} → statement M
+put-spec =
+    tie.close
+    (tie.spec
+    declared-requires
+    cast-put
+    put-requires
+    cast-put-2
+    put-requires-2
+    cast-put-3
+    put-requires-3
+    cast-put-4
+    put-requires-4
+    cast-put-5
+    put-requires-5
+    cast-put-6
+    put-requires-6
+    put-bytes-requires
+    cast-size
+    add-put
+    mul-put
+    add-put-2
+    cast-put-7
+    put-requires-7
+    same-length
+    returns)

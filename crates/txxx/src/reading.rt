@@ -1,0 +1,143 @@
+// The frame TXXX (paper 01, "Serial frames"): content from a sender, with the time.
+ghost use mathlib.Core.Path.{_≡_};
+ghost use mathlib.Core.Bool.{cond};
+ghost use Prim.Native.Nat.{_-_};
+ghost use mathlib.Core.List.{[]};
+ghost use lib.Dec.{eqb};
+ghost use Rattle.bits.specs.Bits.{bitsOf};
+ghost use Rattle.format.specs.Fmt.{also, check, read as Fmt·read};
+ghost use Rattle.format.specs.Message.{fault};
+ghost use Rattle.txxx.specs.Txxx.{txxx, bounded, recordOf, answerOf, numberOf};
+ghost use Rattle.txxx.specs.Promises.{Reads, Shows};
+ghost use Rattle.txxx.specs.declared.reading.Answer.the-variants.{Good, Refused};
+
+// The content, whole bytes with their unused low bits, stands beside the record: in the frame that was read, or lent to be written.
+pub struct Txxx {
+    pub address: u32,
+    pub class: u8,
+    pub sender: u32,
+    pub hour: u8,
+    pub minute: u8,
+    // How many bits the content has.
+    pub size: u16,
+    // The CRC mark.
+    pub mark: u8,
+}
+
+pub enum Answer {
+    Good(Txxx),
+    Refused(u8),
+}
+
+impl Answer {
+    // The record, unless a walk over its frame ended with a refusal.
+    fn told(code: u8, r: Txxx) -> Answer
+        ensures { λ a. ⌜ a ≡ cond (eqb code 0) (Good r) (Refused code) ⌝ }
+    {
+        if code != 0 {
+            return Answer::Refused(code);
+        }
+        Answer::Good(r)
+    }
+
+    // Its number: 0 for a good one.
+    pub fn refusal(self) -> u8
+        ensures { λ r. ⌜ r ≡ numberOf self ⌝ }
+    {
+        match self {
+            Answer::Good(_) => 0,
+            Answer::Refused(code) => code,
+        }
+    }
+}
+
+impl Txxx {
+    // The bits of a frame besides its content.
+    pub const BITS: usize = 160;
+
+    pub const LEAST: usize = Txxx::BITS / 8;
+
+    pub const GREATEST: usize = Txxx::LEAST + 210;
+
+    // Where the content begins, and how many bytes follow it: mark and seal.
+    pub const CONTENT: usize = 18;
+
+    pub const TAIL: usize = 2;
+
+    // The fields that may be corrected, by their place among the frame's.
+    pub const ADDRESS: usize = 3;
+
+    pub const CLASS: usize = 4;
+
+    pub const SENDER: usize = 5;
+
+    pub const HOUR: usize = 6;
+
+    pub const MINUTE: usize = 7;
+
+    pub const MARK: usize = 11;
+}
+
+// `TXXX`.
+pub const LETTERS: u64 = 0x5458_5858;
+
+pub fn read(s: &[u8]) -> Answer
+    ensures { λ r. ⌜ Reads (now (s .entry)) r ⌝ }
+{
+    let code = frame::first(s, LETTERS, Txxx::LEAST, Txxx::GREATEST);
+    fields(change::sealing::inner(s), code)
+}
+
+// The content, as a part of the frame itself; an empty part where the frame is refused.
+pub fn content(s: &[u8]) -> &[u8]
+    ensures { λ r. ⌜ Shows (now (s .entry)) (now r) ⌝ }
+{
+    let code = read(s).refusal();
+    if code != 0 {
+        return &s[..0];
+    }
+    frame::carried(s, Txxx::CONTENT, Txxx::TAIL)
+}
+
+// The fields in bit order, behind the first tests' answer.
+pub fn fields(s: &[u8], code: u8) -> Answer
+    ensures { λ r. ⌜ r ≡ answerOf (also recordOf (check (fault code) 0 (Fmt·read txxx [] 0 (bitsOf (now (s .entry)))))) ⌝ }
+{
+    let w = frame::head(s, code, LETTERS, 0, frame::LONGEST);
+    let address = w.v as u32;
+    let w = w.num(s, 8, 0, 255);
+    let class = w.v as u8;
+    let w = w.num(s, 24, 0, frame::ADDRESS);
+    let sender = w.v as u32;
+    let w = w.num(s, 8, 0, frame::HOUR);
+    let hour = w.v as u8;
+    let w = w.num(s, 8, 0, frame::MINUTE);
+    let minute = w.v as u8;
+    let fault = limit(bits::get(s, 40, 16), bits::get(s, 128, 16));
+    let w = w.given(s, 16, fault);
+    let size = w.v as u16;
+    let w = w.content(s, size as u32).fill(s, frame::spare(size));
+    let w = w.num(s, 8, 0, 255);
+    let mark = w.v as u8;
+    let w = w.end(s);
+    let r = Txxx {
+        address,
+        class,
+        sender,
+        hour,
+        minute,
+        size,
+        mark,
+    };
+    Answer::told(w.code, r)
+}
+
+// What is wrong with a bit length: the limit (4), then the content's size (1).
+pub fn limit(length: u64, size: u64) -> u8
+    ensures { λ r. ⌜ r ≡ bounded length size ⌝ }
+{
+    if size > 1_680 {
+        return format::RANGE;
+    }
+    frame::sized(20, length, size)
+}
