@@ -1,6 +1,6 @@
 // The frame TXHZ: writing and correcting.
 ghost use Rattle.txhz_rows.specs.Txhz.{TxhzWrites};
-ghost use Rattle.txhz_reading.specs.Txhz.{txhzs};
+ghost use Rattle.txhz.specs.Txhz.{txhzs};
 ghost use Rattle.format.specs.Promises.{Corrects};
 
 // Writes the frame of these numbers and the 20 bytes of its receipts into the front of a lent buffer.

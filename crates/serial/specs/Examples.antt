@@ -4,7 +4,7 @@ use mathlib.Core.List.{[], _∷_}
 use Rattle.bits.specs.Bits.{bit, valueOf, digits, bitsOf, fieldAt}
 use Rattle.frame.specs.Frame.{leads}
 use Rattle.format.specs.Message.{readMessage}
-use Rattle.txhz_reading.specs.Txhz.{txhzs}
+use Rattle.txhz.specs.Txhz.{txhzs}
 use Rattle.serial.specs.Serial.{codeAs, codeOf}
 
 nothing : codeOf [] ≡ 1

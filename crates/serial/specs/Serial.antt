@@ -9,7 +9,7 @@ use Rattle.format.specs.Message.{readMessage, codeOf as refusal}
 use Rattle.gljc.specs.Gljc.{gljcs, letters as GLJC}
 use Rattle.txsq.specs.Txsq.{txsqs, letters as TXSQ}
 use Rattle.txxx.specs.Txxx.{txxxs, letters as TXXX}
-use Rattle.txhz_reading.specs.Txhz.{txhzs, letters as TXHZ}
+use Rattle.txhz.specs.Txhz.{txhzs, letters as TXHZ}
 
 -- what reading the frame of these letters answers; other letters are 2
 unfoldable pub codeAs : ℕ → List ℕ → ℕ

@@ -27,8 +27,8 @@ fn code_as(letters: u64, s: &[u8]) -> u8
     if letters == txxx::LETTERS {
         return txxx::read(s).refusal();
     }
-    if letters == txhz_reading::LETTERS {
-        return txhz_reading::read(s).refusal();
+    if letters == txhz::LETTERS {
+        return txhz::read(s).refusal();
     }
     format::KIND
 }

@@ -8,9 +8,9 @@ use lib.ListN.{length, getD}
 use Rattle.format.specs.Fmt.{Out, orBad, check, also}
 use Rattle.format.specs.Message.{codeOf, leaves, into, writeMessage}
 use Rattle.format.specs.Promises.{readRecord}
-use Rattle.txhz_reading.specs.Txhz.{txhzs, valuesOf, recordOf as framed}
-use Rattle.txhz_reading.specs.declared.Receipt.{Receipt}
-use Rattle.txhz_reading.specs.declared.Txhz.{Txhz}
+use Rattle.txhz.specs.Txhz.{txhzs, valuesOf, recordOf as framed}
+use Rattle.txhz.specs.declared.reading.Receipt.{Receipt}
+use Rattle.txhz.specs.declared.reading.Txhz.{Txhz}
 
 -- a receipt's numbers before those that follow
 abbrev pub times : Receipt → List ℤ → List ℤ

@@ -4,9 +4,9 @@ ghost use Prim.Native.Nat.{_+_, _≤_};
 ghost use lib.ListN.{length};
 ghost use Rattle.rows.specs.Row.{Fills};
 ghost use Rattle.txhz_rows.specs.Txhz.{rowOf, numbersOf, receiptAt, TxhzWrites};
-use txhz_reading::Answer;
-use txhz_reading::Receipt;
-use txhz_reading::Txhz;
+use txhz::Answer;
+use txhz::Receipt;
+use txhz::Txhz;
 
 // The bytes of five receipts.
 const RECEIPTS: usize = 20;
@@ -15,7 +15,7 @@ const RECEIPTS: usize = 20;
 pub fn read(s: &[u8], row: &mut [i64]) -> u8
     ensures { λ code. ⌜ Fills (numbersOf (now (s .entry))) (now (row .entry)) code (now (row .exit)) ⌝ }
 {
-    let answer = txhz_reading::read(s);
+    let answer = txhz::read(s);
     match answer {
         Answer::Good(r) => {
             let numbers = numbers(r);

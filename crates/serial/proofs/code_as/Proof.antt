@@ -9,14 +9,14 @@ use Rattle.txsq.specs.Txsq.{txsqs, recordOf as txsqOf, numberOf as txsqNumber, 
 use Rattle.txsq.specs.declared.reading.Answer.the-variants.{Good as txsqGood, Refused as txsqBad}
 use Rattle.txxx.specs.Txxx.{txxxs, recordOf as txxxOf, numberOf as txxxNumber, letters as TXXX}
 use Rattle.txxx.specs.declared.reading.Answer.the-variants.{Good as txxxGood, Refused as txxxBad}
-use Rattle.txhz_reading.specs.Txhz.{txhzs, recordOf as txhzOf, numberOf as txhzNumber, letters as TXHZ}
-use Rattle.txhz_reading.specs.declared.Answer.the-variants.{Good as txhzGood, Refused as txhzBad}
+use Rattle.txhz.specs.Txhz.{txhzs, recordOf as txhzOf, numberOf as txhzNumber, letters as TXHZ}
+use Rattle.txhz.specs.declared.reading.Answer.the-variants.{Good as txhzGood, Refused as txhzBad}
 use Rattle.serial.specs.Serial.{codeAs}
 use borrow.Author.Needs.{needs}
 use Rattle.serial.proofs.code_as.Statement.{statement}
 use Rattle.serial.proofs.code_as.Tie as tie
-use Rattle.txhz_reading.proofs.Answer.refusal.Reads as Answer-refusal-reads′
-use Rattle.txhz_reading.proofs.read.Reads as read-reads′
+use Rattle.txhz.proofs.reading.Answer.refusal.Reads as Answer-refusal-reads′
+use Rattle.txhz.proofs.reading.read.Reads as read-reads′
 use Rattle.txsq.proofs.reading.Answer.refusal.Reads as Answer-refusal-reads′′
 use Rattle.txsq.proofs.reading.read.Reads as read-reads′′
 use Rattle.txxx.proofs.reading.Answer.refusal.Reads as Answer-refusal-reads′′′

@@ -2,8 +2,8 @@
 use mathlib.Core.Path.{refl}
 use Rattle.format.specs.Promises.{readRecord}
 use Rattle.rows.specs.laws.Row.{fills-good, fills-refused}
-use Rattle.txhz_reading.specs.Txhz.{txhzs, recordOf as framed, outOf}
-use Rattle.txhz_reading.specs.declared.Answer.the-variants.{Good, Refused}
+use Rattle.txhz.specs.Txhz.{txhzs, recordOf as framed, outOf}
+use Rattle.txhz.specs.declared.reading.Answer.the-variants.{Good, Refused}
 use Rattle.txhz_rows.specs.Txhz.{rowOf}
 use borrow.Author.Needs.{needs}
 use Rattle.txhz_rows.proofs.read.Statement.{statement}

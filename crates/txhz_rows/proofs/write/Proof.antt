@@ -3,8 +3,8 @@ use mathlib.Core.Path.{refl, subst}
 use lib.ListN.{length}
 use borrow.Author.Tests.{eq-eqb, ne-eqb}
 use Rattle.format.specs.Promises.{Writes}
-use Rattle.txhz_reading.specs.Txhz.{txhzs, valuesOf}
-use Rattle.txhz_reading.specs.declared.Txhz.{Txhz}
+use Rattle.txhz.specs.Txhz.{txhzs, valuesOf}
+use Rattle.txhz.specs.declared.reading.Txhz.{Txhz}
 use borrow.Author.Needs.{needs}
 use Rattle.txhz_rows.proofs.write.Statement.{statement}
 use Rattle.txhz_rows.proofs.write.Tie as tie

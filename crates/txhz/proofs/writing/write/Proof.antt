@@ -1,0 +1,58 @@
+-- `write` answers as the walk over the values, the size made and the room decide.
+use mathlib.Core.Path.{refl}
+use Rattle.walk.specs.laws.Making.{write-refused, write-stamped}
+use Rattle.txhz.specs.Txhz.{txhzs, valuesOf}
+use borrow.Author.Needs.{needs}
+use Rattle.txhz.proofs.writing.write.Statement.{statement}
+use Rattle.txhz.proofs.writing.write.Tie as tie
+
+judged-requires : tie.Need-judged-requires
+judged-requires c κs = search needs
+
+bytes-requires : tie.Need-bytes-requires
+bytes-requires c κs = search needs
+
+closes-requires : tie.Need-closes-requires
+closes-requires c κs = search needs
+
+returns : tie.Need-returns
+unfolding txhzs
+returns c =
+    let closes = c .before in
+    let j = closes .before .before in
+    let a = j .before .before .args in
+    write-refused txhzs (valuesOf (a .r)) (a .buf .now) (j .judged .ensures) (closes .closes .ensures) (c .if1 .taken)
+
+put-requires : tie.Need-put-requires
+put-requires c κs = search needs
+
+stamp-requires : tie.Need-stamp-requires
+stamp-requires c κs = search needs
+
+same-length : tie.Need-same-length
+same-length c = search needs
+
+returns-2 : tie.Need-returns-2
+unfolding txhzs
+returns-2 c =
+    let stamp = c .before .before in
+    let p = stamp .before .before .before .before in
+    let test = p .before .before in
+    let closes = test .before in
+    let n = closes .before in
+    let j = n .before in
+    let a = j .before .before .args in
+    write-stamped txhzs (valuesOf (a .r)) (a .buf .now) (j .judged .ensures) refl (closes .closes .ensures) (test .if1 .left) (p .put .ensures) (p .put .kept .0) (n .bytes .ensures) (stamp .stamp .ensures)
+
+pub write-spec : {M : Type 1} → statement M
+write-spec =
+    tie.close
+    (tie.spec
+    judged-requires
+    bytes-requires
+    closes-requires
+    returns
+    put-requires
+    stamp-requires
+    same-length
+    returns-2)

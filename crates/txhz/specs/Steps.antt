@@ -1,0 +1,47 @@
+-- What the code's steps over one receipt answer and leave: read, judged, put; and the table of a correction. Assumes nothing.
+use Prim.Native.Nat.{ℕ, _+_, _*_, _/_}
+use mathlib.Core.Bool.{Bool, cond}
+use mathlib.Core.List.{List, [], _∷_}
+use lib.Dec.{ltb}
+use Rattle.bits.specs.Answers.{got}
+use Rattle.walk.specs.Faults.{ranging}
+use Rattle.format.specs.Correcting.{putIn}
+use Rattle.walk.specs.Judging.{valued, filled}
+use Rattle.walk.specs.Walk.{onward}
+use Rattle.walk.specs.declared.walk.Walk.{Walk}
+use Rattle.txhz.specs.declared.reading.Passed.{Passed}
+use Rattle.txhz.specs.declared.reading.Receipt.{Receipt}
+
+-- a byte read, that of the walk's bit: 0 to most where the receipt is held, else fill
+abbrev pub slotRead : List ℕ → Bool → ℕ → Walk → Walk
+slotRead s held most r = let p = r .at / 8 * 8 in onward 8 held (got s p 8) (ranging s p 8 0 (cond held most 0) (cond held 4 5)) 0 r
+
+-- a receipt read: the walk past its last byte, and the value of the walk behind each
+unfoldable pub receiptRead : List ℕ → Bool → Walk → Passed
+receiptRead s held r =
+    let a = slotRead s held 23 r in
+    let b = slotRead s held 59 a in
+    let c = slotRead s held 23 b in
+    let d = slotRead s held 59 c in
+    record { walk = d; receipt = record { «sent_hour» = a .v; «sent_minute» = b .v; «receipt_hour» = c .v; «receipt_minute» = d .v } }
+
+-- a byte judged
+abbrev pub slotJudged : Bool → ℕ → ℕ → Walk → Walk
+slotJudged held v most r = cond held (valued 8 v 0 most r) (filled 8 v r)
+
+-- a receipt judged
+abbrev pub receiptJudged : Bool → Receipt → Walk → Walk
+receiptJudged held t r =
+    slotJudged held (t .«receipt_minute») 59 (slotJudged held (t .«receipt_hour») 23 (slotJudged held (t .«sent_minute») 59 (slotJudged held (t .«sent_hour») 23 r)))
+
+-- a receipt put, from bit `at` on
+abbrev pub receiptPut : ℕ → Receipt → List ℕ → List ℕ
+receiptPut at t s =
+    putIn (putIn (putIn (putIn s at 8 (t .«sent_hour»)) (at + 8) 8 (t .«sent_minute»)) (at + 16) 8 (t .«receipt_hour»)) (at + 24) 8 (t .«receipt_minute»)
+
+-- the widths of the fields that may be corrected, where n receipts are counted
+abbrev pub wide : ℕ → ℕ → List ℕ → List ℕ
+wide k n l = let w : ℕ = cond (ltb k n) 8 0 in w ∷ w ∷ w ∷ w ∷ l
+
+unfoldable pub tableOf : ℕ → List ℕ
+tableOf n = 0 ∷ 0 ∷ 0 ∷ 24 ∷ 24 ∷ 8 ∷ wide 0 n (wide 1 n (wide 2 n (wide 3 n (wide 4 n []))))
