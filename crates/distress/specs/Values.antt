@@ -1,7 +1,7 @@
 -- The numbers that the code puts. Assumes nothing.
 use Prim.Native.Nat.{ℕ}
 use mathlib.Core.List.{List, [], _∷_}
-use Rattle.distress.specs.declared.report.making.Values.{Values}
+use Rattle.distress.specs.declared.writing.making.Values.{Values}
 
 -- as a record's values, in bit order
 unfoldable pub listOf : Values → List ℕ

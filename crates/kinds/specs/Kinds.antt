@@ -6,7 +6,7 @@ use lib.Dec.{eqb}
 use lib.ListN.{length}
 use Rattle.format.specs.Message.{readMessage, codeOf as refusal}
 use Rattle.packet_reading.specs.Packet.{packets}
-use Rattle.distress_reading.specs.Report.{reports}
+use Rattle.distress.specs.Report.{reports}
 use Rattle.ais.specs.Ais.{codeOf as aisCode}
 use Rattle.serial.specs.Serial.{codeOf as serialCode}
 use Rattle.lines.specs.Text.{line}

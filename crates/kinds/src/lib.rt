@@ -5,7 +5,7 @@ ghost use lib.ListN.{length};
 ghost use Rattle.lines.specs.Stores.{placed, Stores};
 ghost use Rattle.kinds.specs.Kinds.{word, codeOf, entryLine};
 ghost use Rattle.format.specs.Message.{codeOf as Message·codeOf, readMessage};
-ghost use Rattle.distress_reading.specs.Report.{reports};
+ghost use Rattle.distress.specs.Report.{reports};
 ghost use Rattle.packet_reading.specs.Packet.{packets};
 use lines::line;
 
@@ -32,7 +32,7 @@ fn packet(body: &[u8]) -> u8
 fn report(body: &[u8]) -> u8
     ensures { λ r. ⌜ r ≡ Message·codeOf (readMessage reports (now (body .entry))) ⌝ }
 {
-    let answer = distress_reading::report::read(body);
+    let answer = distress::read(body);
     answer.refusal()
 }
 

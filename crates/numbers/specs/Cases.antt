@@ -10,9 +10,9 @@ use Rattle.format.specs.Message.{leaves, writeMessage, correctMessage}
 use Rattle.format.specs.Promises.{answered, readRecord}
 use Rattle.txsq.specs.Txsq.{txsqs, recordOf as txsqOf}
 use Rattle.gljc.specs.Gljc.{gljcs, recordOf as gljcOf}
-use Rattle.distress_reading.specs.Report.{reports, reportOf, valuesOf as reportValues}
-use Rattle.distress_reading.specs.Changed.{changed}
-use Rattle.distress_reading.specs.declared.report.Report.{Report}
+use Rattle.distress.specs.Report.{reports, reportOf, valuesOf as reportValues}
+use Rattle.distress.specs.Changed.{changed}
+use Rattle.distress.specs.declared.reading.Report.{Report}
 use Rattle.notice_reading.specs.Notice.{notices}
 use Rattle.notice_reading.specs.Record.{Whole, headed, recordOf as noticeOf, valuesOf as noticeValues}
 use Rattle.packet_reading.specs.Packet.{packets, valuesOf as packetValues}

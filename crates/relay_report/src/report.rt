@@ -1,8 +1,8 @@
 // The distress report: writing and correcting.
 ghost use Rattle.report_rows.specs.Report.{recordOf};
-ghost use Rattle.distress_reading.specs.Report.{reports, valuesOf};
+ghost use Rattle.distress.specs.Report.{reports, valuesOf};
 ghost use Rattle.format.specs.Promises.{Writes, Corrects};
-use distress::report::Report;
+use distress::Report;
 
 // Writes the report of these numbers into the front of a lent buffer.
 #[no_mangle]
@@ -31,7 +31,7 @@ pub extern "C" fn bellnewt_distress_write(
         course,
         kind,
     };
-    distress::report::write(buf, report)
+    distress::write(buf, report)
 }
 
 // Makes field number `field` of the report be `value`, or leaves every byte.
@@ -39,5 +39,5 @@ pub extern "C" fn bellnewt_distress_write(
 pub extern "C" fn bellnewt_distress_correct(s: &mut [u8], field: usize, value: u64) -> u8
     ensures { λ code. ⌜ Corrects reports (now (s .entry)) field value code (now (s .exit)) ⌝ }
 {
-    distress::report::correct(s, field, value)
+    distress::correct(s, field, value)
 }

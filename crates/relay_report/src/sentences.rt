@@ -2,7 +2,7 @@
 ghost use Rattle.rows.specs.Row.{Fills};
 ghost use Rattle.report_rows.specs.Report.{recordOf};
 ghost use Rattle.report_rows.specs.Sentence.{sentenceNumbers, SentenceWrites};
-use distress::report::Report;
+use distress::Report;
 
 // Reads the sentence into a row of 10: address, then the report's nine.
 #[no_mangle]

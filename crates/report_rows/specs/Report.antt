@@ -4,8 +4,8 @@ use mathlib.Core.List.{List, [], _∷_}
 use lib.IntN.{ℤ, pos}
 use Rattle.format.specs.Fmt.{Out, also}
 use Rattle.format.specs.Promises.{readRecord}
-use Rattle.distress_reading.specs.Report.{reports, reportOf}
-use Rattle.distress_reading.specs.declared.report.Report.{Report}
+use Rattle.distress.specs.Report.{reports, reportOf}
+use Rattle.distress.specs.declared.reading.Report.{Report}
 
 -- a record's numbers, in the paper's order
 unfoldable pub rowOf : Report → List ℤ

@@ -7,7 +7,7 @@ use lib.ListN.{length}
 use Rattle.format.specs.Fmt.{Out, also}
 use Rattle.format.specs.Message.{codeOf, leaves}
 use Rattle.sentence.specs.Sentence.{readSentence, writeSentence, roomFor, laidOver}
-use Rattle.distress_reading.specs.declared.report.Report.{Report}
+use Rattle.distress.specs.declared.reading.Report.{Report}
 use Rattle.report_rows.specs.Report.{rowOf}
 
 -- the reading of the bytes s, as numbers: the address, then the report's

@@ -4,14 +4,14 @@ ghost use mathlib.Core.List.{_∷_};
 ghost use lib.IntN.{pos};
 ghost use Rattle.rows.specs.Row.{Fills};
 ghost use Rattle.report_rows.specs.Report.{rowOf, numbersOf};
-use distress_reading::report::Answer;
-use distress_reading::report::Report;
+use distress::Answer;
+use distress::Report;
 
 // Reads the report into a row of 9: mmsi, longitude, latitude, day, hour, minute, speed, course, kind.
 pub fn read(s: &[u8], row: &mut [i64]) -> u8
     ensures { λ code. ⌜ Fills (numbersOf (now (s .entry))) (now (row .entry)) code (now (row .exit)) ⌝ }
 {
-    let answer = distress_reading::report::read(s);
+    let answer = distress::read(s);
     match answer {
         Answer::Good(report) => {
             let numbers = numbers(0, report);

@@ -2,7 +2,7 @@
 ghost use Rattle.rows.specs.Row.{Fills};
 ghost use Rattle.report_rows.specs.Sentence.{sentenceNumbers, SentenceWrites};
 use crate::report::numbers;
-use distress_reading::report::Report;
+use distress::Report;
 use sentence::Heard;
 use sentence::Sent;
 

@@ -7,8 +7,8 @@ use lib.ListN.{length}
 use Rattle.format.specs.Fmt.{Out, accepted, refused, orBad, check, also, after}
 use Rattle.format.specs.Message.{writeMessage, ahead}
 use Rattle.format.specs.Promises.{answered, readRecord}
-use Rattle.distress_reading.specs.Report.{reports, valuesOf, reportOf}
-use Rattle.distress_reading.specs.declared.report.Report.{Report}
+use Rattle.distress.specs.Report.{reports, valuesOf, reportOf}
+use Rattle.distress.specs.declared.reading.Report.{Report}
 use Rattle.pattern.specs.Pattern.{sentence, addressGood, aroundSo}
 use Rattle.sentence.specs.declared.Heard.{Heard}
 use Rattle.sentence.specs.declared.Heard.the-variants.{Good, Refused}

@@ -1,6 +1,6 @@
 // The distress sentence (paper 01, "Distress report", second paragraph; 001, A.2): `$CCTXA,` address `,2,2,A4` report `*` sum CR LF.
-use distress::report::Answer;
-use distress::report::Report;
+use distress::Answer;
+use distress::Report;
 use pattern::Around;
 ghost use Rattle.sentence.specs.Sentence.{Hears, Sends};
 
@@ -40,7 +40,7 @@ pub fn read(s: &[u8]) -> Heard
     };
     let n = s.len();
     let bytes = spelling::unhex(&s[n - 39..n - 5]);
-    match distress::report::read(&bytes) {
+    match distress::read(&bytes) {
         Answer::Good(r) => Heard::Good(to, r),
         Answer::Refused(code) => Heard::Refused(code),
     }
@@ -57,7 +57,7 @@ pub fn write(buf: &mut [u8], address: u32, r: Report) -> Sent
         return Sent::Refused(format::RANGE);
     }
     let mut bytes = [0u8; 17];
-    let code = distress::report::write(&mut bytes, r);
+    let code = distress::write(&mut bytes, r);
     if code != 0 {
         return Sent::Refused(code);
     }

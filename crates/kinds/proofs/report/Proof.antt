@@ -1,8 +1,8 @@
 -- `report` gives the number of the answer that `read` makes.
 use mathlib.Core.Path.{refl, ap, _∙_}
 use Rattle.format.specs.Message.{readMessage}
-use Rattle.distress_reading.specs.Report.{reports, reportOf, numberOf}
-use Rattle.distress_reading.specs.declared.report.Answer.the-variants.{Good, Refused}
+use Rattle.distress.specs.Report.{reports, reportOf, numberOf}
+use Rattle.distress.specs.declared.reading.Answer.the-variants.{Good, Refused}
 use Rattle.format.specs.laws.Answers.{numbered}
 use borrow.Author.Needs.{needs}
 use Rattle.kinds.proofs.report.Statement.{statement}

@@ -15,8 +15,8 @@ use Rattle.format.specs.Words.{walk, wide, orZero}
 use Rattle.frame.specs.Frame.{leads}
 use Rattle.txsq.specs.Txsq.{txsq, txsqs, recordOf as txsqOf}
 use Rattle.gljc.specs.Gljc.{gljc, gljcs}
-use Rattle.distress_reading.specs.Report.{report, reports, reportOf, valuesOf as reportValues}
-use Rattle.distress_reading.specs.Changed.{changed}
+use Rattle.distress.specs.Report.{report, reports, reportOf, valuesOf as reportValues}
+use Rattle.distress.specs.Changed.{changed}
 use Rattle.notice_parts.specs.Parts.{subtypes, subtype}
 use Rattle.notice_areas.specs.Areas.{points, areas}
 use Rattle.notice_areas.specs.Row.{first, areasLong}

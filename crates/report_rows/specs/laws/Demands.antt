@@ -7,9 +7,9 @@ use lib.ListN.{length}
 use Rattle.format.specs.Fmt.{Out, accepted, refused, also}
 use Rattle.format.specs.Message.{codeOf, leaves}
 use Rattle.sentence.specs.laws.Demands.{no-zero-heard}
-use Rattle.distress_reading.specs.Promises.{Reads}
-use Rattle.distress_reading.specs.declared.report.Report.{Report}
-use Rattle.distress_reading.specs.declared.report.Answer.the-variants.{Refused}
+use Rattle.distress.specs.Promises.{Reads}
+use Rattle.distress.specs.declared.reading.Report.{Report}
+use Rattle.distress.specs.declared.reading.Answer.the-variants.{Refused}
 use Rattle.sentence.specs.Sentence.{laidOver, Hears}
 use Rattle.sentence.specs.declared.Heard.the-variants.{Refused as Unheard}
 use Rattle.rows.specs.Row.{Fills}

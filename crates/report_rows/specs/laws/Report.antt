@@ -9,11 +9,11 @@ use mir.ValLaws.{toZ-ofZ}
 use Rattle.format.specs.Fmt.{accepted, refused, also}
 use Rattle.format.specs.laws.Answers.{bad-refuses}
 use Rattle.format.specs.laws.Family.{never-read}
-use Rattle.distress_reading.specs.laws.Demands.{family, good}
-use Rattle.distress_reading.specs.Promises.{Reads}
-use Rattle.distress_reading.specs.Report.{reports, reportOf, outOf}
-use Rattle.distress_reading.specs.declared.report.Report.{Report}
-use Rattle.distress_reading.specs.declared.report.Answer.the-variants.{Good, Refused}
+use Rattle.distress.specs.laws.Demands.{family, good}
+use Rattle.distress.specs.Promises.{Reads}
+use Rattle.distress.specs.Report.{reports, reportOf, outOf}
+use Rattle.distress.specs.declared.reading.Report.{Report}
+use Rattle.distress.specs.declared.reading.Answer.the-variants.{Good, Refused}
 use Rattle.format.specs.Promises.{readRecord}
 use Rattle.rows.specs.Row.{Fills}
 use Rattle.report_rows.specs.Report.{rowOf, numbersOf, recordOf}

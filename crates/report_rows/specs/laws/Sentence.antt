@@ -9,7 +9,7 @@ use Rattle.format.specs.Fmt.{Out, accepted, refused, also}
 use Rattle.format.specs.Message.{codeOf, leaves}
 use Rattle.format.specs.laws.Answers.{good-read, bad-refuses}
 use Rattle.sentence.specs.Sentence.{readSentence, outOf, sentOf, Hears, Sends}
-use Rattle.distress_reading.specs.declared.report.Report.{Report}
+use Rattle.distress.specs.declared.reading.Report.{Report}
 use Rattle.sentence.specs.declared.Heard.the-variants.{Good, Refused}
 use Rattle.sentence.specs.declared.Sent.{Sent}
 use Rattle.sentence.specs.declared.Sent.the-variants.{Bytes, Refused as Unsent}

@@ -12,16 +12,16 @@ use Rattle.format.specs.Message.{codeOf, leaves, into, writeMessage}
 use Rattle.format.specs.laws.Whole.{made}
 use Rattle.format.specs.laws.Family.{never-written}
 use Rattle.format.specs.Promises.{readRecord, Writes}
-use Rattle.distress_reading.specs.laws.Demands.{family, long}
-use Rattle.distress_reading.specs.Report.{reports, valuesOf, reportOf, answerOf}
+use Rattle.distress.specs.laws.Demands.{family, long}
+use Rattle.distress.specs.Report.{reports, valuesOf, reportOf, answerOf}
 use Rattle.pattern.specs.Pattern.{Laid, opening, summedUp, sentence, addressGood, hexPart, aroundSo, aroundOf}
 use Rattle.spelling.specs.Spelling.{allDigits, decimal, unhexed}
 use Rattle.sentence.specs.Sentence.{readSentence, writeSentence, roomFor, heardOf, sentOf, laidOver, Sends}
 use Rattle.pattern.specs.laws.Parts.{summed-long}
 use Rattle.pattern.specs.laws.Tests.{led, passed, pattern-both}
-use Rattle.distress_reading.specs.declared.report.Report.{Report}
-use Rattle.distress_reading.specs.declared.report.Answer.{Answer}
-use Rattle.distress_reading.specs.declared.report.Answer.the-variants.{Good as GoodReport, Refused as BadReport}
+use Rattle.distress.specs.declared.reading.Report.{Report}
+use Rattle.distress.specs.declared.reading.Answer.{Answer}
+use Rattle.distress.specs.declared.reading.Answer.the-variants.{Good as GoodReport, Refused as BadReport}
 use Rattle.pattern.specs.declared.Around.{Around}
 use Rattle.pattern.specs.declared.Around.the-variants.{Accepted as Accepts, Refused as Refuses}
 use Rattle.sentence.specs.declared.Heard.{Heard}

@@ -13,17 +13,17 @@ use Rattle.format.specs.Fmt.{Out, accepted, refused, orBad, check, also}
 use Rattle.format.specs.Message.{writeMessage}
 use Rattle.format.specs.laws.Family.{never-read, never-written, written-record, read-writes}
 use Rattle.format.specs.Promises.{readRecord}
-use Rattle.distress_reading.specs.laws.Demands.{family, good}
-use Rattle.distress_reading.specs.Promises.{Reads}
-use Rattle.distress_reading.specs.Report.{reports, valuesOf, reportOf, answerOf}
+use Rattle.distress.specs.laws.Demands.{family, good}
+use Rattle.distress.specs.Promises.{Reads}
+use Rattle.distress.specs.Report.{reports, valuesOf, reportOf, answerOf}
 use Rattle.pattern.specs.Pattern.{sentence, addressGood, aroundSo}
 use Rattle.sentence.specs.Sentence.{readSentence, writeSentence, roomFor, heardOf, sentOf, laidOver, Hears, Sends}
 use Rattle.sentence.specs.laws.Calls.{heard-fails, heardAs, heard-inside, bytewise, all-sent}
 use Rattle.pattern.specs.laws.Parts.{sentenced, sentence-accepted}
 use Rattle.pattern.specs.laws.Tests.{never-around}
-use Rattle.distress_reading.specs.declared.report.Report.{Report}
-use Rattle.distress_reading.specs.declared.report.Answer.{Answer}
-use Rattle.distress_reading.specs.declared.report.Answer.the-variants.{Good as GoodReport, Refused as BadReport}
+use Rattle.distress.specs.declared.reading.Report.{Report}
+use Rattle.distress.specs.declared.reading.Answer.{Answer}
+use Rattle.distress.specs.declared.reading.Answer.the-variants.{Good as GoodReport, Refused as BadReport}
 use Rattle.sentence.specs.declared.Heard.{Heard}
 use Rattle.sentence.specs.declared.Heard.the-variants.{Good, Refused}
 use Rattle.sentence.specs.declared.Sent.{Sent}

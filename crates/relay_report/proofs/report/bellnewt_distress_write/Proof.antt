@@ -1,8 +1,8 @@
 -- `bellnewt_distress_write` is the report's `write` of the record of its numbers.
 use mathlib.Core.Path.{subst}
-use Rattle.distress_reading.specs.Report.{reports, valuesOf}
+use Rattle.distress.specs.Report.{reports, valuesOf}
 use Rattle.format.specs.Promises.{Writes}
-use Rattle.distress_reading.specs.declared.report.Report.{Report}
+use Rattle.distress.specs.declared.reading.Report.{Report}
 use Rattle.report_rows.specs.Report.{recordOf}
 use Rattle.report_rows.specs.laws.Report.{kept}
 use borrow.Author.Needs.{needs}

@@ -1,6 +1,6 @@
 -- `bellnewt_sentence_write` writes the sentence of the record of its numbers.
 use mathlib.Core.Path.{subst}
-use Rattle.distress_reading.specs.declared.report.Report.{Report}
+use Rattle.distress.specs.declared.reading.Report.{Report}
 use Rattle.report_rows.specs.Report.{recordOf}
 use Rattle.report_rows.specs.Sentence.{SentenceWrites}
 use Rattle.report_rows.specs.laws.Report.{kept}

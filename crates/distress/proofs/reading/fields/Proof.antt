@@ -1,0 +1,175 @@
+-- `fields` walks the report as its layout stands: one step a field, then the record is that of the values.
+use mathlib.Core.Path.{refl, sym, ap, _∙_}
+use Prim.Native.Nat.{_≤_, _<_, _^_}
+use mathlib.Core.List.{[], _∷_}
+use lib.Dec.{eqb, lit<, lit≤}
+use Rattle.walk.specs.Sign.{spellOf}
+use Rattle.walk.specs.laws.Reading.{start, step-code, step-num, step-signed, step-fill}
+use Rattle.format.specs.Fmt.{also}
+use mathlib.Core.Bool.{cond}
+use Rattle.walk.specs.laws.Walked.{finish, same-values}
+use native.Mathlib.Omega.{arith}
+use Rattle.format.specs.laws.Lead.{exact-fields, other-size}
+use Rattle.walk.specs.laws.Sign.{spell-int}
+use mir.Syntax.{w32}
+use mir.ValLaws.{toZ-ofZ}
+use Rattle.distress.specs.Report.{report, valuesOf, reportOf, answerOf, again}
+use Rattle.format.specs.laws.Answers.{told-so}
+use Rattle.distress.specs.declared.reading.Answer.the-variants.{Good, Refused}
+use borrow.Author.Needs.{needs}
+use Rattle.distress.proofs.reading.fields.Statement.{statement}
+use Rattle.distress.proofs.reading.fields.Tie as tie
+
+none-requires : tie.Need-none-requires
+none-requires c κs = search needs
+
+choose-requires : tie.Need-choose-requires
+choose-requires c κs = search needs
+
+returns : tie.Need-returns
+returns c =
+    let test = c .before .before in
+    let a = test .before .before .args in
+    ap Refused (c .choose .ensures ∙ ap (λ x. cond x 1 (a .lead)) (c .before .none .ensures))
+    ∙ sym (ap (λ o. answerOf (also reportOf o)) (other-size report 17 17 (a .lead) (a .s .now) (λ l u. test .if1 .taken (omega (arith, l, u)))))
+
+begin-requires : tie.Need-begin-requires
+begin-requires c κs = search needs
+
+code-requires : tie.Need-code-requires
+code-requires c κs = search needs
+
+num-requires : tie.Need-num-requires
+num-requires c κs = search needs
+
+cast-mmsi : tie.Need-cast-mmsi
+cast-mmsi c = search needs
+
+signed-requires : tie.Need-signed-requires
+signed-requires c κs = search needs
+
+int-requires : tie.Need-int-requires
+int-requires c κs = search needs
+
+signed-requires-2 : tie.Need-signed-requires-2
+signed-requires-2 c κs = search needs
+
+int-requires-2 : tie.Need-int-requires-2
+int-requires-2 c κs = search needs
+
+num-requires-2 : tie.Need-num-requires-2
+num-requires-2 c κs = search needs
+
+cast-day : tie.Need-cast-day
+cast-day c = search needs
+
+num-requires-3 : tie.Need-num-requires-3
+num-requires-3 c κs = search needs
+
+cast-hour : tie.Need-cast-hour
+cast-hour c = search needs
+
+num-requires-4 : tie.Need-num-requires-4
+num-requires-4 c κs = search needs
+
+cast-minute : tie.Need-cast-minute
+cast-minute c = search needs
+
+num-requires-5 : tie.Need-num-requires-5
+num-requires-5 c κs = search needs
+
+cast-speed : tie.Need-cast-speed
+cast-speed c = search needs
+
+num-requires-6 : tie.Need-num-requires-6
+num-requires-6 c κs = search needs
+
+cast-course : tie.Need-cast-course
+cast-course c = search needs
+
+num-requires-7 : tie.Need-num-requires-7
+num-requires-7 c κs = search needs
+
+cast-kind : tie.Need-cast-kind
+cast-kind c = search needs
+
+fill-requires : tie.Need-fill-requires
+fill-requires c κs = search needs
+
+end-requires : tie.Need-end-requires
+end-requires c κs = search needs
+
+told-requires : tie.Need-told-requires
+told-requires c κs = search needs
+
+returns-2 : tie.Need-returns-2
+unfolding report valuesOf
+returns-2 c =
+    let ended = c .before in
+    let c12 = ended .before in
+    let c11 = c12 .before .before in
+    let c10 = c11 .before .before in
+    let c9 = c10 .before .before in
+    let c8 = c9 .before .before in
+    let c7 = c8 .before .before in
+    let c6 = c7 .before .before in
+    let c5 = c6 .before in
+    let c4 = c5 .before in
+    let c3 = c4 .before in
+    let c2 = c3 .before in
+    let c1 = c2 .before .before in
+    let c0 = c1 .before in
+    let cs = c0 .before in
+    let test = cs .before in
+    let a = test .before .before .args in
+    let s = a .s .now in
+    let r0 = start report 0 (a .lead) s (cs .begin .ensures) in
+    let r1 = step-code 16 (lit≤ tt) (lit< tt) 0xBDC1 r0 (c0 .code .ensures) in
+    let r2 = step-num 32 (lit< tt) (lit≤ tt) (lit< tt) 0 999_999_999 r1 (c1 .num .ensures .0) in
+    let r3 = step-signed 25 (lit< tt) (lit≤ tt) (lit< tt) 10_800_000 10_860_000 r2 (c2 .signed .ensures .0) in
+    let r4 = step-signed 24 (lit< tt) (lit≤ tt) (lit< tt) 5_400_000 5_460_000 r3 (c4 .signed2 .ensures .0) in
+    let r5 = step-num 5 (lit< tt) (lit≤ tt) (lit< tt) 0 31 r4 (c6 .num2 .ensures .0) in
+    let r6 = step-num 5 (lit< tt) (lit≤ tt) (lit< tt) 0 24 r5 (c7 .num3 .ensures .0) in
+    let r7 = step-num 6 (lit< tt) (lit≤ tt) (lit< tt) 0 60 r6 (c8 .num4 .ensures .0) in
+    let r8 = step-num 7 (lit< tt) (lit≤ tt) (lit< tt) 0 126 r7 (c9 .num5 .ensures .0) in
+    let r9 = step-num 9 (lit< tt) (lit≤ tt) (lit< tt) 0 360 r8 (c10 .num6 .ensures .0) in
+    let r10 = step-num 4 (lit< tt) (lit≤ tt) (lit< tt) 0 9 r9 (c11 .num7 .ensures .0) in
+    let r11 = step-fill 3 (lit≤ tt) (lit< tt) r10 (c12 .fill .ensures) in
+    let r12 = finish (lit< tt) r11 (ended .end .ensures) in
+    let east = ap (spellOf (2 ^ 25)) (toZ-ofZ w32 (c3 .int .result) (record { sfits = c3 .int .ok }) ∙ c3 .int .ensures) ∙ spell-int (2 ^ 25) (c2 .signed .result .v) (lit≤ tt) refl (c2 .signed .ensures .1) in
+    let north = ap (spellOf (2 ^ 24)) (toZ-ofZ w32 (c5 .int2 .result) (record { sfits = c5 .int2 .ok }) ∙ c5 .int2 .ensures) ∙ spell-int (2 ^ 24) (c4 .signed2 .result .v) (lit≤ tt) refl (c4 .signed2 .ensures .1) in
+    let w = same-values (λ i. 0xBDC1 ∷ c1 .num .result .v ∷ sym east i ∷ sym north i ∷ c6 .num2 .result .v ∷ c7 .num3 .result .v ∷ c8 .num4 .result .v ∷ c9 .num5 .result .v ∷ c10 .num6 .result .v ∷ c11 .num7 .result .v ∷ 0 ∷ []) r12 in
+    c .told .ensures ∙ ap (λ r. cond (eqb (ended .end .result .code) 0) (Good r) (Refused (ended .end .result .code))) (sym (again _ (rw east (c2 .signed .ensures .1)) (rw north (c4 .signed2 .ensures .1)))) ∙ told-so Good Refused reportOf _ _ (ended .end .result .code) (ended .end .result .place) (w .so)
+    ∙ sym (ap (λ o. answerOf (also reportOf o)) (exact-fields report 17 (a .lead) s (λ z. test .if1 .left)))
+
+pub fields-spec : {M : Type 1} → statement M
+fields-spec =
+    tie.close
+    (tie.spec
+    none-requires
+    choose-requires
+    returns
+    begin-requires
+    code-requires
+    num-requires
+    cast-mmsi
+    signed-requires
+    int-requires
+    signed-requires-2
+    int-requires-2
+    num-requires-2
+    cast-day
+    num-requires-3
+    cast-hour
+    num-requires-4
+    cast-minute
+    num-requires-5
+    cast-speed
+    num-requires-6
+    cast-course
+    num-requires-7
+    cast-kind
+    fill-requires
+    end-requires
+    told-requires
+    returns-2)

@@ -1,0 +1,97 @@
+-- The report is a family of format/specs/laws/Family, whose theorems are demands 2 and 3; said here of the report's own promises. Assumes nothing.
+use mathlib.Core.Path.{_≡_, refl, sym, ap, _∙_, subst}
+use mathlib.Core.List.{List, [], _∷_}
+use Prim.Native.Nat.{ℕ, _≤_, _<_, _^_}
+use lib.Dec.{lit≤}
+use lib.ListN.{length, getD, take}
+use Rattle.bits.specs.Bits.{Bytes, putAt}
+use Rattle.format.specs.Fmt.{accepted, found}
+use Rattle.format.specs.Message.{writeMessage}
+use Rattle.format.specs.Promises.{readRecord, Writes, Corrects}
+use Rattle.format.specs.laws.Answers.{good-read}
+use Rattle.format.specs.laws.Entries.{entries, held-entries}
+use Rattle.format.specs.laws.Family.{Family, one-size, written-front, accepted-correction, corrected-as-written}
+use Rattle.format.specs.laws.Held.{Held, exactly}
+use Rattle.walk.specs.laws.Sign.{spell-int}
+use Rattle.format.specs.laws.Zero.{Judged, only-numbered}
+use Rattle.distress.specs.Changed.{spotOf, changed}
+use Rattle.distress.specs.Promises.{Reads}
+use Rattle.distress.specs.Report.{report, reports, valuesOf, reportOf, answerOf, outOf, again}
+use Rattle.distress.specs.laws.Correction.{spotted, changed-values}
+use Rattle.distress.specs.laws.Sound.{sound}
+use Rattle.distress.specs.declared.reading.Report.{Report}
+use Rattle.distress.specs.declared.reading.Answer.the-variants.{Good, Refused}
+
+judged : Judged report
+unfolding report
+judged = (
+  only-numbered 16 1 _,
+  (
+    only-numbered 32 3 _,
+    (
+      only-numbered 25 3 _,
+      (
+        only-numbered 24 3 _,
+        (
+          only-numbered 5 3 _,
+          (
+            only-numbered 5 3 _,
+            (only-numbered 6 3 _, (only-numbered 7 3 _, (only-numbered 9 3 _, (only-numbered 4 3 _, (only-numbered 3 4 _, tt))))),
+          ),
+        ),
+      ),
+    ),
+  ),
+)
+
+-- accepted values are those of their record: the code, the fill and the two signs are as they must be
+same-values : (vs : List ℕ) → Held report [] vs → valuesOf (reportOf vs) ≡ vs
+unfolding report valuesOf reportOf entries
+same-values vs h =
+    let e = held-entries report 11 vs tt h in
+    let g = subst (Held report []) (sym e) h in
+    let z = g .2 .2 .2 .2 .2 .2 .2 .2 .2 .2 in
+    let code = exactly 16 1 0xBDC1 _ (getD vs 0 0) (g .0) (g .1) in
+    let fill = exactly 3 4 0 _ (getD vs 10 0) (z .0) (z .1) in
+    let east = spell-int (2 ^ 25) (getD vs 2 0) (lit≤ tt) refl (g .2 .2 .0) in
+    let north = spell-int (2 ^ 24) (getD vs 3 0) (lit≤ tt) refl (g .2 .2 .2 .0) in
+    (λ x. sym code x ∷ getD vs 1 0 ∷ east x ∷ north x ∷ getD vs 4 0 ∷ getD vs 5 0 ∷ getD vs 6 0 ∷ getD vs 7 0 ∷ getD vs 8 0 ∷ getD vs 9 0 ∷ sym fill x ∷ []) ∙ e
+
+pub family : Family reports Report (λ r. Unit) valuesOf reportOf changed
+unfolding reports report valuesOf
+family = record {
+  sound = sound;
+  judged = judged;
+  counted = λ r k. tt;
+  same-record = λ r k h. again r (h .2 .2 .0) (h .2 .2 .2 .0);
+  same-values = same-values;
+  can-lend = λ vs h. tt;
+  changes = λ r i v p w k e n. (changed-values r i v p w (sym (spotted r i) ∙ e) n, tt);
+}
+
+-- ---- said of the report's promises
+
+-- an answer that is good is an accepted reading
+pub good : (s : List ℕ) (r : Report) → Reads s (Good r) → readRecord reports reportOf s ≡ accepted r
+good s r = good-read Good Refused outOf (λ q. refl) (λ c. refl) (readRecord reports reportOf s)
+
+-- a report that is written has 17 bytes
+pub long : (vs m : List ℕ) → writeMessage reports vs ≡ accepted m → length m ≡ 17
+unfolding reports
+long = one-size reports 17 refl refl
+
+-- What is written is read back as the same record.
+pub written-reads : (s : List ℕ) (r : Report) (t : List ℕ) → Writes reports s 0 t (valuesOf r) → Reads (take 17 t) (Good r)
+written-reads s r t w = sym (ap answerOf (written-front family s r t 17 tt w (long (valuesOf r))))
+
+-- A correction changes the field's bits alone.
+pub correction-bits : (s : List ℕ) (i v : ℕ) (t : List ℕ) (e : Corrects reports s i v 0 t) → let c = accepted-correction family s i v t e in
+    t ≡ putAt s (c .place) (c .width) v
+unfolding reports
+correction-bits s i v t e = accepted-correction family s i v t e .changed
+
+-- Demand 3: correcting a report, where the field can spell the value, is writing the report with that field changed; else nothing differs.
+pub corrected : (s : List ℕ) (r : Report) → Bytes s → Reads s (Good r) → (i v p w : ℕ) → spotOf i ≡ found p w → v < 2 ^ w → (code : ℕ) (t : List ℕ) → Corrects reports s i v code t
+    → (u : List ℕ) → length s ≤ length u → (code′ : ℕ) (t′ : List ℕ) → Writes reports u code′ t′ (valuesOf (changed i v r))
+    → (code ≡ code′) × (code ≡ 0 → t ≡ take (length s) t′) × ((code ≡ 0 → ⊥) → t ≡ s)
+corrected s r fine a i v p w e n = corrected-as-written family s r fine (good s r a) i v p w (spotted r i ∙ e) n

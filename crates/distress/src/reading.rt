@@ -1,0 +1,146 @@
+// The distress report (paper 01, "Distress report"; 001, A.1).
+ghost use mathlib.Core.Path.{_≡_};
+ghost use mathlib.Core.Bool.{cond};
+ghost use lib.Dec.{eqb};
+ghost use Rattle.distress.specs.declared.reading.Answer.the-variants.{Good, Refused};
+ghost use Rattle.distress.specs.Report.{reports, report, reportOf, answerOf, numberOf};
+ghost use Rattle.distress.specs.Promises.{Reads};
+ghost use Rattle.format.specs.Fmt.{also};
+ghost use Rattle.format.specs.Message.{fieldsOf};
+use walk::choosing::choose;
+use walk::choosing::none;
+
+pub struct Report {
+    pub mmsi: u32,
+    // Thousandths of a minute, 10,860,000 and 5,460,000 for none.
+    pub longitude: i32,
+    pub latitude: i32,
+    // 0, 24 and 60 for none.
+    pub day: u8,
+    pub hour: u8,
+    pub minute: u8,
+    pub speed: u8,
+    // 360 for none.
+    pub course: u16,
+    // 0 for none.
+    pub kind: u8,
+}
+
+pub enum Answer {
+    Good(Report),
+    Refused(u8),
+}
+
+impl Answer {
+    // The report, unless a walk over it ended with a refusal.
+    fn told(code: u8, report: Report) -> Answer
+        ensures { λ r. ⌜ r ≡ cond (eqb code 0) (Good report) (Refused code) ⌝ }
+    {
+        if code != 0 {
+            return Answer::Refused(code);
+        }
+        Answer::Good(report)
+    }
+
+    // Its number: 0 for a good one.
+    pub fn refusal(self) -> u8
+        ensures { λ r. ⌜ r ≡ numberOf self ⌝ }
+    {
+        match self {
+            Answer::Good(_) => 0,
+            Answer::Refused(code) => code,
+        }
+    }
+}
+
+impl Report {
+    pub const BITS: usize = 136;
+
+    pub const LEAST: usize = Report::BITS / 8;
+
+    pub const GREATEST: usize = Report::BITS / 8;
+
+    // A field to be corrected is named by its place among the paper's fields; the code before them and the fill behind may not be.
+    pub const MMSI: usize = 1;
+
+    pub const LONGITUDE: usize = 2;
+
+    pub const LATITUDE: usize = 3;
+
+    pub const DAY: usize = 4;
+
+    pub const HOUR: usize = 5;
+
+    pub const MINUTE: usize = 6;
+
+    pub const SPEED: usize = 7;
+
+    pub const COURSE: usize = 8;
+
+    pub const KIND: usize = 9;
+}
+
+pub const CODE: u64 = 0xBDC1;
+
+pub fn read(s: &[u8]) -> Answer
+    ensures { λ r. ⌜ Reads (now (s .entry)) r ⌝ }
+{
+    fields(s, lead(s))
+}
+
+// The first tests: smallest size, code, size.
+pub fn lead(s: &[u8]) -> u8
+    ensures { λ r. ⌜ r ≡ reports .lead (now (s .entry)) ⌝ }
+{
+    if s.len() < Report::LEAST {
+        return format::SIZE;
+    }
+    if bits::get(s, 0, 16) != CODE {
+        return format::KIND;
+    }
+    if s.len() > Report::GREATEST {
+        return format::SIZE;
+    }
+    0
+}
+
+// The fields in bit order, after the first tests' answer. Another size is refused at once: no field has then to be tested for it.
+pub fn fields(s: &[u8], lead: u8) -> Answer
+    ensures { λ r. ⌜ r ≡ answerOf (also reportOf (fieldsOf report 17 17 lead (now (s .entry)))) ⌝ }
+{
+    if s.len() != Report::LEAST {
+        return Answer::Refused(choose(none(lead), format::SIZE, lead));
+    }
+    let w = walk::walk::Walk::begin(lead, 0).code(s, 16, CODE);
+    let w = w.num(s, 32, 0, 999_999_999);
+    let mmsi = w.v as u32;
+    let w = w.signed(s, 25, 10_800_000, 22_754_432, 10_860_000);
+    let longitude = walk::sign::int(w.v, 33_554_432);
+    let w = w.signed(s, 24, 5_400_000, 11_377_216, 5_460_000);
+    let latitude = walk::sign::int(w.v, 16_777_216);
+    let w = w.num(s, 5, 0, 31);
+    let day = w.v as u8;
+    let w = w.num(s, 5, 0, 24);
+    let hour = w.v as u8;
+    let w = w.num(s, 6, 0, 60);
+    let minute = w.v as u8;
+    let w = w.num(s, 7, 0, 126);
+    let speed = w.v as u8;
+    let w = w.num(s, 9, 0, 360);
+    let course = w.v as u16;
+    let w = w.num(s, 4, 0, 9);
+    let kind = w.v as u8;
+    let w = w.fill(s, 3).end(s);
+    let r = Report {
+        mmsi,
+        longitude,
+        latitude,
+        day,
+        hour,
+        minute,
+        speed,
+        course,
+        kind,
+    };
+    Answer::told(w.code, r)
+}
