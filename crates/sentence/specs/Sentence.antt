@@ -9,7 +9,7 @@ use Rattle.format.specs.Message.{writeMessage, ahead}
 use Rattle.format.specs.Promises.{answered, readRecord}
 use Rattle.distress.specs.Report.{reports, valuesOf, reportOf}
 use Rattle.distress.specs.declared.reading.Report.{Report}
-use Rattle.pattern.specs.Pattern.{sentence, addressGood, aroundSo}
+use Rattle.sentence.specs.Pattern.{sentence, addressGood, aroundSo}
 use Rattle.sentence.specs.declared.Heard.{Heard}
 use Rattle.sentence.specs.declared.Heard.the-variants.{Good, Refused}
 use Rattle.sentence.specs.declared.Sent.{Sent}

@@ -1,24 +1,28 @@
 // The distress sentence (paper 01, "Distress report", second paragraph; 001, A.2): `$CCTXA,` address `,2,2,A4` report `*` sum CR LF.
+use crate::pattern::Around;
 use distress::Answer;
 use distress::Report;
-use pattern::Around;
 ghost use Rattle.sentence.specs.Sentence.{Hears, Sends};
+
+pub mod laying;
+pub mod pattern;
+pub mod spelling;
 
 pub struct Sentence;
 
 impl Sentence {
-    pub const LEAST: usize = pattern::LEAST;
+    pub const LEAST: usize = crate::pattern::LEAST;
 
-    pub const GREATEST: usize = pattern::GREATEST;
+    pub const GREATEST: usize = crate::pattern::GREATEST;
 
     // Of the longest one.
     pub const BITS: usize = 8 * Sentence::GREATEST;
 }
 
 // The receiver's address; no leading zero.
-pub const LEAST_ADDRESS: u32 = pattern::LEAST_ADDRESS;
+pub const LEAST_ADDRESS: u32 = crate::pattern::LEAST_ADDRESS;
 
-pub const GREATEST_ADDRESS: u32 = pattern::GREATEST_ADDRESS;
+pub const GREATEST_ADDRESS: u32 = crate::pattern::GREATEST_ADDRESS;
 
 pub enum Heard {
     Good(u32, Report),
@@ -34,12 +38,12 @@ pub enum Sent {
 pub fn read(s: &[u8]) -> Heard
     ensures { λ r. ⌜ Hears (now (s .entry)) r ⌝ }
 {
-    let outer = pattern::accept(s);
+    let outer = crate::pattern::accept(s);
     let Around::Accepted(to) = outer else {
         return Heard::Refused(outer.refusal());
     };
     let n = s.len();
-    let bytes = spelling::unhex(&s[n - 39..n - 5]);
+    let bytes = crate::spelling::unhex(&s[n - 39..n - 5]);
     match distress::read(&bytes) {
         Answer::Good(r) => Heard::Good(to, r),
         Answer::Refused(code) => Heard::Refused(code),
@@ -61,11 +65,11 @@ pub fn write(buf: &mut [u8], address: u32, r: Report) -> Sent
     if code != 0 {
         return Sent::Refused(code);
     }
-    let figures = spelling::decimal(address);
+    let figures = crate::spelling::decimal(address);
     let from = figures.from;
     let places = figures.places;
-    let size = pattern_making::AROUND + 10 - from;
-    if pattern_making::lay(buf, &places[from..], bytes) {
+    let size = crate::laying::AROUND + 10 - from;
+    if crate::laying::lay(buf, &places[from..], bytes) {
         return Sent::Bytes(size);
     }
     Sent::Refused(format::ROOM)

@@ -5,11 +5,11 @@ use native.Mathlib.Omega.{arith}
 use Prim.Native.Nat.{_-_}
 use lib.ListN.{length}
 use borrow.Author.Tests.{eq-eqb}
-use Rattle.spelling.specs.Spelling.{unhexed}
-use Rattle.pattern.specs.Pattern.{hexPart, refusalOf}
+use Rattle.sentence.specs.Spelling.{unhexed}
+use Rattle.sentence.specs.Pattern.{hexPart, refusalOf}
 use Rattle.format.specs.Fmt.{accepted}
 use Rattle.sentence.specs.declared.Heard.the-variants.{Refused}
-use Rattle.pattern.specs.laws.Parts.{length-part}
+use Rattle.sentence.specs.laws.Parts.{length-part}
 use Rattle.sentence.specs.laws.Calls.{heard-refused, Taken, taken, heardAs, heard-inside}
 use Rattle.sentence.proofs.read.Statement.{statement}
 use Rattle.sentence.proofs.read.Tie as tie

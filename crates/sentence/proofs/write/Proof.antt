@@ -7,9 +7,9 @@ use lib.Dec.{leb}
 use lib.ListN.{length, take, drop, replicate, length-drop}
 use lib.Seq.{take-all}
 use borrow.Author.Tests.{le-leb, lt-leb}
-use Rattle.pattern.specs.Pattern.{addressGood}
-use Rattle.spelling.specs.Spelling.{decimal}
-use Rattle.spelling.specs.laws.Digits.{decimal-wide, spells-from, spells-digits}
+use Rattle.sentence.specs.Pattern.{addressGood}
+use Rattle.sentence.specs.Spelling.{decimal}
+use Rattle.sentence.specs.laws.Digits.{decimal-wide, spells-from, spells-digits}
 use Rattle.sentence.specs.laws.Calls.{Reported, reported, bad-address, bad-report, all-laid, none-laid}
 use borrow.Author.Needs.{needs}
 use Rattle.sentence.proofs.write.Statement.{statement}

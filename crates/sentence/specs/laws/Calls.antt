@@ -14,16 +14,16 @@ use Rattle.format.specs.laws.Family.{never-written}
 use Rattle.format.specs.Promises.{readRecord, Writes}
 use Rattle.distress.specs.laws.Demands.{family, long}
 use Rattle.distress.specs.Report.{reports, valuesOf, reportOf, answerOf}
-use Rattle.pattern.specs.Pattern.{Laid, opening, summedUp, sentence, addressGood, hexPart, aroundSo, aroundOf}
-use Rattle.spelling.specs.Spelling.{allDigits, decimal, unhexed}
+use Rattle.sentence.specs.Pattern.{Laid, opening, summedUp, sentence, addressGood, hexPart, aroundSo, aroundOf}
+use Rattle.sentence.specs.Spelling.{allDigits, decimal, unhexed}
 use Rattle.sentence.specs.Sentence.{readSentence, writeSentence, roomFor, heardOf, sentOf, laidOver, Sends}
-use Rattle.pattern.specs.laws.Parts.{summed-long}
-use Rattle.pattern.specs.laws.Tests.{led, passed, pattern-both}
+use Rattle.sentence.specs.laws.Parts.{summed-long}
+use Rattle.sentence.specs.laws.Tests.{led, passed, pattern-both}
 use Rattle.distress.specs.declared.reading.Report.{Report}
 use Rattle.distress.specs.declared.reading.Answer.{Answer}
 use Rattle.distress.specs.declared.reading.Answer.the-variants.{Good as GoodReport, Refused as BadReport}
-use Rattle.pattern.specs.declared.Around.{Around}
-use Rattle.pattern.specs.declared.Around.the-variants.{Accepted as Accepts, Refused as Refuses}
+use Rattle.sentence.specs.declared.pattern.Around.{Around}
+use Rattle.sentence.specs.declared.pattern.Around.the-variants.{Accepted as Accepts, Refused as Refuses}
 use Rattle.sentence.specs.declared.Heard.{Heard}
 use Rattle.sentence.specs.declared.Heard.the-variants.{Good, Refused}
 use Rattle.sentence.specs.declared.Sent.the-variants.{Bytes as Written, Refused as Unsent}

@@ -16,11 +16,11 @@ use Rattle.format.specs.Promises.{readRecord}
 use Rattle.distress.specs.laws.Demands.{family, good}
 use Rattle.distress.specs.Promises.{Reads}
 use Rattle.distress.specs.Report.{reports, valuesOf, reportOf, answerOf}
-use Rattle.pattern.specs.Pattern.{sentence, addressGood, aroundSo}
+use Rattle.sentence.specs.Pattern.{sentence, addressGood, aroundSo}
 use Rattle.sentence.specs.Sentence.{readSentence, writeSentence, roomFor, heardOf, sentOf, laidOver, Hears, Sends}
 use Rattle.sentence.specs.laws.Calls.{heard-fails, heardAs, heard-inside, bytewise, all-sent}
-use Rattle.pattern.specs.laws.Parts.{sentenced, sentence-accepted}
-use Rattle.pattern.specs.laws.Tests.{never-around}
+use Rattle.sentence.specs.laws.Parts.{sentenced, sentence-accepted}
+use Rattle.sentence.specs.laws.Tests.{never-around}
 use Rattle.distress.specs.declared.reading.Report.{Report}
 use Rattle.distress.specs.declared.reading.Answer.{Answer}
 use Rattle.distress.specs.declared.reading.Answer.the-variants.{Good as GoodReport, Refused as BadReport}

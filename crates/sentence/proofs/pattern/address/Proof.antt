@@ -1,0 +1,40 @@
+-- `address`: each way out is one test of the definition.
+use borrow.Author.Needs.{needs}
+use mathlib.Core.Path.{sym, _∙_}
+use Rattle.sentence.specs.laws.Tests.{address-zero, address-other, address-digits}
+use Rattle.sentence.proofs.pattern.address.Statement.{statement}
+use Rattle.sentence.proofs.pattern.address.Tie as tie
+
+shared-slice-read-if1 : tie.Need-shared-slice-read-if1
+shared-slice-read-if1 c = search needs
+
+returns : tie.Need-returns
+returns c = rw (address-zero (c .before .before .before .args .part .now) (c .if1 .taken))
+
+all-digits-requires : tie.Need-all-digits-requires
+all-digits-requires c κs = search needs
+
+number-requires : tie.Need-number-requires
+number-requires c κs = search needs
+
+returns-2 : tie.Need-returns-2
+returns-2 c =
+    let d = c .before .before in
+    let a = d .before .before .before .before in
+    rw (address-digits (a .args .part .now) (a .pre) (d .before .if1 .left) (sym (d .all-digits .ensures) ∙ c .before .if2 .taken)) (c .number .ensures)
+
+returns-3 : tie.Need-returns-3
+returns-3 c =
+    let d = c .before in
+    rw (address-other (d .before .before .before .before .args .part .now) (sym (d .all-digits .ensures) ∙ c .if2 .left))
+
+pub address-spec : {M : Type 1} → statement M
+address-spec =
+    tie.close
+    (tie.spec
+    shared-slice-read-if1
+    returns
+    all-digits-requires
+    number-requires
+    returns-2
+    returns-3)

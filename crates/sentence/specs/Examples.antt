@@ -1,0 +1,24 @@
+-- The example of 001, A.2: each line computes.
+use mathlib.Core.List.{List, [], _∷_}
+use mathlib.Core.Path.{_≡_, refl}
+use Prim.Native.Nat.{ℕ}
+use Rattle.bits.specs.Xor.{xorOf}
+use Rattle.format.specs.Fmt.{accepted}
+use Rattle.sentence.specs.Spelling.{figureOf, digitValue, allDigits, decimal, spelt, hexOf, unhexed, closingOf}
+use Rattle.sentence.specs.Pattern.{opening, summedUp, sentence, sameBytes, addressLike, patternLike, leadOf, aroundSo}
+
+-- bdc1075bcd15385c8780d1ba258c8a16c0
+abbrev report : List ℕ
+report = 0xBD ∷ 0xC1 ∷ 0x07 ∷ 0x5B ∷ 0xCD ∷ 0x15 ∷ 0x38 ∷ 0x5C ∷ 0x87 ∷ 0x80 ∷ 0xD1 ∷ 0xBA ∷ 0x25 ∷ 0x8C ∷ 0x8A ∷ 0x16 ∷ 0xC0 ∷ []
+
+-- `$CCTXA,1234567,2,2,A4bdc1075bcd15385c8780d1ba258c8a16c0*52` CR LF
+abbrev example : List ℕ
+example = 0x24 ∷ 0x43 ∷ 0x43 ∷ 0x54 ∷ 0x58 ∷ 0x41 ∷ 0x2C ∷ 0x31 ∷ 0x32 ∷ 0x33 ∷ 0x34 ∷ 0x35 ∷ 0x36 ∷ 0x37 ∷ 0x2C ∷ 0x32 ∷ 0x2C ∷ 0x32 ∷ 0x2C ∷ 0x41 ∷ 0x34 ∷ 0x62 ∷ 0x64 ∷ 0x63 ∷ 0x31 ∷ 0x30 ∷ 0x37 ∷ 0x35 ∷ 0x62 ∷ 0x63 ∷ 0x64 ∷ 0x31 ∷ 0x35 ∷ 0x33 ∷ 0x38 ∷ 0x35 ∷ 0x63 ∷ 0x38 ∷ 0x37 ∷ 0x38 ∷ 0x30 ∷ 0x64 ∷ 0x31 ∷ 0x62 ∷ 0x61 ∷ 0x32 ∷ 0x35 ∷ 0x38 ∷ 0x63 ∷ 0x38 ∷ 0x61 ∷ 0x31 ∷ 0x36 ∷ 0x63 ∷ 0x30 ∷ 0x2A ∷ 0x35 ∷ 0x32 ∷ 0x0D ∷ 0x0A ∷ []
+
+example-written : sentence 1_234_567 report ≡ example
+unfolding sentence summedUp opening decimal figureOf hexOf closingOf xorOf
+example-written = refl
+
+example-read : aroundSo example ≡ accepted (1_234_567, report)
+unfolding aroundSo leadOf patternLike addressLike sameBytes allDigits digitValue spelt unhexed closingOf figureOf xorOf
+example-read = refl
