@@ -2,7 +2,7 @@
 use mathlib.Core.Path.{_≡_, refl}
 use mathlib.Core.List.{List, [], _∷_}
 use Prim.Native.Nat.{ℕ}
-use Rattle.ais_head.specs.Lead.{told}
+use Rattle.ais_common.specs.Lead.{told}
 use Rattle.bits.specs.Bits.{bit, valueOf, digits, bitsOf, fieldAt}
 use Rattle.format.specs.Message.{readMessage}
 use Rattle.area_reading.specs.Area.{areas}

@@ -1,7 +1,7 @@
 // AIS (paper 01, "AIS"): what reading a message of either kind answers; how many slots it needs, from `slots`.
 ghost use mathlib.Core.Path.{_≡_};
 ghost use Rattle.ais.specs.Ais.{codeOf};
-pub use ais_head::SMALLEST;
+pub use ais_common::head::SMALLEST;
 pub use slots::Needed;
 pub use slots::slots;
 

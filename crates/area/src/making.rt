@@ -24,8 +24,8 @@ pub(crate) fn judged(r: Area, time: u64, second: u64) -> walk::walk::Walk
     let w = w.value(4, r.kind as u64, 1, 14);
     let w = w.fixed(2, kind as u64);
     let w = shape_making::judged(w, shape);
-    let w = time::judged(w, time);
-    let w = time::judged_short(w, second);
+    let w = ais_common::time::judged(w, time);
+    let w = ais_common::time::judged_short(w, second);
     w.value(4, r.advice as u64, 1, 6).fixed(6, 0)
 }
 

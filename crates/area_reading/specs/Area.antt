@@ -3,13 +3,13 @@ use Prim.Native.Nat.{ℕ}
 use mathlib.Core.Bool.{false}
 use mathlib.Core.List.{List, [], _∷_}
 use lib.ListN.{getD}
-use Rattle.ais_head.specs.Lead.{application, headOf, leads}
-use Rattle.ais_head.specs.declared.Asked.{Asked}
+use Rattle.ais_common.specs.Lead.{application, headOf, leads}
+use Rattle.ais_common.specs.declared.head.Asked.{Asked}
 use Rattle.format.specs.Fmt.{Out, accepted, refused, Fmt, end, choice}
 use Rattle.format.specs.Message.{Layout, codeOf}
 use Rattle.format.specs.Promises.{answered}
 use Rattle.format.specs.Words.{_‥_, only, _▹_, num, code, fill}
-use Rattle.time.specs.Time.{time, shortTime, spellTime, timeOf, spellShort, shortOf}
+use Rattle.ais_common.specs.Time.{time, shortTime, spellTime, timeOf, spellShort, shortOf}
 use Rattle.area_reading.specs.Shapes.{kindOf, typeOf, shape, shapeKind, shapeValues, shapeOf}
 use Rattle.area_reading.specs.declared.Area.{Area}
 use Rattle.area_reading.specs.declared.Answer.{Answer}

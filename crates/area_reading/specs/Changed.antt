@@ -5,7 +5,7 @@ use mathlib.Core.List.{List, [], _∷_}
 use lib.Dec.{eqb}
 use lib.ListN.{getD}
 use Rattle.format.specs.Fmt.{Spot, none, found}
-use Rattle.time.specs.Time.{timeOf, shortOf}
+use Rattle.ais_common.specs.Time.{timeOf, shortOf}
 use Rattle.area_reading.specs.Shapes.{Kind, circle, rectangle, kindOf, eastOf, northOf}
 use Rattle.area_reading.specs.declared.Area.{Area}
 use Rattle.area_reading.specs.declared.shapes.Shape.{Shape}

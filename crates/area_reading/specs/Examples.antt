@@ -4,14 +4,14 @@ use mathlib.Core.List.{List, [], _∷_}
 use Prim.Native.Nat.{ℕ}
 use lib.IntN.{pos, negsuc}
 use lib.ListN.{take, set}
-use Rattle.ais_head.specs.Lead.{told}
+use Rattle.ais_common.specs.Lead.{told}
 use Rattle.bits.specs.Bits.{bit, valueOf, digits, bitsOf, bytesOf, fieldAt}
 use Rattle.walk.specs.Sign.{intOf, spellOf}
 use Rattle.format.specs.Fmt.{accepted, refused, readField, read, writeField, write, spot}
 use Rattle.format.specs.Message.{codeOf, readMessage, writeMessage, correctMessage}
 use Rattle.format.specs.Promises.{readRecord}
 use Rattle.format.specs.Words.{walk, wide}
-use Rattle.time.specs.Time.{spellTime, timeOf, spellShort, shortOf}
+use Rattle.ais_common.specs.Time.{spellTime, timeOf, spellShort, shortOf}
 use Rattle.area_reading.specs.Area.{area, areas, valuesAs, valuesOf, recordOf}
 use Rattle.area_reading.specs.Changed.{fieldOf}
 use Rattle.area_reading.specs.declared.Area.{Area}

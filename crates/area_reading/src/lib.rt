@@ -7,7 +7,7 @@ ghost use Rattle.format.specs.Message.{fieldsOf};
 ghost use Rattle.area_reading.specs.Area.{area, areas, recordOf, answerOf, numberOf};
 ghost use Rattle.area_reading.specs.Promises.{Reads};
 ghost use Rattle.area_reading.specs.declared.Answer.the-variants.{Good, Refused};
-pub use ais_head::AUTHORITY;
+pub use ais_common::head::AUTHORITY;
 use walk::choosing::choose;
 use walk::choosing::none;
 
@@ -22,8 +22,8 @@ pub struct Area {
     // 1 to 14.
     pub kind: u8,
     pub shape: shapes::Shape,
-    pub time: time::Time,
-    pub second_time: time::ShortTime,
+    pub time: ais_common::time::Time,
+    pub second_time: ais_common::time::ShortTime,
     // 1 to 6.
     pub advice: u8,
 }
@@ -111,18 +111,18 @@ pub fn read(s: &[u8]) -> Answer
 pub fn lead(s: &[u8]) -> u8
     ensures { λ r. ⌜ r ≡ areas .lead (now (s .entry)) ⌝ }
 {
-    let head = ais_head::Head {
+    let head = ais_common::head::Head {
         message: bits::get(s, 0, 6),
         application: bits::get(s, 72, 16),
         choice: bits::get(s, 92, 2),
     };
-    let asked = ais_head::Asked {
+    let asked = ais_common::head::Asked {
         message: MESSAGE,
         application: APPLIED,
         choices: 2,
         bytes: Area::LEAST,
     };
-    ais_head::lead(s.len(), head, asked)
+    ais_common::head::lead(s.len(), head, asked)
 }
 
 // The fields in bit order, behind the first tests' answer. Another size is refused at once: no field has then to be tested for it.
@@ -149,10 +149,10 @@ pub fn fields(s: &[u8], lead: u8) -> Answer
     let w = w.number(s, 2, false, 1, 2, format::KIND);
     let passed = shapes::read(s, w.v, w);
     let shape = passed.shape;
-    let w = time::read(s, passed.walk);
-    let time = time::Time::of(w.v);
-    let w = time::read_short(s, w);
-    let second_time = time::ShortTime::of(w.v);
+    let w = ais_common::time::read(s, passed.walk);
+    let time = ais_common::time::Time::of(w.v);
+    let w = ais_common::time::read_short(s, w);
+    let second_time = ais_common::time::ShortTime::of(w.v);
     let w = w.num(s, 4, 1, 6);
     let advice = w.v as u8;
     let w = w.fill(s, 6).end(s);

@@ -4,12 +4,12 @@ ghost use Rattle.area_rows.specs.Area.{recordOf, circleOf, rectangleOf};
 ghost use Rattle.area_reading.specs.Area.{areas, valuesOf};
 ghost use Rattle.area_reading.specs.Changed.{fieldOf};
 ghost use Rattle.format.specs.Promises.{Writes, Corrects};
+use ais_common::time::ShortTime;
+use ais_common::time::Time;
 use area_reading::Area;
 use area_reading::shapes::Circle;
 use area_reading::shapes::Rectangle;
 use area_reading::shapes::Shape;
-use time::ShortTime;
-use time::Time;
 
 // Makes field number `field` of the area be `value`, or leaves every byte.
 #[no_mangle]

@@ -4,13 +4,13 @@ ghost use Rattle.warning_rows.specs.Warning.{recordOf, cycloneOf, galeOf, waves
 ghost use Rattle.format.specs.Promises.{Writes, Corrects};
 ghost use Rattle.warning_reading.specs.Changed.{fieldOf};
 ghost use Rattle.warning_reading.specs.Warning.{warnings, valuesOf};
+use ais_common::time::Time;
 use bodies::Body;
 use bodies::Cyclone;
 use bodies::Fog;
 use bodies::Gale;
 use bodies::Surge;
 use bodies::Waves;
-use time::Time;
 use warning_reading::Warning;
 
 // Makes field number `field` of the warning be `value`, or leaves every byte.

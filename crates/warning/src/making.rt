@@ -22,7 +22,7 @@ pub(crate) fn judged(r: Warning, time: u64) -> walk::walk::Walk
     let w = w.value(23, r.longitude as u64, 0, 7_200_000);
     let w = w.value(23, r.latitude as u64, 0, 7_200_000);
     let w = body_making::judged(w, body);
-    let w = time::judged(w, time);
+    let w = ais_common::time::judged(w, time);
     w.value(6, r.hours as u64, 0, 48).fixed(2, 0)
 }
 

@@ -8,7 +8,7 @@ use Rattle.bodies.specs.Bodies.{Kind, cyclone, gale, waves, fog, surge, kindOf,
 use Rattle.bodies.specs.declared.Body.{Body}
 use Rattle.bodies.specs.declared.Body.the-variants.{Cyclone, Gale, Waves, Fog, Surge}
 use Rattle.format.specs.Fmt.{Spot, none, found}
-use Rattle.time.specs.Time.{timeOf}
+use Rattle.ais_common.specs.Time.{timeOf}
 use Rattle.warning_reading.specs.Warning.{timeAt, hoursAt}
 use Rattle.warning_reading.specs.declared.Warning.{Warning}
 

@@ -2,13 +2,13 @@
 use mathlib.Core.Path.{_≡_, refl}
 use mathlib.Core.List.{List, [], _∷_}
 use Prim.Native.Nat.{ℕ}
-use Rattle.ais_head.specs.Lead.{told}
+use Rattle.ais_common.specs.Lead.{told}
 use Rattle.bits.specs.Bits.{bit, valueOf, digits, bitsOf, bytesOf, fieldAt}
 use Rattle.bodies.specs.declared.Body.the-variants.{Gale, Fog}
 use Rattle.format.specs.Fmt.{accepted, refused, readField, read, writeField, write}
 use Rattle.format.specs.Message.{readMessage, writeMessage}
 use Rattle.format.specs.Words.{walk, wide}
-use Rattle.time.specs.Time.{spellTime}
+use Rattle.ais_common.specs.Time.{spellTime}
 use Rattle.warning_reading.specs.Warning.{warning, warnings, valuesAs, valuesOf}
 use Rattle.warning_reading.specs.declared.Warning.{Warning}
 

@@ -3,14 +3,14 @@ use Prim.Native.Nat.{ℕ, _+_}
 use mathlib.Core.Bool.{false}
 use mathlib.Core.List.{List, [], _∷_}
 use lib.ListN.{getD, drop}
-use Rattle.ais_head.specs.Lead.{application, headOf, leads}
-use Rattle.ais_head.specs.declared.Asked.{Asked}
+use Rattle.ais_common.specs.Lead.{application, headOf, leads}
+use Rattle.ais_common.specs.declared.head.Asked.{Asked}
 use Rattle.bodies.specs.Bodies.{Kind, kindOf, typeOf, body, bodyKind, bodyLong, bodyValues, bodyOf}
 use Rattle.format.specs.Fmt.{Out, accepted, refused, Fmt, end, choice}
 use Rattle.format.specs.Message.{Layout, codeOf}
 use Rattle.format.specs.Promises.{answered}
 use Rattle.format.specs.Words.{_‥_, only, _▹_, num, code, fill}
-use Rattle.time.specs.Time.{time, spellTime, timeOf}
+use Rattle.ais_common.specs.Time.{time, spellTime, timeOf}
 use Rattle.warning_reading.specs.declared.Warning.{Warning}
 use Rattle.warning_reading.specs.declared.Answer.{Answer}
 use Rattle.warning_reading.specs.declared.Answer.the-variants.{Good, Refused}

@@ -7,7 +7,7 @@ ghost use Rattle.format.specs.Message.{fieldsOf};
 ghost use Rattle.warning_reading.specs.Promises.{Reads};
 ghost use Rattle.warning_reading.specs.Warning.{warning, warnings, recordOf, answerOf, numberOf};
 ghost use Rattle.warning_reading.specs.declared.Answer.the-variants.{Good, Refused};
-pub use ais_head::AUTHORITY;
+pub use ais_common::head::AUTHORITY;
 use walk::choosing::choose;
 use walk::choosing::none;
 
@@ -18,7 +18,7 @@ pub struct Warning {
     pub longitude: u32,
     pub latitude: u32,
     pub body: bodies::Body,
-    pub time: time::Time,
+    pub time: ais_common::time::Time,
     pub hours: u8,
 }
 
@@ -98,18 +98,18 @@ pub fn read(s: &[u8]) -> Answer
 pub fn lead(s: &[u8]) -> u8
     ensures { λ r. ⌜ r ≡ warnings .lead (now (s .entry)) ⌝ }
 {
-    let head = ais_head::Head {
+    let head = ais_common::head::Head {
         message: bits::get(s, 0, 6),
         application: bits::get(s, 40, 16),
         choice: bits::get(s, 56, 4),
     };
-    let asked = ais_head::Asked {
+    let asked = ais_common::head::Asked {
         message: MESSAGE,
         application: APPLIED,
         choices: 5,
         bytes: Warning::LEAST,
     };
-    ais_head::lead(s.len(), head, asked)
+    ais_common::head::lead(s.len(), head, asked)
 }
 
 // The fields in bit order, behind the first tests' answer. Another size is refused at once: no field has then to be tested for it.
@@ -133,8 +133,8 @@ pub fn fields(s: &[u8], lead: u8) -> Answer
     let latitude = w.v as u32;
     let passed = bodies::read(s, kind, w);
     let body = passed.body;
-    let w = time::read(s, passed.walk);
-    let time = time::Time::of(w.v);
+    let w = ais_common::time::read(s, passed.walk);
+    let time = ais_common::time::Time::of(w.v);
     let w = w.num(s, 6, 0, 48);
     let hours = w.v as u8;
     let w = w.fill(s, 2).end(s);

@@ -6,8 +6,8 @@ use Rattle.area_reading.specs.Area.{areas, valuesAs}
 use borrow.Author.Needs.{needs}
 use Rattle.area.proofs.write.Statement.{statement}
 use Rattle.area.proofs.write.Tie as tie
-use Rattle.time.proofs.ShortTime.spelled.Reads as ShortTime-spelled-reads
-use Rattle.time.proofs.Time.spelled.Reads as Time-spelled-reads
+use Rattle.ais_common.proofs.time.ShortTime.spelled.Reads as ShortTime-spelled-reads
+use Rattle.ais_common.proofs.time.Time.spelled.Reads as Time-spelled-reads
 
 spelled-requires : tie.Need-spelled-requires
 spelled-requires c κs = search needs

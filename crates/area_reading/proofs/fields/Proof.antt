@@ -10,7 +10,7 @@ use native.Mathlib.Omega.{arith}
 use Rattle.format.specs.laws.Lead.{exact-fields, other-size}
 use Rattle.walk.specs.laws.Reading.{start, step-code, step-num, step-decide, step-fill}
 use Rattle.walk.specs.laws.Walked.{finish}
-use Rattle.time.specs.laws.Walking.{time-read, short-read}
+use Rattle.ais_common.specs.laws.Walking.{time-read, short-read}
 use Rattle.area_reading.specs.Area.{area, recordOf, answerOf}
 use Rattle.area_reading.specs.Shapes.{kindOf, shapeKind}
 use Rattle.area_reading.specs.laws.Told.{recorded}
@@ -19,8 +19,8 @@ use Rattle.area_reading.specs.declared.Answer.the-variants.{Good, Refuse
 use borrow.Author.Needs.{needs}
 use Rattle.area_reading.proofs.fields.Statement.{statement}
 use Rattle.area_reading.proofs.fields.Tie as tie
-use Rattle.time.proofs.ShortTime.of.Reads as ShortTime-of-reads
-use Rattle.time.proofs.Time.of.Reads as Time-of-reads
+use Rattle.ais_common.proofs.time.ShortTime.of.Reads as ShortTime-of-reads
+use Rattle.ais_common.proofs.time.Time.of.Reads as Time-of-reads
 
 none-requires : tie.Need-none-requires
 none-requires c κs = search needs

@@ -11,8 +11,8 @@ use Rattle.format.specs.Correcting.{standing, ofKind}
 use Rattle.format.specs.Fmt.{none, found, spot}
 use Rattle.format.specs.Words.{wide}
 use Rattle.format.specs.laws.Spots.{spotsAlong, spot-along, rows, slim, eachAt, set-each, kept-entry, spelled-entry, picks, ofKinds, named-stands, named-slim}
-use Rattle.time.specs.Time.{spellTime, timeOf, spellShort, shortOf}
-use Rattle.time.specs.laws.Spelling.{spell-time, spell-short}
+use Rattle.ais_common.specs.Time.{spellTime, timeOf, spellShort, shortOf}
+use Rattle.ais_common.specs.laws.Spelling.{spell-time, spell-short}
 use Rattle.area_reading.specs.Area.{area, areas, headed, valuesAs, valuesOf}
 use Rattle.area_reading.specs.Changed.{spots, spotOf, fields, changedShape, changed}
 use Rattle.area_reading.specs.Shapes.{Kind, circle, rectangle, typeOf, spellEast, spellNorth, eastOf, northOf, shapeKind, shapeValues}

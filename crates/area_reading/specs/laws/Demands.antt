@@ -22,9 +22,9 @@ use Rattle.format.specs.laws.Family.{Family, one-size, written-front, read-writ
 use Rattle.format.specs.laws.Held.{Held, exactly, ranged}
 use Rattle.format.specs.laws.Whole.{was}
 use Rattle.format.specs.laws.Zero.{Judged, Counted, only-numbered}
-use Rattle.time.specs.Time.{shortTime, spellTime, timeOf, spellShort, shortOf}
-use Rattle.time.specs.laws.Spelling.{time-spell, spell-time, short-spell, spell-short}
-use Rattle.time.specs.laws.Walking.{time-numbered, short-numbered}
+use Rattle.ais_common.specs.Time.{shortTime, spellTime, timeOf, spellShort, shortOf}
+use Rattle.ais_common.specs.laws.Spelling.{time-spell, spell-time, short-spell, spell-short}
+use Rattle.ais_common.specs.laws.Walking.{time-numbered, short-numbered}
 use Rattle.area_reading.specs.Area.{tail, area, areas, valuesAs, valuesOf, recordOf, answerOf, outOf}
 use Rattle.area_reading.specs.Changed.{spotOf, fields, fieldOf, changed}
 use Rattle.area_reading.specs.Promises.{Reads}

@@ -6,7 +6,7 @@ use Prim.Native.Nat.{ℕ, _+_}
 use native.Mathlib.Omega.{arith}
 use lib.Dec.{lit≤}
 use lib.ListN.{length, getD, drop}
-use Rattle.ais_head.specs.laws.Sound.{leaves-size, sized as head-sized}
+use Rattle.ais_common.specs.laws.Sound.{leaves-size, sized as head-sized}
 use Rattle.bits.specs.Bits.{bitsOf, fieldAt}
 use Rattle.bits.specs.laws.Bytes.{length-bits}
 use Rattle.format.specs.Fmt.{accepted, read}

@@ -4,7 +4,7 @@ use mathlib.Core.List.{List, [], _∷_}
 use Prim.Native.Nat.{ℕ, _^_}
 use lib.Dec.{lit≤}
 use Rattle.walk.specs.laws.Sign.{int-spell}
-use Rattle.time.specs.Time.{timeOf, shortOf}
+use Rattle.ais_common.specs.Time.{timeOf, shortOf}
 use Rattle.area_reading.specs.Area.{recordOf}
 use Rattle.area_reading.specs.Shapes.{Kind, circle, rectangle, kindOf, typeOf, shapeKind, shapeValues, shapeOf}
 use Rattle.area_reading.specs.laws.Walking.{Narrow}

@@ -12,7 +12,7 @@ use native.Mathlib.Omega.{arith}
 use Rattle.format.specs.laws.Lead.{exact-fields, other-size}
 use Rattle.walk.specs.laws.Reading.{start, step-code, step-fill, step-num, step-decide}
 use Rattle.walk.specs.laws.Walked.{finish}
-use Rattle.time.specs.laws.Walking.{time-read}
+use Rattle.ais_common.specs.laws.Walking.{time-read}
 use Rattle.warning_reading.specs.Warning.{warning, recordOf, answerOf}
 use Rattle.warning_reading.specs.laws.Told.{recorded}
 use Rattle.warning_reading.specs.declared.Warning.{Warning}
@@ -21,7 +21,7 @@ use Rattle.warning_reading.specs.declared.Answer.the-variants.{Good, Ref
 use borrow.Author.Needs.{needs}
 use Rattle.warning_reading.proofs.fields.Statement.{statement}
 use Rattle.warning_reading.proofs.fields.Tie as tie
-use Rattle.time.proofs.read.Reads as read-reads′
+use Rattle.ais_common.proofs.time.read.Reads as read-reads′
 
 none-requires : tie.Need-none-requires
 none-requires c κs = search needs

@@ -1,7 +1,7 @@
 -- `lead` gives 01's first tests: those of every AIS message, from its head as it is got.
 use mathlib.Core.Path.{_∙_}
 use lib.Dec.{lit≤}
-use Rattle.ais_head.specs.laws.Sound.{got-lead}
+use Rattle.ais_common.specs.laws.Sound.{got-lead}
 use Rattle.warning_reading.specs.Warning.{asked, warnings}
 use borrow.Author.Needs.{needs}
 use Rattle.warning_reading.proofs.lead.Statement.{statement}

@@ -12,8 +12,8 @@ use Rattle.format.specs.Correcting.{standing, ofKind}
 use Rattle.format.specs.Fmt.{none, found, spot}
 use Rattle.format.specs.Words.{wide}
 use Rattle.format.specs.laws.Spots.{spotsAlong, spot-along, rows, slim, eachAt, set-each, kept-entry, spelled-entry, picks, ofKinds, named-stands, named-slim}
-use Rattle.time.specs.Time.{spellTime, timeOf}
-use Rattle.time.specs.laws.Spelling.{spell-time}
+use Rattle.ais_common.specs.Time.{spellTime, timeOf}
+use Rattle.ais_common.specs.laws.Spelling.{spell-time}
 use Rattle.warning_reading.specs.Changed.{spots, spotOf, fields, changedBody, changed}
 use Rattle.warning_reading.specs.Warning.{timeAt, hoursAt, warning, warnings, valuesAs, valuesOf}
 use Rattle.warning_reading.specs.declared.Warning.{Warning}

@@ -25,9 +25,9 @@ use Rattle.format.specs.laws.Family.{Family, read-values, one-size, written-fro
 use Rattle.format.specs.laws.Held.{Held, exactly, ranged}
 use Rattle.format.specs.laws.Whole.{was}
 use Rattle.format.specs.laws.Zero.{Judged, Counted, only-numbered}
-use Rattle.time.specs.Time.{spellTime, timeOf}
-use Rattle.time.specs.laws.Spelling.{time-spell, spell-time}
-use Rattle.time.specs.laws.Walking.{time-numbered}
+use Rattle.ais_common.specs.Time.{spellTime, timeOf}
+use Rattle.ais_common.specs.laws.Spelling.{time-spell, spell-time}
+use Rattle.ais_common.specs.laws.Walking.{time-numbered}
 use Rattle.warning_reading.specs.Changed.{spotOf, fields, fieldOf, changed}
 use Rattle.warning_reading.specs.Promises.{Reads}
 use Rattle.warning_reading.specs.Warning.{tail, warning, warnings, valuesAs, valuesOf, recordAs, recordOf, answerOf, outOf}

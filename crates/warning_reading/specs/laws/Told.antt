@@ -5,7 +5,7 @@ use Prim.Native.Nat.{ℕ}
 use Rattle.bodies.specs.Bodies.{Kind, cyclone, gale, waves, fog, surge, kindOf, typeOf, bodyKind, bodyValues}
 use Rattle.bodies.specs.declared.Body.{Body}
 use Rattle.bodies.specs.declared.Body.the-variants.{Cyclone, Gale, Waves, Fog, Surge}
-use Rattle.time.specs.Time.{timeOf}
+use Rattle.ais_common.specs.Time.{timeOf}
 use Rattle.warning_reading.specs.Warning.{recordAs}
 use Rattle.warning_reading.specs.declared.Warning.{Warning}
 

@@ -6,7 +6,7 @@ use native.Mathlib.Omega.{arith}
 use lib.Dec.{lit<}
 use Rattle.walk.specs.Walk.{onward}
 use Rattle.walk.specs.laws.Judging.{judge-start, judge-fixed, judge-num, judge-end}
-use Rattle.time.specs.laws.Walking.{time-judged, short-judged}
+use Rattle.ais_common.specs.laws.Walking.{time-judged, short-judged}
 use Rattle.area_reading.specs.Area.{area, valuesAs}
 use Rattle.area_reading.specs.Shapes.{shapeKind}
 use Rattle.area_reading.specs.laws.Walking.{kind-judged, shape-judged}

@@ -10,12 +10,12 @@ use Rattle.format.specs.Words.{_‥_}
 use Rattle.format.specs.laws.Extent.{opens-choice}
 use Rattle.format.specs.laws.Tells.{only-tells}
 use Rattle.walk.specs.laws.Judging.{judge-start, judge-fixed, judge-num, judge-tells, judge-end}
-use Rattle.time.specs.laws.Walking.{time-judged}
+use Rattle.ais_common.specs.laws.Walking.{time-judged}
 use Rattle.warning_reading.specs.Warning.{warning, valuesAs}
 use borrow.Author.Needs.{needs}
 use Rattle.warning.proofs.making.judged.Statement.{statement}
 use Rattle.warning.proofs.making.judged.Tie as tie
-use Rattle.time.proofs.judged.Reads as judged-reads′
+use Rattle.ais_common.proofs.time.judged.Reads as judged-reads′
 
 kind-requires : tie.Need-kind-requires
 kind-requires c κs = search needs

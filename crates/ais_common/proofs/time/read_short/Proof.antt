@@ -1,0 +1,27 @@
+-- `read_short` judges the number that stands there.
+use mathlib.Core.Path.{ap, _∙_}
+use Rattle.walk.specs.Pieces.{pieced}
+use Rattle.walk.specs.Walk.{onward}
+use Rattle.walk.specs.laws.Reading.{got-lt}
+use Rattle.ais_common.specs.Steps.{shortJudged}
+use borrow.Author.Needs.{needs}
+use Rattle.ais_common.proofs.time.read_short.Statement.{statement}
+use Rattle.ais_common.proofs.time.read_short.Tie as tie
+
+get-requires : tie.Need-get-requires
+get-requires c κs = search needs
+
+judged-short-requires : tie.Need-judged-short-requires
+judged-short-requires c κs = search needs
+
+returns : tie.Need-returns
+unfolding pieced onward
+returns c =
+    let get = c .before in
+    let st = get .before .before in
+    let a = st .args in
+    let e = c .judged-short .ensures ∙ ap (λ v. shortJudged v (a .w)) (get .get .ensures) in
+    (e, got-lt (a .s .now) (a .w .at) 14 (ap (λ r. r .v) e))
+
+pub read-short-spec : {M : Type 1} → statement M
+read-short-spec = tie.close (tie.spec get-requires judged-short-requires returns)

@@ -1,0 +1,69 @@
+-- A time read and judged: where the code stands behind it. Assumes nothing.
+use mathlib.Core.Path.{_≡_, refl}
+use mathlib.Core.Bool.{Bool}
+use mathlib.Core.List.{List, [], _∷_}
+use Prim.Native.Nat.{ℕ, _+_, _*_, _≤_, _<_, _^_}
+use native.Mathlib.Omega.{arith}
+use lib.Dec.{lit<, lit≤}
+use lib.ListN.{length}
+use Rattle.bits.specs.Answers.{got}
+use Rattle.format.specs.Fmt.{Out, Fmt}
+use Rattle.format.specs.Words.{Part, part, _‥_, walk, wide}
+use Rattle.walk.specs.laws.Judging.{Judging}
+use Rattle.walk.specs.laws.Parts.{step-there}
+use Rattle.walk.specs.laws.Pieces.{Pieced, piece-start, piece-step, piece-end, judge-group}
+use Rattle.walk.specs.laws.Step.{Reading}
+use Rattle.format.specs.laws.Zero.{Judged, Numbered, Coded, walk-numbered}
+use Rattle.walk.specs.declared.walk.Walk.{Walk}
+use Rattle.ais_common.specs.Steps.{timePieced, shortPieced, timeRead, shortRead, timeJudged, shortJudged}
+use Rattle.ais_common.specs.Time.{dateParts, time, shortTime}
+
+-- ---- the number's parts judged
+
+time-pieces : (h : List ℕ) (v : ℕ) → Pieced (walk (dateParts (part 6 4 (0 ‥ 59) ∷ [])) 0) h 20 v (timePieced v)
+unfolding wide
+time-pieces h v =
+    let g0 = piece-start 20 v (dateParts (part 6 4 (0 ‥ 59) ∷ [])) h refl refl in
+    let g1 = piece-step 4 0 12 g0 refl in
+    let g2 = piece-step 5 0 31 g1 refl in
+    let g3 = piece-step 5 0 23 g2 refl in
+    piece-end (piece-step 6 0 59 g3 refl)
+
+short-pieces : (h : List ℕ) (v : ℕ) → Pieced (walk (dateParts []) 0) h 14 v (shortPieced v)
+unfolding wide
+short-pieces h v =
+    let g0 = piece-start 14 v (dateParts []) h refl refl in
+    let g1 = piece-step 4 0 12 g0 refl in
+    let g2 = piece-step 5 0 31 g1 refl in
+    piece-end (piece-step 5 0 23 g2 refl)
+
+module _ {o : Out (List Bool)} {f : Fmt} {h : List ℕ} {at v : ℕ} {vs : List ℕ} {r p : Walk} where
+  pub time-judged : at + 20 < 2 ^ 64 → Judging o (time f) h at (v ∷ vs) r → p ≡ timeJudged v r → Judging o f (v ∷ h) (at + 20) vs p
+  unfolding wide
+  time-judged reach e d = judge-group reach (time-pieces h v) e d
+
+  pub short-judged : at + 14 < 2 ^ 64 → Judging o (shortTime f) h at (v ∷ vs) r → p ≡ shortJudged v r → Judging o f (v ∷ h) (at + 14) vs p
+  unfolding wide
+  short-judged reach e d = judge-group reach (short-pieces h v) e d
+
+-- ---- read, where it is there
+
+module _ {o : Out (List ℕ)} {all : Fmt} {i : ℕ} {s : List ℕ} {h : List ℕ} {at : ℕ} {k : List ℕ → List ℕ} {r q : Walk} {f : Fmt} where
+  pub time-read : at + 20 < 2 ^ 64 → at + 20 ≤ length s * 8 → Reading o all i s (time f) h at k r → q ≡ timeRead s r → Reading o all i s f (q .v ∷ h) (at + 20) (λ vs. k (q .v ∷ vs)) q
+  unfolding wide
+  time-read reach there e d = step-there 20 (lit< tt) (lit≤ tt) reach there (time-pieces h (got s (r .at) 20)) e d
+
+  pub short-read : at + 14 < 2 ^ 64 → at + 14 ≤ length s * 8 → Reading o all i s (shortTime f) h at k r → q ≡ shortRead s r → Reading o all i s f (q .v ∷ h) (at + 14) (λ vs. k (q .v ∷ vs)) q
+  unfolding wide
+  short-read reach there e d = step-there 14 (lit< tt) (lit≤ tt) reach there (short-pieces h (got s (r .at) 14)) e d
+
+-- ---- their refusals are numbers of the paper
+
+pub date-numbered : (ps : List Part) → Coded ps → Numbered (walk (dateParts ps) 0)
+date-numbered ps z = walk-numbered (dateParts ps) 0 ((λ z. omega arith), ((λ z. omega arith), ((λ z. omega arith), z)))
+
+pub time-numbered : (f : Fmt) → Judged f → Judged (time f)
+time-numbered f j = (date-numbered (part 6 4 (0 ‥ 59) ∷ []) ((λ z. omega arith), tt), j)
+
+pub short-numbered : (f : Fmt) → Judged f → Judged (shortTime f)
+short-numbered f j = (date-numbered [] tt, j)
