@@ -6,7 +6,7 @@ use Rattle.ais_common.specs.Lead.{told}
 use Rattle.bits.specs.Bits.{bit, valueOf, digits, bitsOf, fieldAt}
 use Rattle.format.specs.Message.{readMessage}
 use Rattle.area_reading.specs.Area.{areas}
-use Rattle.warning_reading.specs.Warning.{warnings}
+use Rattle.warning.specs.Warning.{warnings}
 use Rattle.ais.specs.Ais.{codeOf}
 
 nothing : codeOf [] ≡ 1

@@ -16,8 +16,8 @@ pub fn code(s: &[u8]) -> u8
     if message == area_reading::MESSAGE {
         return area_reading::read(s).refusal();
     }
-    if message == warning_reading::MESSAGE {
-        return warning_reading::read(s).refusal();
+    if message == warning::MESSAGE {
+        return warning::read(s).refusal();
     }
     format::KIND
 }

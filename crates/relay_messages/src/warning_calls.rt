@@ -2,16 +2,16 @@
 ghost use Rattle.bits.specs.Bits.{fieldAt};
 ghost use Rattle.warning_rows.specs.Warning.{recordOf, cycloneOf, galeOf, wavesOf, fogOf, surgeOf};
 ghost use Rattle.format.specs.Promises.{Writes, Corrects};
-ghost use Rattle.warning_reading.specs.Changed.{fieldOf};
-ghost use Rattle.warning_reading.specs.Warning.{warnings, valuesOf};
+ghost use Rattle.warning.specs.Changed.{fieldOf};
+ghost use Rattle.warning.specs.Warning.{warnings, valuesOf};
 use ais_common::time::Time;
-use bodies::Body;
-use bodies::Cyclone;
-use bodies::Fog;
-use bodies::Gale;
-use bodies::Surge;
-use bodies::Waves;
-use warning_reading::Warning;
+use warning::Warning;
+use warning::bodies::Body;
+use warning::bodies::Cyclone;
+use warning::bodies::Fog;
+use warning::bodies::Gale;
+use warning::bodies::Surge;
+use warning::bodies::Waves;
 
 // Makes field number `field` of the warning be `value`, or leaves every byte.
 #[no_mangle]

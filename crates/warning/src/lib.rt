@@ -1,26 +1,15 @@
 // Message 8 with application 412/03, a warning (paper 01, "AIS"; 003, tables 5 and 56 to 62).
-ghost use Rattle.format.specs.Promises.{Writes};
-ghost use Rattle.warning_reading.specs.Warning.{warnings, valuesOf};
-pub use warning_correcting::correct;
-pub use warning_reading::APPLICATION;
-pub use warning_reading::AUTHORITY;
-pub use warning_reading::Answer;
-pub use warning_reading::MESSAGE;
-pub use warning_reading::Warning;
-pub use warning_reading::read;
+pub use crate::correcting::correct;
+pub use crate::reading::APPLICATION;
+pub use crate::reading::Answer;
+pub use crate::reading::MESSAGE;
+pub use crate::reading::Warning;
+pub use crate::reading::read;
+pub use crate::writing::write;
+pub use ais_common::head::AUTHORITY;
 
-mod making;
-
-// Writes the warning into the front of a lent buffer: the record is judged, then room (6); the bytes past the message stay.
-pub fn write(buf: &mut [u8], r: Warning) -> u8
-    ensures { λ code. ⌜ Writes warnings (now (buf .entry)) code (now (buf .exit)) (valuesOf r) ⌝ }
-{
-    let time = r.time.spelled();
-    let w = making::judged(r, time);
-    let code = w.closes(false, Warning::LEAST, Warning::GREATEST, buf.len());
-    if code != 0 {
-        return code;
-    }
-    making::put(buf, r, time);
-    0
-}
+pub mod bodies;
+pub mod body_writing;
+pub mod correcting;
+pub mod reading;
+pub mod writing;

@@ -2,13 +2,13 @@
 use Prim.Native.Nat.{ℕ}
 use mathlib.Core.List.{List, [], _∷_}
 use lib.IntN.{ℤ, pos}
-use Rattle.bodies.specs.Bodies.{typeOf, bodyKind}
-use Rattle.bodies.specs.declared.Body.{Body}
-use Rattle.bodies.specs.declared.Body.the-variants.{Cyclone, Gale, Waves, Fog, Surge}
+use Rattle.warning.specs.Bodies.{typeOf, bodyKind}
+use Rattle.warning.specs.declared.bodies.Body.{Body}
+use Rattle.warning.specs.declared.bodies.Body.the-variants.{Cyclone, Gale, Waves, Fog, Surge}
 use Rattle.format.specs.Fmt.{Out, also}
 use Rattle.format.specs.Promises.{readRecord}
-use Rattle.warning_reading.specs.Warning.{warnings, recordOf as read-as}
-use Rattle.warning_reading.specs.declared.Warning.{Warning}
+use Rattle.warning.specs.Warning.{warnings, recordOf as read-as}
+use Rattle.warning.specs.declared.reading.Warning.{Warning}
 use Rattle.warning_rows.specs.declared.Seven.{Seven}
 
 -- a body's numbers, in the paper's order, and 0 behind them

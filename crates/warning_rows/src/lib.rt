@@ -2,9 +2,9 @@
 ghost use mathlib.Core.Path.{_≡_};
 ghost use Rattle.rows.specs.Row.{Fills};
 ghost use Rattle.warning_rows.specs.Warning.{fourOf, sevenOf, rowOf, numbersOf};
-use bodies::Body;
-use warning_reading::Answer;
-use warning_reading::Warning;
+use warning::Answer;
+use warning::Warning;
+use warning::bodies::Body;
 
 // A body's numbers in the paper's order, and 0 where the body has no more.
 struct Seven {
@@ -21,7 +21,7 @@ struct Seven {
 pub fn read(s: &[u8], row: &mut [i64]) -> u8
     ensures { λ code. ⌜ Fills (numbersOf (now (s .entry))) (now (row .entry)) code (now (row .exit)) ⌝ }
 {
-    let answer = warning_reading::read(s);
+    let answer = warning::read(s);
     match answer {
         Answer::Good(r) => {
             let numbers = numbers(r);

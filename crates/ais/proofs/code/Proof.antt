@@ -11,15 +11,15 @@ use Rattle.format.specs.Message.{readMessage}
 use Rattle.format.specs.laws.Answers.{numbered}
 use Rattle.area_reading.specs.Area.{areas, recordOf as areaOf, numberOf as areaNumber}
 use Rattle.area_reading.specs.declared.Answer.the-variants.{Good as areaGood, Refused as areaBad}
-use Rattle.warning_reading.specs.Warning.{warnings, recordOf as warningOf, numberOf as warningNumber}
-use Rattle.warning_reading.specs.declared.Answer.the-variants.{Good as warningGood, Refused as warningBad}
+use Rattle.warning.specs.Warning.{warnings, recordOf as warningOf, numberOf as warningNumber}
+use Rattle.warning.specs.declared.reading.Answer.the-variants.{Good as warningGood, Refused as warningBad}
 use Rattle.ais.specs.Ais.{codeOf}
 use borrow.Author.Needs.{needs}
 use Rattle.ais.proofs.code.Statement.{statement}
 use Rattle.ais.proofs.code.Tie as tie
 use Rattle.area_reading.proofs.Answer.refusal.Reads as Answer-refusal-reads
-use Rattle.warning_reading.proofs.Answer.refusal.Reads as Answer-refusal-reads′
-use Rattle.warning_reading.proofs.read.Reads as read-reads′
+use Rattle.warning.proofs.reading.Answer.refusal.Reads as Answer-refusal-reads′
+use Rattle.warning.proofs.reading.read.Reads as read-reads′
 
 returns : tie.Need-returns
 unfolding codeOf

@@ -7,8 +7,8 @@ use lib.IntN.{pos}
 use mir.Syntax.{w64}
 use mir.Val.{toZ}
 use mir.ValLaws.{toZ-pos}
-use Rattle.bodies.specs.Bodies.{bodyKind}
-use Rattle.bodies.specs.laws.Walking.{type-small}
+use Rattle.warning.specs.Bodies.{bodyKind}
+use Rattle.warning.specs.laws.Walking.{type-small}
 use Rattle.warning_rows.specs.Warning.{rowOf}
 use borrow.Author.Needs.{needs}
 use Rattle.warning_rows.proofs.numbers.Statement.{statement}

@@ -2,8 +2,8 @@
 use mathlib.Core.Path.{refl}
 use Rattle.format.specs.Promises.{readRecord}
 use Rattle.rows.specs.laws.Row.{fills-good, fills-refused}
-use Rattle.warning_reading.specs.Warning.{warnings, recordOf as read-as, outOf}
-use Rattle.warning_reading.specs.declared.Answer.the-variants.{Good, Refused}
+use Rattle.warning.specs.Warning.{warnings, recordOf as read-as, outOf}
+use Rattle.warning.specs.declared.reading.Answer.the-variants.{Good, Refused}
 use Rattle.warning_rows.specs.Warning.{rowOf}
 use borrow.Author.Needs.{needs}
 use Rattle.warning_rows.proofs.read.Statement.{statement}

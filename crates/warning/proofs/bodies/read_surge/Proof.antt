@@ -1,0 +1,68 @@
+-- `read_surge` is one step of the walk a field.
+use mathlib.Core.Path.{ap, _∙_}
+use mathlib.Core.Bool.{true, false}
+use Rattle.walk.specs.Reading.{ranged}
+use Rattle.warning.specs.Steps.{surgeRead}
+use Rattle.warning.specs.declared.bodies.Body.the-variants.{Surge as IsSurge}
+use borrow.Author.Needs.{needs}
+use Rattle.warning.proofs.bodies.read_surge.Statement.{statement}
+use Rattle.warning.proofs.bodies.read_surge.Tie as tie
+
+num-requires : tie.Need-num-requires
+num-requires c κs = search needs
+
+cast-radius : tie.Need-cast-radius
+cast-radius c = search needs
+
+num-requires-2 : tie.Need-num-requires-2
+num-requires-2 c κs = search needs
+
+cast-rise : tie.Need-cast-rise
+cast-rise c = search needs
+
+num-requires-3 : tie.Need-num-requires-3
+num-requires-3 c κs = search needs
+
+cast-tide : tie.Need-cast-tide
+cast-tide c = search needs
+
+num-requires-4 : tie.Need-num-requires-4
+num-requires-4 c κs = search needs
+
+cast-period : tie.Need-cast-period
+cast-period c = search needs
+
+fill-requires : tie.Need-fill-requires
+fill-requires c κs = search needs
+
+returns : tie.Need-returns
+unfolding surgeRead
+returns c =
+    let n5 = c in
+    let n4 = n5 .before .before in
+    let n3 = n4 .before .before in
+    let n2 = n3 .before .before in
+    let n1 = n2 .before .before in
+    let st = n1 .before .before in
+    let s = st .args .s .now in
+    let e1 = n1 .num .ensures .0 in
+    let e2 = n2 .num2 .ensures .0 ∙ ap (ranged s 9 true 0 511 4) e1 in
+    let e3 = n3 .num3 .ensures .0 ∙ ap (ranged s 10 true 0 1_023 4) e2 in
+    let e4 = n4 .num4 .ensures .0 ∙ ap (ranged s 13 true 0 8_191 4) e3 in
+    let e5 = c .fill .ensures ∙ ap (ranged s 9 false 0 0 5) e4 in
+    λ i. record { walk = e5 i; body = IsSurge (record { radius = e1 i .v; rise = e2 i .v; tide = e3 i .v; period = e4 i .v }) }
+
+pub read-surge-spec : {M : Type 1} → statement M
+read-surge-spec =
+    tie.close
+    (tie.spec
+    num-requires
+    cast-radius
+    num-requires-2
+    cast-rise
+    num-requires-3
+    cast-tide
+    num-requires-4
+    cast-period
+    fill-requires
+    returns)

@@ -1,0 +1,58 @@
+-- `put_waves` is one put a field, one behind another.
+use mathlib.Core.Path.{ap, _∙_}
+use Rattle.format.specs.Correcting.{putIn, put-in}
+use borrow.Author.Needs.{needs}
+use Rattle.warning.proofs.body_writing.put_waves.Statement.{statement}
+use Rattle.warning.proofs.body_writing.put_waves.Tie as tie
+
+cast-put : tie.Need-cast-put
+cast-put c = search needs
+
+put-requires : tie.Need-put-requires
+put-requires c κs = search needs
+
+cast-put-2 : tie.Need-cast-put-2
+cast-put-2 c = search needs
+
+put-requires-2 : tie.Need-put-requires-2
+put-requires-2 c κs = search needs
+
+cast-put-3 : tie.Need-cast-put-3
+cast-put-3 c = search needs
+
+put-requires-3 : tie.Need-put-requires-3
+put-requires-3 c κs = search needs
+
+put-requires-4 : tie.Need-put-requires-4
+put-requires-4 c κs = search needs
+
+same-length : tie.Need-same-length
+same-length c = search needs
+
+returns : tie.Need-returns
+returns c =
+    let p4 = c .before .before in
+    let p3 = p4 .before .before .before .before in
+    let p2 = p3 .before .before .before .before .before in
+    let p1 = p2 .before .before .before .before .before in
+    let st = p1 .before .before .before .before in
+    let a = st .args in
+    let b = a .b in
+    let e1 = put-in (a .buf .now) 106 8 (b .radius) (p1 .put .ensures) in
+    let e2 = put-in _ 114 5 (b .height) (p2 .put2 .ensures) ∙ ap (λ t. putIn t 114 5 (b .height)) e1 in
+    let e3 = put-in _ 119 13 (b .period) (p3 .put3 .ensures) ∙ ap (λ t. putIn t 119 13 (b .period)) e2 in
+    put-in _ 132 24 0 (p4 .put4 .ensures) ∙ ap (λ t. putIn t 132 24 0) e3
+
+pub put-waves-spec : {M : Type 1} → statement M
+put-waves-spec =
+    tie.close
+    (tie.spec
+    cast-put
+    put-requires
+    cast-put-2
+    put-requires-2
+    cast-put-3
+    put-requires-3
+    put-requires-4
+    same-length
+    returns)

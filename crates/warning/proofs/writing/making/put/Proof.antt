@@ -1,0 +1,152 @@
+-- `put` puts the values in bit order: one step a field, and one law for the body.
+use mathlib.Core.Path.{_≡_, refl, ap, _∙_}
+use native.Mathlib.Omega.{arith}
+use lib.Dec.{lit≤}
+use lib.ListN.{length}
+use Rattle.bits.specs.Bits.{Bytes}
+use Rattle.warning.specs.Bodies.{bodyKind}
+use Rattle.warning.specs.laws.Walking.{type-small, body-put}
+use Rattle.format.specs.Correcting.{putIn, put-in}
+use Rattle.format.specs.Words.{wide}
+use Rattle.format.specs.laws.Extent.{opens-choice}
+use Rattle.format.specs.laws.Putting.{put-start, put-number, put-step, put-end}
+use Rattle.warning.specs.Warning.{warning, valuesAs}
+use borrow.Author.Needs.{needs}
+use Rattle.warning.proofs.writing.making.put.Statement.{statement}
+use Rattle.warning.proofs.writing.making.put.Tie as tie
+use Rattle.warning.proofs.body_writing.put.Reads as put-reads′
+
+kind-requires : tie.Need-kind-requires
+kind-requires c κs = search needs
+
+put-requires : tie.Need-put-requires
+put-requires c κs = search needs
+
+cast-put : tie.Need-cast-put
+cast-put c = search needs
+
+put-requires-2 : tie.Need-put-requires-2
+put-requires-2 c κs = search needs
+
+cast-put-2 : tie.Need-cast-put-2
+cast-put-2 c = search needs
+
+put-requires-3 : tie.Need-put-requires-3
+put-requires-3 c κs = search needs
+
+put-requires-4 : tie.Need-put-requires-4
+put-requires-4 c κs = search needs
+
+put-requires-5 : tie.Need-put-requires-5
+put-requires-5 c κs = search needs
+
+put-requires-6 : tie.Need-put-requires-6
+put-requires-6 c κs = search needs
+
+cast-put-3 : tie.Need-cast-put-3
+cast-put-3 c =
+    let kind = c .before .before .before .before .before .before .before .before .before .before .before .before .before .before .before .before .before .before .before .before .before .before .before .before .before .before .before in
+    let st = kind .before .before in
+    omega (arith, kind .kind .ensures, type-small (bodyKind (st .args .r .body)))
+
+put-requires-7 : tie.Need-put-requires-7
+put-requires-7 c κs = search needs
+
+cast-put-4 : tie.Need-cast-put-4
+cast-put-4 c = search needs
+
+put-requires-8 : tie.Need-put-requires-8
+put-requires-8 c κs = search needs
+
+cast-put-5 : tie.Need-cast-put-5
+cast-put-5 c = search needs
+
+put-requires-9 : tie.Need-put-requires-9
+put-requires-9 c κs = search needs
+
+put-requires-10 : tie.Need-put-requires-10
+put-requires-10 c κs = search needs
+
+put-requires-11 : tie.Need-put-requires-11
+put-requires-11 c κs = search needs
+
+cast-put-6 : tie.Need-cast-put-6
+cast-put-6 c = search needs
+
+put-requires-12 : tie.Need-put-requires-12
+put-requires-12 c κs = search needs
+
+put-requires-13 : tie.Need-put-requires-13
+put-requires-13 c κs = search needs
+
+-- the first 7 puts leave as many bytes
+half : (p : tie.After-put7) → length (p .put7 .last .0) ≡ length (p .before .before .before .before .before .before .before .before .before .before .before .before .before .before .before .before .before .before .before .before .before .before .before .before .before .before .before .before .before .before .args .buf .now)
+half p = omega arith
+
+same-length : tie.Need-same-length
+same-length c = let h = half (c .before .before .before .before .before .before .before .before .before .before .before .before .before .before .before .before .before .before .before .before .before .before .before .before .before .before .before .before .before) in omega arith
+
+returns : tie.Need-returns
+unfolding warning valuesAs wide
+returns c b e l =
+    let p13 = c .before .before in
+    let p12 = p13 .before .before .before .before in
+    let p11 = p12 .before .before .before .before .before in
+    let p10 = p11 .before .before .before .before in
+    let p9 = p10 .before .before .before .before in
+    let p8 = p9 .before .before .before .before .before in
+    let p7 = p8 .before .before .before .before .before in
+    let p6 = p7 .before .before .before .before in
+    let p5 = p6 .before .before .before .before in
+    let p4 = p5 .before .before .before .before in
+    let p3 = p4 .before .before .before .before in
+    let p2 = p3 .before .before .before .before .before in
+    let p1 = p2 .before .before .before .before .before in
+    let kind = p1 .before .before in
+    let known = kind .before in
+    let st = known .before in
+    let a = st .args in
+    let s = a .buf .now in
+    let r = a .r in
+    let fine : Bytes s = λ i. known .slice-known .given i .fits in
+    let q0 = put-start s warning (valuesAs r (a .time)) b fine l e in
+    let q1 = put-step 6 (lit≤ tt) q0 (p1 .put .ensures) in
+    let q2 = put-step 2 (lit≤ tt) q1 (p2 .put2 .ensures) in
+    let q3 = put-step 30 (lit≤ tt) q2 (p3 .put3 .ensures) in
+    let q4 = put-step 2 (lit≤ tt) q3 (p4 .put4 .ensures) in
+    let q5 = put-step 10 (lit≤ tt) q4 (p5 .put5 .ensures) in
+    let q6 = put-step 6 (lit≤ tt) q5 (p6 .put6 .ensures) in
+    let q7 = put-number 4 (lit≤ tt) opens-choice q6 (put-in _ 56 4 _ (p7 .put7 .ensures) ∙ ap (putIn (p6 .put6 .last .0) 56 4) (kind .kind .ensures)) in
+    let q8 = put-step 23 (lit≤ tt) q7 (p8 .put8 .ensures) in
+    let q9 = put-step 23 (lit≤ tt) q8 (p9 .put9 .ensures) in
+    let q10 = body-put (r .body) q9 (p10 .put10 .ensures) in
+    let q11 = put-step 20 (lit≤ tt) q10 (p11 .put11 .ensures) in
+    let q12 = put-step 6 (lit≤ tt) q11 (p12 .put12 .ensures) in
+    put-end fine refl (put-step 2 (lit≤ tt) q12 (p13 .put13 .ensures))
+
+pub put-spec : {M : Type 1} → statement M
+put-spec =
+    tie.close
+    (tie.spec
+    kind-requires
+    put-requires
+    cast-put
+    put-requires-2
+    cast-put-2
+    put-requires-3
+    put-requires-4
+    put-requires-5
+    put-requires-6
+    cast-put-3
+    put-requires-7
+    cast-put-4
+    put-requires-8
+    cast-put-5
+    put-requires-9
+    put-requires-10
+    put-requires-11
+    cast-put-6
+    put-requires-12
+    put-requires-13
+    same-length
+    returns)

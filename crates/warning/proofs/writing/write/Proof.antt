@@ -1,0 +1,61 @@
+-- `write` answers as the walk over the values, the size and the room decide.
+use mathlib.Core.Path.{refl, subst}
+use Rattle.format.specs.Promises.{Writes}
+use Rattle.walk.specs.laws.Making.{write-refused, write-bare}
+use Rattle.warning.specs.Warning.{warnings, valuesAs}
+use borrow.Author.Needs.{needs}
+use Rattle.warning.proofs.writing.write.Statement.{statement}
+use Rattle.warning.proofs.writing.write.Tie as tie
+
+spelled-requires : tie.Need-spelled-requires
+spelled-requires c κs = search needs
+
+judged-requires : tie.Need-judged-requires
+judged-requires c κs = search needs
+
+closes-requires : tie.Need-closes-requires
+closes-requires c κs = search needs
+
+returns : tie.Need-returns
+unfolding warnings
+returns c =
+    let f = c in
+    let closes = f .before in
+    let judged = closes .before in
+    let time = judged .before in
+    let st = time .before .before in
+    let a = st .args in
+    let s = a .buf .now in
+    subst (λ t. Writes warnings s (closes .closes .result) s (valuesAs (a .r) t)) (time .spelled .ensures) (write-refused warnings _ s (judged .judged .ensures) (closes .closes .ensures) (c .if1 .taken))
+
+put-requires : tie.Need-put-requires
+put-requires c κs = search needs
+
+same-length : tie.Need-same-length
+same-length c = search needs
+
+returns-2 : tie.Need-returns-2
+unfolding warnings
+returns-2 c =
+    let put = c .before .before in
+    let f = put .before .before in
+    let closes = f .before in
+    let judged = closes .before in
+    let time = judged .before in
+    let st = time .before .before in
+    let a = st .args in
+    let s = a .buf .now in
+    subst (λ t. Writes warnings s 0 (put .put .last .0) (valuesAs (a .r) t)) (time .spelled .ensures)
+    (write-bare warnings _ s (judged .judged .ensures) refl (closes .closes .ensures) (f .if1 .left) (put .put .ensures))
+
+pub write-spec : {M : Type 1} → statement M
+write-spec =
+    tie.close
+    (tie.spec
+    spelled-requires
+    judged-requires
+    closes-requires
+    returns
+    put-requires
+    same-length
+    returns-2)

@@ -1,0 +1,151 @@
+// Message 8 with application 412/03, a warning (paper 01, "AIS"; 003, tables 5 and 56 to 62).
+ghost use mathlib.Core.Path.{_≡_};
+ghost use mathlib.Core.Bool.{cond};
+ghost use lib.Dec.{eqb};
+ghost use Rattle.format.specs.Fmt.{also};
+ghost use Rattle.format.specs.Message.{fieldsOf};
+ghost use Rattle.warning.specs.Promises.{Reads};
+ghost use Rattle.warning.specs.Warning.{warning, warnings, recordOf, answerOf, numberOf};
+ghost use Rattle.warning.specs.declared.reading.Answer.the-variants.{Good, Refused};
+pub use ais_common::head::AUTHORITY;
+use walk::choosing::choose;
+use walk::choosing::none;
+
+pub struct Warning {
+    pub repeat: u8,
+    pub source: u32,
+    // Thousandths of a minute, from 60° E and from 50° S.
+    pub longitude: u32,
+    pub latitude: u32,
+    pub body: crate::bodies::Body,
+    pub time: ais_common::time::Time,
+    pub hours: u8,
+}
+
+pub enum Answer {
+    Good(Warning),
+    Refused(u8),
+}
+
+impl Answer {
+    // The warning, unless a walk over it ended with a refusal.
+    fn told(code: u8, r: Warning) -> Answer
+        ensures { λ a. ⌜ a ≡ cond (eqb code 0) (Good r) (Refused code) ⌝ }
+    {
+        if code != 0 {
+            return Answer::Refused(code);
+        }
+        Answer::Good(r)
+    }
+
+    // Its number: 0 for a good one.
+    pub fn refusal(self) -> u8
+        ensures { λ r. ⌜ r ≡ numberOf self ⌝ }
+    {
+        match self {
+            Answer::Good(_) => 0,
+            Answer::Refused(code) => code,
+        }
+    }
+}
+
+impl Warning {
+    pub const BITS: usize = 184;
+
+    pub const LEAST: usize = Warning::BITS / 8;
+
+    pub const GREATEST: usize = Warning::BITS / 8;
+
+    // The fields that may be corrected. One of a body may be where the warning has that body, else it is no field of it.
+    pub const REPEAT: usize = 1;
+
+    pub const SOURCE: usize = 2;
+
+    pub const LONGITUDE: usize = 3;
+
+    pub const LATITUDE: usize = 4;
+
+    pub const TIME: usize = 5;
+
+    pub const HOURS: usize = 6;
+
+    // The first number of each body; its others follow in the paper's order.
+    pub const CYCLONE: usize = 7;
+
+    pub const GALE: usize = 14;
+
+    pub const WAVES: usize = 18;
+
+    pub const FOG: usize = 21;
+
+    pub const SURGE: usize = 23;
+}
+
+pub const MESSAGE: u64 = 8;
+
+pub const APPLICATION: u64 = 3;
+
+// Both as they stand, side by side.
+const APPLIED: u64 = AUTHORITY * 64 + APPLICATION;
+
+pub fn read(s: &[u8]) -> Answer
+    ensures { λ r. ⌜ Reads (now (s .entry)) r ⌝ }
+{
+    fields(s, lead(s))
+}
+
+// The first tests: smallest size; message, application and warning type; size.
+pub fn lead(s: &[u8]) -> u8
+    ensures { λ r. ⌜ r ≡ warnings .lead (now (s .entry)) ⌝ }
+{
+    let head = ais_common::head::Head {
+        message: bits::get(s, 0, 6),
+        application: bits::get(s, 40, 16),
+        choice: bits::get(s, 56, 4),
+    };
+    let asked = ais_common::head::Asked {
+        message: MESSAGE,
+        application: APPLIED,
+        choices: 5,
+        bytes: Warning::LEAST,
+    };
+    ais_common::head::lead(s.len(), head, asked)
+}
+
+// The fields in bit order, behind the first tests' answer. Another size is refused at once: no field has then to be tested for it.
+pub fn fields(s: &[u8], lead: u8) -> Answer
+    ensures { λ r. ⌜ r ≡ answerOf (also recordOf (fieldsOf warning 23 23 lead (now (s .entry)))) ⌝ }
+{
+    if s.len() != Warning::LEAST {
+        return Answer::Refused(choose(none(lead), format::SIZE, lead));
+    }
+    let w = walk::walk::Walk::begin(lead, 0).code(s, 6, MESSAGE);
+    let w = w.num(s, 2, 0, 3);
+    let repeat = w.v as u8;
+    let w = w.num(s, 30, 0, 999_999_999);
+    let source = w.v as u32;
+    let w = w.fill(s, 2).code(s, 10, AUTHORITY).code(s, 6, APPLICATION);
+    let w = w.number(s, 4, false, 1, 5, format::KIND);
+    let kind = w.v;
+    let w = w.num(s, 23, 0, 7_200_000);
+    let longitude = w.v as u32;
+    let w = w.num(s, 23, 0, 7_200_000);
+    let latitude = w.v as u32;
+    let passed = crate::bodies::read(s, kind, w);
+    let body = passed.body;
+    let w = ais_common::time::read(s, passed.walk);
+    let time = ais_common::time::Time::of(w.v);
+    let w = w.num(s, 6, 0, 48);
+    let hours = w.v as u8;
+    let w = w.fill(s, 2).end(s);
+    let r = Warning {
+        repeat,
+        source,
+        longitude,
+        latitude,
+        body,
+        time,
+        hours,
+    };
+    Answer::told(w.code, r)
+}

@@ -1,0 +1,20 @@
+// Message 8 with application 412/03, a warning (paper 01, "AIS"; 003, tables 5 and 56 to 62).
+ghost use Rattle.format.specs.Promises.{Writes};
+ghost use Rattle.warning.specs.Warning.{warnings, valuesOf};
+use crate::reading::Warning;
+
+mod making;
+
+// Writes the warning into the front of a lent buffer: the record is judged, then room (6); the bytes past the message stay.
+pub fn write(buf: &mut [u8], r: Warning) -> u8
+    ensures { λ code. ⌜ Writes warnings (now (buf .entry)) code (now (buf .exit)) (valuesOf r) ⌝ }
+{
+    let time = r.time.spelled();
+    let w = making::judged(r, time);
+    let code = w.closes(false, Warning::LEAST, Warning::GREATEST, buf.len());
+    if code != 0 {
+        return code;
+    }
+    making::put(buf, r, time);
+    0
+}
