@@ -6,7 +6,7 @@ use lib.Dec.{leb, eqb}
 use lib.ListN.{length}
 use Rattle.bits.specs.Bits.{fieldAt}
 use Rattle.format.specs.Message.{readMessage, codeOf as refusal}
-use Rattle.area_reading.specs.Area.{areas}
+use Rattle.area.specs.Area.{areas}
 use Rattle.warning.specs.Warning.{warnings}
 
 -- the smallest size (1), the message's number (2), then as the message of that number is read

@@ -5,7 +5,7 @@ use Prim.Native.Nat.{ℕ}
 use Rattle.ais_common.specs.Lead.{told}
 use Rattle.bits.specs.Bits.{bit, valueOf, digits, bitsOf, fieldAt}
 use Rattle.format.specs.Message.{readMessage}
-use Rattle.area_reading.specs.Area.{areas}
+use Rattle.area.specs.Area.{areas}
 use Rattle.warning.specs.Warning.{warnings}
 use Rattle.ais.specs.Ais.{codeOf}
 

@@ -13,8 +13,8 @@ pub fn code(s: &[u8]) -> u8
         return format::SIZE;
     }
     let message = bits::get(s, 0, 6);
-    if message == area_reading::MESSAGE {
-        return area_reading::read(s).refusal();
+    if message == area::MESSAGE {
+        return area::read(s).refusal();
     }
     if message == warning::MESSAGE {
         return warning::read(s).refusal();

@@ -2,11 +2,11 @@
 use Prim.Native.Nat.{ℕ}
 use mathlib.Core.List.{List, [], _∷_}
 use lib.IntN.{ℤ, pos}
-use Rattle.area_reading.specs.Area.{areas, recordOf as read-as}
-use Rattle.area_reading.specs.Shapes.{typeOf, shapeKind}
-use Rattle.area_reading.specs.declared.Area.{Area}
-use Rattle.area_reading.specs.declared.shapes.Shape.{Shape}
-use Rattle.area_reading.specs.declared.shapes.Shape.the-variants.{Circle, Rectangle}
+use Rattle.area.specs.Area.{areas, recordOf as read-as}
+use Rattle.area.specs.Shapes.{typeOf, shapeKind}
+use Rattle.area.specs.declared.reading.Area.{Area}
+use Rattle.area.specs.declared.reading.shapes.Shape.{Shape}
+use Rattle.area.specs.declared.reading.shapes.Shape.the-variants.{Circle, Rectangle}
 use Rattle.format.specs.Fmt.{Out, also}
 use Rattle.format.specs.Promises.{readRecord}
 use Rattle.area_rows.specs.declared.Four.{Four}

@@ -2,10 +2,10 @@
 ghost use mathlib.Core.Path.{_≡_};
 ghost use Rattle.rows.specs.Row.{Fills};
 ghost use Rattle.area_rows.specs.Area.{fourOf, rowOf, numbersOf};
-ghost use Rattle.area_reading.specs.declared.shapes.Shape.the-variants.{Circle as IsCircle, Rectangle as IsRectangle};
-use area_reading::Answer;
-use area_reading::Area;
-use area_reading::shapes::Shape;
+ghost use Rattle.area.specs.declared.reading.shapes.Shape.the-variants.{Circle as IsCircle, Rectangle as IsRectangle};
+use area::Answer;
+use area::Area;
+use area::Shape;
 
 // A shape's numbers in the paper's order: a circle has three, and 0 behind them.
 struct Four {
@@ -19,7 +19,7 @@ struct Four {
 pub fn read(s: &[u8], row: &mut [i64]) -> u8
     ensures { λ code. ⌜ Fills (numbersOf (now (s .entry))) (now (row .entry)) code (now (row .exit)) ⌝ }
 {
-    let answer = area_reading::read(s);
+    let answer = area::read(s);
     match answer {
         Answer::Good(r) => {
             let numbers = numbers(r);
@@ -69,7 +69,7 @@ fn of_shape(shape: Shape) -> Four
     }
 }
 
-fn circle(b: area_reading::shapes::Circle) -> Four
+fn circle(b: area::Circle) -> Four
     ensures { λ n. ⌜ n ≡ fourOf (IsCircle b) ⌝ }
 {
     let longitude = b.longitude;
@@ -82,7 +82,7 @@ fn circle(b: area_reading::shapes::Circle) -> Four
     }
 }
 
-fn rectangle(b: area_reading::shapes::Rectangle) -> Four
+fn rectangle(b: area::Rectangle) -> Four
     ensures { λ n. ⌜ n ≡ fourOf (IsRectangle b) ⌝ }
 {
     let longitude = b.longitude;

@@ -1,15 +1,15 @@
 // An area, message 6 with application 412/11: writing and correcting.
 ghost use Rattle.bits.specs.Bits.{fieldAt};
 ghost use Rattle.area_rows.specs.Area.{recordOf, circleOf, rectangleOf};
-ghost use Rattle.area_reading.specs.Area.{areas, valuesOf};
-ghost use Rattle.area_reading.specs.Changed.{fieldOf};
+ghost use Rattle.area.specs.Area.{areas, valuesOf};
+ghost use Rattle.area.specs.Changed.{fieldOf};
 ghost use Rattle.format.specs.Promises.{Writes, Corrects};
 use ais_common::time::ShortTime;
 use ais_common::time::Time;
-use area_reading::Area;
-use area_reading::shapes::Circle;
-use area_reading::shapes::Rectangle;
-use area_reading::shapes::Shape;
+use area::Area;
+use area::Circle;
+use area::Rectangle;
+use area::Shape;
 
 // Makes field number `field` of the area be `value`, or leaves every byte.
 #[no_mangle]

@@ -9,15 +9,15 @@ use Rattle.bits.specs.Bits.{fieldAt}
 use Rattle.bits.specs.laws.Answers.{got-fits}
 use Rattle.format.specs.Message.{readMessage}
 use Rattle.format.specs.laws.Answers.{numbered}
-use Rattle.area_reading.specs.Area.{areas, recordOf as areaOf, numberOf as areaNumber}
-use Rattle.area_reading.specs.declared.Answer.the-variants.{Good as areaGood, Refused as areaBad}
+use Rattle.area.specs.Area.{areas, recordOf as areaOf, numberOf as areaNumber}
+use Rattle.area.specs.declared.reading.Answer.the-variants.{Good as areaGood, Refused as areaBad}
 use Rattle.warning.specs.Warning.{warnings, recordOf as warningOf, numberOf as warningNumber}
 use Rattle.warning.specs.declared.reading.Answer.the-variants.{Good as warningGood, Refused as warningBad}
 use Rattle.ais.specs.Ais.{codeOf}
 use borrow.Author.Needs.{needs}
 use Rattle.ais.proofs.code.Statement.{statement}
 use Rattle.ais.proofs.code.Tie as tie
-use Rattle.area_reading.proofs.Answer.refusal.Reads as Answer-refusal-reads
+use Rattle.area.proofs.reading.Answer.refusal.Reads as Answer-refusal-reads
 use Rattle.warning.proofs.reading.Answer.refusal.Reads as Answer-refusal-reads′
 use Rattle.warning.proofs.reading.read.Reads as read-reads′
 

@@ -2,8 +2,8 @@
 use mathlib.Core.Path.{refl}
 use Rattle.format.specs.Promises.{readRecord}
 use Rattle.rows.specs.laws.Row.{fills-good, fills-refused}
-use Rattle.area_reading.specs.Area.{areas, recordOf as read-as, outOf}
-use Rattle.area_reading.specs.declared.Answer.the-variants.{Good, Refused}
+use Rattle.area.specs.Area.{areas, recordOf as read-as, outOf}
+use Rattle.area.specs.declared.reading.Answer.the-variants.{Good, Refused}
 use Rattle.area_rows.specs.Area.{rowOf}
 use borrow.Author.Needs.{needs}
 use Rattle.area_rows.proofs.read.Statement.{statement}

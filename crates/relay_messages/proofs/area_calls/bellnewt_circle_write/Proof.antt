@@ -3,8 +3,8 @@ use mathlib.Core.Path.{subst}
 use mir.Syntax.{w32}
 use mir.ValLaws.{toZ-ofZ}
 use Rattle.area_rows.specs.Area.{recordOf, circleOf}
-use Rattle.area_reading.specs.Area.{areas, valuesOf}
-use Rattle.area_reading.specs.declared.Area.{Area}
+use Rattle.area.specs.Area.{areas, valuesOf}
+use Rattle.area.specs.declared.reading.Area.{Area}
 use Rattle.format.specs.Promises.{Writes}
 use borrow.Author.Needs.{needs}
 use Rattle.relay_messages.proofs.area_calls.bellnewt_circle_write.Statement.{statement}

@@ -1,0 +1,188 @@
+-- `put` puts the values in bit order: each step is a law of putting, the shape one law.
+use mathlib.Core.Path.{refl, ap, _∙_}
+use Prim.Native.Nat.{_<_}
+use native.Mathlib.Omega.{arith}
+use lib.Dec.{lit≤}
+use Rattle.bits.specs.Bits.{Bytes}
+use Rattle.format.specs.Correcting.{putIn, put-in}
+use Rattle.format.specs.Words.{wide}
+use Rattle.format.specs.laws.Extent.{opens-choice}
+use Rattle.format.specs.laws.Putting.{put-start, put-number, put-step, put-end}
+use Rattle.area.specs.Area.{area, valuesAs}
+use Rattle.area.specs.laws.Walking.{shape-put}
+use borrow.Author.Needs.{needs}
+use Rattle.area.proofs.writing.making.put.Statement.{statement}
+use Rattle.area.proofs.writing.making.put.Tie as tie
+
+kind-requires : tie.Need-kind-requires
+kind-requires c κs = search needs
+
+put-requires : tie.Need-put-requires
+put-requires c κs = search needs
+
+cast-put : tie.Need-cast-put
+cast-put c = search needs
+
+put-requires-2 : tie.Need-put-requires-2
+put-requires-2 c κs = search needs
+
+cast-put-2 : tie.Need-cast-put-2
+cast-put-2 c = search needs
+
+put-requires-3 : tie.Need-put-requires-3
+put-requires-3 c κs = search needs
+
+cast-put-3 : tie.Need-cast-put-3
+cast-put-3 c = search needs
+
+put-requires-4 : tie.Need-put-requires-4
+put-requires-4 c κs = search needs
+
+cast-put-4 : tie.Need-cast-put-4
+cast-put-4 c = search needs
+
+put-requires-5 : tie.Need-put-requires-5
+put-requires-5 c κs = search needs
+
+cast-put-5 : tie.Need-cast-put-5
+cast-put-5 c = search needs
+
+put-requires-6 : tie.Need-put-requires-6
+put-requires-6 c κs = search needs
+
+put-requires-7 : tie.Need-put-requires-7
+put-requires-7 c κs = search needs
+
+put-requires-8 : tie.Need-put-requires-8
+put-requires-8 c κs = search needs
+
+put-requires-9 : tie.Need-put-requires-9
+put-requires-9 c κs = search needs
+
+cast-put-6 : tie.Need-cast-put-6
+cast-put-6 c = search needs
+
+put-requires-10 : tie.Need-put-requires-10
+put-requires-10 c κs = search needs
+
+cast-put-7 : tie.Need-cast-put-7
+cast-put-7 c =
+    let k = c .before .before .before .before .before .before .before .before .before .before .before .before .before .before .before .before .before .before .before .before .before .before .before .before .before .before .before .before .before .before .before .before .before .before .before .before .before .before .before .before .before .before .before .before .before .before .before in
+    let n : k .kind .result < 256 = k .kind .ok in
+    record { fits = omega (arith, n) }
+
+put-requires-11 : tie.Need-put-requires-11
+put-requires-11 c κs = search needs
+
+put-requires-12 : tie.Need-put-requires-12
+put-requires-12 c κs = search needs
+
+put-requires-13 : tie.Need-put-requires-13
+put-requires-13 c κs = search needs
+
+put-requires-14 : tie.Need-put-requires-14
+put-requires-14 c κs = search needs
+
+cast-put-8 : tie.Need-cast-put-8
+cast-put-8 c = search needs
+
+put-requires-15 : tie.Need-put-requires-15
+put-requires-15 c κs = search needs
+
+put-requires-16 : tie.Need-put-requires-16
+put-requires-16 c κs = search needs
+
+same-length : tie.Need-same-length
+same-length c =
+    let p16 = c .before .before in
+    let p15 = p16 .before .before .before .before in
+    let p14 = p15 .before .before .before .before .before in
+    let p13 = p14 .before .before .before .before in
+    let p12 = p13 .before .before .before .before in
+    let p11 = p12 .before .before .before .before in
+    let p10 = p11 .before .before .before .before in
+    let p9 = p10 .before .before .before .before .before in
+    let p8 = p9 .before .before .before .before in
+    let p7 = p8 .before .before .before .before in
+    let p6 = p7 .before .before .before .before in
+    let p5 = p6 .before .before .before .before .before in
+    let p4 = p5 .before .before .before .before .before in
+    let p3 = p4 .before .before .before .before .before in
+    let p2 = p3 .before .before .before .before .before in
+    let p1 = p2 .before .before .before .before .before in
+    p16 .put16 .kept .0 ∙ p15 .put15 .kept .0 ∙ p14 .put14 .kept .0 ∙ p13 .put13 .kept .0 ∙ p12 .put12 .kept .0 ∙ p11 .put11 .kept .0 ∙ p10 .put10 .kept .0 ∙ p9 .put9 .kept .0 ∙ p8 .put8 .kept .0 ∙ p7 .put7 .kept .0 ∙ p6 .put6 .kept .0 ∙ p5 .put5 .kept .0 ∙ p4 .put4 .kept .0 ∙ p3 .put3 .kept .0 ∙ p2 .put2 .kept .0 ∙ p1 .put .kept .0
+
+returns : tie.Need-returns
+unfolding area valuesAs wide
+returns c b e l =
+    let p16 = c .before .before in
+    let p15 = p16 .before .before .before .before in
+    let p14 = p15 .before .before .before .before .before in
+    let p13 = p14 .before .before .before .before in
+    let p12 = p13 .before .before .before .before in
+    let p11 = p12 .before .before .before .before in
+    let p10 = p11 .before .before .before .before in
+    let p9 = p10 .before .before .before .before .before in
+    let p8 = p9 .before .before .before .before in
+    let p7 = p8 .before .before .before .before in
+    let p6 = p7 .before .before .before .before in
+    let p5 = p6 .before .before .before .before .before in
+    let p4 = p5 .before .before .before .before .before in
+    let p3 = p4 .before .before .before .before .before in
+    let p2 = p3 .before .before .before .before .before in
+    let p1 = p2 .before .before .before .before .before in
+    let k = p1 .before .before in
+    let known = k .before in
+    let st = known .before in
+    let a = st .args in
+    let fine : Bytes (a .buf .now) = λ i. known .slice-known .given i .fits in
+    let r0 = put-start (a .buf .now) area (valuesAs (a .r) (a .time) (a .second)) b fine l e in
+    let r1 = put-step 6 (lit≤ tt) r0 (p1 .put .ensures) in
+    let r2 = put-step 2 (lit≤ tt) r1 (p2 .put2 .ensures) in
+    let r3 = put-step 30 (lit≤ tt) r2 (p3 .put3 .ensures) in
+    let r4 = put-step 2 (lit≤ tt) r3 (p4 .put4 .ensures) in
+    let r5 = put-step 30 (lit≤ tt) r4 (p5 .put5 .ensures) in
+    let r6 = put-step 1 (lit≤ tt) r5 (p6 .put6 .ensures) in
+    let r7 = put-step 1 (lit≤ tt) r6 (p7 .put7 .ensures) in
+    let r8 = put-step 10 (lit≤ tt) r7 (p8 .put8 .ensures) in
+    let r9 = put-step 6 (lit≤ tt) r8 (p9 .put9 .ensures) in
+    let r10 = put-step 4 (lit≤ tt) r9 (p10 .put10 .ensures) in
+    let r11 = put-number 2 (lit≤ tt) opens-choice r10 (put-in _ 92 2 _ (p11 .put11 .ensures) ∙ ap (putIn (p10 .put10 .last .0) 92 2) (k .kind .ensures)) in
+    let r12 = shape-put (a .r .shape) r11 (p12 .put12 .ensures) in
+    let r13 = put-step 20 (lit≤ tt) r12 (p13 .put13 .ensures) in
+    let r14 = put-step 14 (lit≤ tt) r13 (p14 .put14 .ensures) in
+    let r15 = put-step 4 (lit≤ tt) r14 (p15 .put15 .ensures) in
+    let r16 = put-step 6 (lit≤ tt) r15 (p16 .put16 .ensures) in
+    put-end fine refl r16
+
+pub put-spec : {M : Type 1} → statement M
+put-spec =
+    tie.close
+    (tie.spec
+    kind-requires
+    put-requires
+    cast-put
+    put-requires-2
+    cast-put-2
+    put-requires-3
+    cast-put-3
+    put-requires-4
+    cast-put-4
+    put-requires-5
+    cast-put-5
+    put-requires-6
+    put-requires-7
+    put-requires-8
+    put-requires-9
+    cast-put-6
+    put-requires-10
+    cast-put-7
+    put-requires-11
+    put-requires-12
+    put-requires-13
+    put-requires-14
+    cast-put-8
+    put-requires-15
+    put-requires-16
+    same-length
+    returns)

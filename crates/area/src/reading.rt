@@ -1,0 +1,172 @@
+// Message 6 with application 412/11, an area marked off (paper 01, "AIS"; 003, tables 4 and 38 to 40).
+ghost use mathlib.Core.Path.{_≡_};
+ghost use mathlib.Core.Bool.{cond};
+ghost use lib.Dec.{eqb};
+ghost use Rattle.format.specs.Fmt.{also};
+ghost use Rattle.format.specs.Message.{fieldsOf};
+ghost use Rattle.area.specs.Area.{area, areas, recordOf, answerOf, numberOf};
+ghost use Rattle.area.specs.Promises.{Reads};
+ghost use Rattle.area.specs.declared.reading.Answer.the-variants.{Good, Refused};
+pub use ais_common::head::AUTHORITY;
+use walk::choosing::choose;
+use walk::choosing::none;
+
+pub mod shapes;
+
+pub struct Area {
+    pub repeat: u8,
+    pub source: u32,
+    pub sequence: u8,
+    pub destination: u32,
+    pub resent: u8,
+    // 1 to 14.
+    pub kind: u8,
+    pub shape: shapes::Shape,
+    pub time: ais_common::time::Time,
+    pub second_time: ais_common::time::ShortTime,
+    // 1 to 6.
+    pub advice: u8,
+}
+
+pub enum Answer {
+    Good(Area),
+    Refused(u8),
+}
+
+impl Answer {
+    // The area, unless a walk over it ended with a refusal.
+    fn told(code: u8, r: Area) -> Answer
+        ensures { λ a. ⌜ a ≡ cond (eqb code 0) (Good r) (Refused code) ⌝ }
+    {
+        if code != 0 {
+            return Answer::Refused(code);
+        }
+        Answer::Good(r)
+    }
+
+    // Its number: 0 for a good one.
+    pub fn refusal(self) -> u8
+        ensures { λ r. ⌜ r ≡ numberOf self ⌝ }
+    {
+        match self {
+            Answer::Good(_) => 0,
+            Answer::Refused(code) => code,
+        }
+    }
+}
+
+impl Area {
+    pub const BITS: usize = 248;
+
+    pub const LEAST: usize = Area::BITS / 8;
+
+    pub const GREATEST: usize = Area::BITS / 8;
+
+    // The fields that may be corrected. One of a shape may be where the area has that shape, else it is no field of it.
+    pub const REPEAT: usize = 1;
+
+    pub const SOURCE: usize = 2;
+
+    pub const SEQUENCE: usize = 3;
+
+    pub const DESTINATION: usize = 4;
+
+    pub const RESENT: usize = 5;
+
+    pub const KIND: usize = 6;
+
+    pub const LONGITUDE: usize = 7;
+
+    pub const LATITUDE: usize = 8;
+
+    pub const TIME: usize = 9;
+
+    pub const SECOND_TIME: usize = 10;
+
+    pub const ADVICE: usize = 11;
+
+    // Of a circle.
+    pub const RADIUS: usize = 12;
+
+    // Of a rectangle.
+    pub const SECOND_LONGITUDE: usize = 13;
+
+    pub const SECOND_LATITUDE: usize = 14;
+}
+
+pub const MESSAGE: u64 = 6;
+
+pub const APPLICATION: u64 = 11;
+
+// Both as they stand, side by side.
+const APPLIED: u64 = AUTHORITY * 64 + APPLICATION;
+
+pub fn read(s: &[u8]) -> Answer
+    ensures { λ r. ⌜ Reads (now (s .entry)) r ⌝ }
+{
+    fields(s, lead(s))
+}
+
+// The first tests: smallest size; message, application and shape; size.
+pub fn lead(s: &[u8]) -> u8
+    ensures { λ r. ⌜ r ≡ areas .lead (now (s .entry)) ⌝ }
+{
+    let head = ais_common::head::Head {
+        message: bits::get(s, 0, 6),
+        application: bits::get(s, 72, 16),
+        choice: bits::get(s, 92, 2),
+    };
+    let asked = ais_common::head::Asked {
+        message: MESSAGE,
+        application: APPLIED,
+        choices: 2,
+        bytes: Area::LEAST,
+    };
+    ais_common::head::lead(s.len(), head, asked)
+}
+
+// The fields in bit order, behind the first tests' answer. Another size is refused at once: no field has then to be tested for it.
+pub fn fields(s: &[u8], lead: u8) -> Answer
+    ensures { λ r. ⌜ r ≡ answerOf (also recordOf (fieldsOf area 31 31 lead (now (s .entry)))) ⌝ }
+{
+    if s.len() != Area::LEAST {
+        return Answer::Refused(choose(none(lead), format::SIZE, lead));
+    }
+    let w = walk::walk::Walk::begin(lead, 0).code(s, 6, MESSAGE);
+    let w = w.num(s, 2, 0, 3);
+    let repeat = w.v as u8;
+    let w = w.num(s, 30, 0, 999_999_999);
+    let source = w.v as u32;
+    let w = w.num(s, 2, 0, 3);
+    let sequence = w.v as u8;
+    let w = w.num(s, 30, 0, 999_999_999);
+    let destination = w.v as u32;
+    let w = w.num(s, 1, 0, 1);
+    let resent = w.v as u8;
+    let w = w.fill(s, 1).code(s, 10, AUTHORITY).code(s, 6, APPLICATION);
+    let w = w.num(s, 4, 1, 14);
+    let kind = w.v as u8;
+    let w = w.number(s, 2, false, 1, 2, format::KIND);
+    let passed = shapes::read(s, w.v, w);
+    let shape = passed.shape;
+    let w = ais_common::time::read(s, passed.walk);
+    let time = ais_common::time::Time::of(w.v);
+    let w = ais_common::time::read_short(s, w);
+    let second_time = ais_common::time::ShortTime::of(w.v);
+    let w = w.num(s, 4, 1, 6);
+    let advice = w.v as u8;
+    let w = w.fill(s, 6).end(s);
+    let r = Area {
+        repeat,
+        source,
+        sequence,
+        destination,
+        resent,
+        kind,
+        shape,
+        time,
+        second_time,
+        advice,
+    };
+    Answer::told(w.code, r)
+}
