@@ -1,9 +1,11 @@
 // AIS (paper 01, "AIS"): what reading a message of either kind answers; how many slots it needs, from `slots`.
 ghost use mathlib.Core.Path.{_≡_};
 ghost use Rattle.ais.specs.Ais.{codeOf};
+pub use crate::slot_count::Needed;
+pub use crate::slot_count::slots;
 pub use ais_common::head::SMALLEST;
-pub use slots::Needed;
-pub use slots::slots;
+
+pub mod slot_count;
 
 // The refusal of reading a message as the one whose number it has; 0 for a good one.
 pub fn code(s: &[u8]) -> u8

@@ -20,7 +20,7 @@ use Rattle.places.specs.Desk.{numberOf}
 use Rattle.places.specs.declared.Reply.{Reply}
 use Rattle.places.specs.declared.Reply.the-variants.{Done, Again, Joined, Missing, Refused}
 use Rattle.desk_runs.specs.Runs.{Call, comes, empty, run, log, asked}
-use Rattle.slots.specs.Slots.{slotsFor}
+use Rattle.ais.specs.Slots.{slotsFor}
 use Rattle.outline.specs.Promises.{drawn}
 
 -- ---- answers as numbers

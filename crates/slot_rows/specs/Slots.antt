@@ -2,7 +2,7 @@
 use Prim.Native.Nat.{ℕ}
 use mathlib.Core.Path.{_≡_, sym, _∙_}
 use Rattle.format.specs.Message.{codeOf, leaves}
-use Rattle.slots.specs.Slots.{slotsFor}
+use Rattle.ais.specs.Slots.{slotsFor}
 
 -- the call's number, and what it leaves of the lent number n
 abbrev pub SlotsTold : ℕ → ℕ → ℕ → ℕ → ℕ → Type 0

@@ -1,12 +1,12 @@
 // The slots of a message in a lent number, as crate `slots` tells them.
 ghost use Rattle.slot_rows.specs.Slots.{SlotsTold};
-use slots::Needed;
+use ais::Needed;
 
 // The slots that `message` needs for that many data bytes, into `slots`.
 pub fn slots(message: u8, bytes: usize, slots: &mut u8) -> u8
     ensures { λ code. ⌜ SlotsTold message bytes (now (slots .entry)) code (now (slots .exit)) ⌝ }
 {
-    let needed = slots::slots(message, bytes);
+    let needed = ais::slots(message, bytes);
     match needed {
         Needed::Slots(n) => {
             *slots = n;

@@ -27,7 +27,7 @@ use Rattle.places.specs.Places.{everyBelow, firstFrom, goodPlace, allApart, goo
 use Rattle.places.specs.Desk.{alike, firstTests, joins, received, accepting, missingBelow, answers, asking}
 use Rattle.places.specs.laws.Alike.{alike-same}
 use Rattle.desk_runs.specs.Runs.{run, log}
-use Rattle.slots.specs.Slots.{firstOf, slotsIn, slotsFor}
+use Rattle.ais.specs.Slots.{firstOf, slotsIn, slotsFor}
 use Rattle.outline.specs.Outline.{pointsOf, outlineOf}
 use Rattle.numbers.specs.Cases.{signs, replies}
 use Rattle.numbers.specs.Table.{A, Row, says, table, standing}

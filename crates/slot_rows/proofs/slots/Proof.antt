@@ -2,8 +2,8 @@
 use mathlib.Core.Path.{refl, sym, _∙_}
 use Rattle.format.specs.Message.{refuses, accepts}
 use Rattle.format.specs.laws.Answers.{good-read, bad-refuses}
-use Rattle.slots.specs.Slots.{slotsFor, outOf}
-use Rattle.slots.specs.declared.Needed.the-variants.{Slots, Refused}
+use Rattle.ais.specs.Slots.{slotsFor, outOf}
+use Rattle.ais.specs.declared.slot_count.Needed.the-variants.{Slots, Refused}
 use borrow.Author.Needs.{needs}
 use Rattle.slot_rows.proofs.slots.Statement.{statement}
 use Rattle.slot_rows.proofs.slots.Tie as tie

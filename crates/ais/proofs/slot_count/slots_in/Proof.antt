@@ -6,11 +6,11 @@ use native.Mathlib.Omega.{arith}
 use borrow.Author.Tests.{le-leb, lt-leb, eq-eqb, ne-eqb}
 use lib.ListN.{length, getD, drop}
 use Rattle.format.specs.Fmt.{accepted, refused}
-use Rattle.slots.specs.Slots.{firstOf, slotsIn, answerOf}
-use Rattle.slots.specs.declared.Needed.the-variants.{Slots}
-use Rattle.slots.specs.laws.Slots.{first-at, first-past}
-use Rattle.slots.proofs.slots_in.Statement.{statement}
-use Rattle.slots.proofs.slots_in.Tie as tie
+use Rattle.ais.specs.Slots.{firstOf, slotsIn, answerOf}
+use Rattle.ais.specs.declared.slot_count.Needed.the-variants.{Slots}
+use Rattle.ais.specs.laws.Slots.{first-at, first-past}
+use Rattle.ais.proofs.slot_count.slots_in.Statement.{statement}
+use Rattle.ais.proofs.slot_count.slots_in.Tie as tie
 
 abbrev Inv-loop : tie.InvT-loop
 Inv-loop limits bytes i₀ i = (i ≤ length limits) × (firstOf (suc i) (drop i limits) bytes ≡ firstOf 1 limits bytes)

@@ -2,7 +2,7 @@
 ghost use mathlib.Core.Path.{_≡_};
 ghost use lib.ListN.{length};
 ghost use Prim.Native.Nat.{_<_};
-ghost use Rattle.slots.specs.Slots.{slotsFor, slotsIn, answerOf};
+ghost use Rattle.ais.specs.Slots.{slotsFor, slotsIn, answerOf};
 
 pub enum Needed {
     Slots(u8),

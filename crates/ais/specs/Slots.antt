@@ -5,8 +5,8 @@ use mathlib.Core.List.{List, [], _∷_}
 use lib.Dec.{leb, eqb}
 use Rattle.format.specs.Fmt.{Out, accepted, refused}
 use Rattle.format.specs.Promises.{answered}
-use Rattle.slots.specs.declared.Needed.{Needed}
-use Rattle.slots.specs.declared.Needed.the-variants.{Slots, Refused}
+use Rattle.ais.specs.declared.slot_count.Needed.{Needed}
+use Rattle.ais.specs.declared.slot_count.Needed.the-variants.{Slots, Refused}
 
 -- the most data bytes of 1 to 5 slots: of message 6, and of message 8
 abbrev pub addressed : List ℕ

@@ -2,10 +2,10 @@
 use mathlib.Core.Path.{refl}
 use lib.Dec.{lit<}
 use borrow.Author.Tests.{eq-eqb, ne-eqb}
-use Rattle.slots.specs.Slots.{slotsFor}
+use Rattle.ais.specs.Slots.{slotsFor}
 use borrow.Author.Needs.{needs}
-use Rattle.slots.proofs.slots.Statement.{statement}
-use Rattle.slots.proofs.slots.Tie as tie
+use Rattle.ais.proofs.slot_count.slots.Statement.{statement}
+use Rattle.ais.proofs.slot_count.slots.Tie as tie
 
 slice-aggregate-slots-in : tie.Need-slice-aggregate-slots-in
 slice-aggregate-slots-in c = search needs

@@ -9,7 +9,7 @@ use lib.ListN.{length, getD, drop}
 use lib.Seq.{drop-cons, drop-length}
 use borrow.Author.Tests.{leb-true, leb-false, eqb-true, eqb-false}
 use Rattle.format.specs.Fmt.{accepted, refused}
-use Rattle.slots.specs.Slots.{firstOf, slotsIn}
+use Rattle.ais.specs.Slots.{firstOf, slotsIn}
 
 -- limit number j, of those from number k on, is the first that n does not pass
 pub record Fewest (k : ℕ) (ls : List ℕ) (n m : ℕ) : Type 0 where
