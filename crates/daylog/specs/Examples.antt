@@ -6,7 +6,7 @@ use Rattle.bits.specs.Bits.{bit, valueOf, digits, bitsOf, fieldAt}
 use Rattle.bits.specs.Xor.{xorOf}
 use Rattle.frame.specs.Frame.{leads}
 use Rattle.gljc.specs.Gljc.{gljc, gljcs}
-use Rattle.packet_reading.specs.Packet.{packet as layout, packets}
+use Rattle.packet.specs.Packet.{packet as layout, packets}
 use Rattle.format.specs.Fmt.{readField, read}
 use Rattle.format.specs.Message.{readMessage}
 use Rattle.format.specs.Words.{walk}

@@ -8,7 +8,7 @@ use lib.Dec.{eqb}
 use lib.ListN.{length, drop, getD, drop-of-length-le}
 use lib.Seq.{drop-cons}
 use borrow.Author.Tests.{eq-eqb, ne-eqb}
-use Rattle.packet_reading.specs.declared.Packet.{Packet}
+use Rattle.packet.specs.declared.reading.Packet.{Packet}
 use Rattle.places.specs.Places.{held, holding}
 use Rattle.places.specs.Desk.{stays, turnedAway, taken, inCell, alike, joins}
 use Rattle.places.specs.laws.Alike.{alike-same}

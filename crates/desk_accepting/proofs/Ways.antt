@@ -8,10 +8,10 @@ use lib.Dec.{eqb}
 use borrow.Author.Tests.{eq-eqb, ne-eqb, lt-ltb, le-ltb}
 use Rattle.format.specs.Fmt.{Out, accepted, refused}
 use Rattle.format.specs.Promises.{answered, readRecord}
-use Rattle.packet_reading.specs.Packet.{packets, recordOf, answerOf}
-use Rattle.packet_reading.specs.Promises.{Reads}
-use Rattle.packet_reading.specs.declared.Packet.{Packet}
-use Rattle.packet_reading.specs.declared.Answer.the-variants.{Good, Refused as Refused′}
+use Rattle.packet.specs.Packet.{packets, recordOf, answerOf}
+use Rattle.packet.specs.Promises.{Reads}
+use Rattle.packet.specs.declared.reading.Packet.{Packet}
+use Rattle.packet.specs.declared.reading.Answer.the-variants.{Good, Refused as Refused′}
 use Rattle.places.specs.Places.{fourPlaces, placeAt, openAt, freeAt}
 use Rattle.places.specs.Desk.{Accepting, turnOf, turnedAway, joins, opens, firstTests, received, accepting, unplaced}
 use Rattle.places.specs.Promises.{Gives, AcceptTurn}

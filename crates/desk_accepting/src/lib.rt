@@ -4,8 +4,8 @@ ghost use mathlib.Core.List.{[], _∷_};
 ghost use Rattle.places.specs.Desk.{unplaced};
 ghost use Rattle.places.specs.Promises.{AcceptTurn};
 ghost use Rattle.places.specs.declared.Reply.the-variants.{Refused};
-use packet_reading::Answer;
-use packet_reading::Packet;
+use packet::Answer;
+use packet::Packet;
 use places::PLACES;
 use places::Place;
 use places::Reply;
@@ -17,7 +17,7 @@ mod placing;
 pub fn accept(a: Place, b: Place, c: Place, d: Place, store: &mut [u8], packet: &[u8]) -> Turn
     ensures { λ r. ⌜ AcceptTurn (a ∷ b ∷ c ∷ d ∷ []) (now (store .entry)) (now (packet .entry)) r (now (store .exit)) ⌝ }
 {
-    let answer = packet_reading::read(packet);
+    let answer = packet::read(packet);
     match answer {
         Answer::Good(r) => {
             let code = places::first_tests(a, b, c, d, store);
@@ -40,7 +40,7 @@ pub fn accept(a: Place, b: Place, c: Place, d: Place, store: &mut [u8], packet: 
 pub fn unplaced(packet: &[u8]) -> Reply
     ensures { λ r. ⌜ r ≡ Refused (unplaced (now (packet .entry))) ⌝ }
 {
-    let answer = packet_reading::read(packet);
+    let answer = packet::read(packet);
     match answer {
         Answer::Good(_) => Reply::Refused(format::ROOM),
         Answer::Refused(code) => Reply::Refused(code),

@@ -7,8 +7,8 @@ ghost use Rattle.places.specs.Places.{fourPlaces};
 ghost use Rattle.places.specs.Desk.{storeBytes, missingBelow, joinedBelow};
 ghost use Rattle.places.specs.laws.Good.{Sized};
 ghost use Rattle.places.specs.laws.Joined.{heldBelow};
-use packet_reading::JOINED;
-use packet_reading::PART;
+use packet::JOINED;
+use packet::PART;
 use places::Place;
 
 // How many numbers are missing.

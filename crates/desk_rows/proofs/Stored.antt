@@ -5,7 +5,7 @@ use Prim.Native.Nat.{ℕ, suc, _+_, _≤_, _<_}
 use native.Mathlib.Omega.{arith}
 use lib.ListN.{getD, length, take, drop, set, length-append, drop-of-length-le}
 use lib.Seq.{getD-take, getD-drop, length-take-le, take-length, take-at, drop-at, drop-drop, sets-eq}
-use Rattle.packet_reading.specs.Packet.{mostPackets}
+use Rattle.packet.specs.Packet.{mostPackets}
 use Rattle.places.specs.Desk.{laid}
 use Rattle.desk_rows.specs.Bytes.{placeBytes}
 

@@ -4,7 +4,7 @@ use mathlib.Core.Bool.{cond, not}
 use mathlib.Core.List.{List, [], _∷_}
 use lib.Dec.{leb, eqb}
 use lib.ListN.{length, take, drop, getD}
-use Rattle.packet_reading.specs.Packet.{mostPackets}
+use Rattle.packet.specs.Packet.{mostPackets}
 use Rattle.places.specs.Desk.{Change, stays, turns, laid}
 use Rattle.places.specs.Places.{fourPlaces}
 use Rattle.places.specs.declared.Place.{Place}

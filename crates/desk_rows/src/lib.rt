@@ -8,7 +8,7 @@ ghost use Rattle.places.specs.Places.{fourPlaces};
 ghost use Rattle.desk_rows.specs.Bytes.{begins, totalBehind, placeIn, bytesOf};
 ghost use Rattle.desk_rows.specs.Promises.{againOf, countOf, languageOf, AcceptsIn, AsksIn, DropsIn};
 ghost use Rattle.desk_rows.specs.laws.Fits.{moves};
-use packet_reading::MOST;
+use packet::MOST;
 use places::PLACES;
 use places::Place;
 use places::Reply;

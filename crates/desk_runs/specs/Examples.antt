@@ -8,7 +8,7 @@ use Rattle.bits.specs.Bits.{bit, valueOf, digits, bitsOf, bytesOf, fieldAt}
 use Rattle.format.specs.Fmt.{readField, read}
 use Rattle.format.specs.Message.{readMessage}
 use Rattle.format.specs.Words.{walk}
-use Rattle.packet_reading.specs.Packet.{packet, packets, recordOf}
+use Rattle.packet.specs.Packet.{packet, packets, recordOf}
 use Rattle.places.specs.Places.{blank, fourPlaces, everyBelow, firstFrom, goodPlace, allApart, goodPlaces, openAt, freeAt}
 use Rattle.places.specs.Desk.{storeBytes, alike, firstTests, joins, received, accepting, missingBelow, joinedBelow, answers, asking, dropping}
 use Rattle.places.specs.declared.Reply.the-variants.{Joined, Missing}

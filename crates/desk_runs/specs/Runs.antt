@@ -7,8 +7,8 @@ use lib.Dec.{leb, eqb}
 use lib.ListN.{length, replicate}
 use Rattle.format.specs.Message.{ahead}
 use Rattle.format.specs.Promises.{answered, readRecord}
-use Rattle.packet_reading.specs.Packet.{packets, recordOf}
-use Rattle.packet_reading.specs.declared.Packet.{Packet}
+use Rattle.packet.specs.Packet.{packets, recordOf}
+use Rattle.packet.specs.declared.reading.Packet.{Packet}
 use Rattle.places.specs.Places.{blank, fourPlaces, placeAt}
 use Rattle.places.specs.Desk.{storeBytes, numberOf, applied, accepting, Asking, asking, dropping}
 use Rattle.places.specs.declared.Place.{Place}

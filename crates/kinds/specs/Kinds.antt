@@ -5,7 +5,7 @@ use mathlib.Core.List.{List}
 use lib.Dec.{eqb}
 use lib.ListN.{length}
 use Rattle.format.specs.Message.{readMessage, codeOf as refusal}
-use Rattle.packet_reading.specs.Packet.{packets}
+use Rattle.packet.specs.Packet.{packets}
 use Rattle.distress.specs.Report.{reports}
 use Rattle.ais.specs.Ais.{codeOf as aisCode}
 use Rattle.serial.specs.Serial.{codeOf as serialCode}

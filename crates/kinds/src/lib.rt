@@ -6,7 +6,7 @@ ghost use Rattle.lines.specs.Stores.{placed, Stores};
 ghost use Rattle.kinds.specs.Kinds.{word, codeOf, entryLine};
 ghost use Rattle.format.specs.Message.{codeOf as Message·codeOf, readMessage};
 ghost use Rattle.distress.specs.Report.{reports};
-ghost use Rattle.packet_reading.specs.Packet.{packets};
+ghost use Rattle.packet.specs.Packet.{packets};
 use lines::line;
 
 // What reading the body answers, by the record's kind.
@@ -25,7 +25,7 @@ pub fn code(kind: u16, body: &[u8]) -> u8
 fn packet(body: &[u8]) -> u8
     ensures { λ r. ⌜ r ≡ Message·codeOf (readMessage packets (now (body .entry))) ⌝ }
 {
-    let answer = packet_reading::read(body);
+    let answer = packet::read(body);
     answer.refusal()
 }
 

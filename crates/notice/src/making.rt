@@ -1,7 +1,7 @@
 // Writing a notice, step by step: its values judged, then put.
 ghost use Prim.Native.Nat.{_≤_};
 ghost use lib.ListN.{length};
-ghost use Rattle.packet_reading.specs.Packet.{joined};
+ghost use Rattle.packet.specs.Packet.{joined};
 ghost use Rattle.notice.specs.Making.{HeadJudged, NoticeJudged, HeadPut, NoticePut};
 use areas_making::Stepped;
 use notice_reading::Notice;

@@ -9,7 +9,7 @@ use Rattle.format.specs.Message.{Layout, led, between}
 use Rattle.format.specs.Words.{_‥_, unless, kept, _▹_, num, deciding}
 use Rattle.notice_parts.specs.Parts.{subtype, expiry}
 use Rattle.notice_areas.specs.Areas.{areas}
-use Rattle.packet_reading.specs.Packet.{joined}
+use Rattle.packet.specs.Packet.{joined}
 use Rattle.text.specs.Text.{inLanguage}
 
 -- all whole bytes that are left

@@ -6,7 +6,7 @@ ghost use Rattle.format.specs.Message.{codeOf, readMessage};
 ghost use Rattle.notice_reading.specs.Notice.{notices, sizes};
 ghost use Rattle.notice_reading.specs.Promises.{Reads, numberOf};
 ghost use Rattle.notice_reading.specs.Steps.{openingOf, endingOf, unreadBy, courseOf};
-ghost use Rattle.packet_reading.specs.Packet.{joined};
+ghost use Rattle.packet.specs.Packet.{joined};
 use walk::choosing::choose;
 use walk::walk::Walk;
 
@@ -58,7 +58,7 @@ impl Notice {
     pub const LEAST: usize = 8;
 
     // What the packets of a notice can carry.
-    pub const GREATEST: usize = packet_reading::JOINED;
+    pub const GREATEST: usize = packet::JOINED;
 
     // The fields that may be corrected, by their place among the notice's: those of the head, and from AREAS on the numbers of its
     // areas as they stand in the row (codes, latitudes, longitudes, radii and units).

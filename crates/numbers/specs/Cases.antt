@@ -15,7 +15,7 @@ use Rattle.distress.specs.Changed.{changed}
 use Rattle.distress.specs.declared.reading.Report.{Report}
 use Rattle.notice_reading.specs.Notice.{notices}
 use Rattle.notice_reading.specs.Record.{Whole, headed, recordOf as noticeOf, valuesOf as noticeValues}
-use Rattle.packet_reading.specs.Packet.{packets, valuesOf as packetValues}
+use Rattle.packet.specs.Packet.{packets, valuesOf as packetValues}
 use Rattle.places.specs.Desk.{numberOf}
 use Rattle.places.specs.declared.Reply.{Reply}
 use Rattle.places.specs.declared.Reply.the-variants.{Done, Again, Joined, Missing, Refused}

@@ -1,32 +1,17 @@
 // The packet (paper 01, "Notice and packet"; 000, 5.2.2.2): reading, writing and correcting it.
-ghost use Rattle.format.specs.Promises.{Writes};
-ghost use Rattle.packet_reading.specs.Packet.{packets, valuesOf};
-pub use packet_correcting::correct;
-pub use packet_reading::Answer;
-pub use packet_reading::JOINED;
-pub use packet_reading::MOST;
-pub use packet_reading::PART;
-pub use packet_reading::Packet;
-pub use packet_reading::content;
-pub use packet_reading::read;
+pub use crate::correcting::correct;
+pub use crate::reading::Answer;
+pub use crate::reading::JOINED;
+pub use crate::reading::MOST;
+pub use crate::reading::PART;
+pub use crate::reading::Packet;
+pub use crate::reading::content;
+pub use crate::reading::read;
+pub use crate::splitting::next_number;
+pub use crate::splitting::split;
+pub use crate::writing::write;
 
-mod making;
-
-// Writes the packet into the front of a lent buffer: the record is judged (4), then the content's size (1), then room (6); the bytes past the packet stay.
-pub fn write(buf: &mut [u8], r: Packet, content: &[u8]) -> u8
-    ensures { λ code. ⌜ Writes packets (now (buf .entry)) code (now (buf .exit)) (valuesOf (r, now (content .entry))) ⌝ }
-{
-    let w = making::judged(r);
-    let code = w.closes_before(
-        content.len(),
-        false,
-        Packet::LEAST,
-        Packet::GREATEST,
-        buf.len(),
-    );
-    if code != 0 {
-        return code;
-    }
-    making::put(buf, r, content);
-    0
-}
+pub mod correcting;
+pub mod reading;
+pub mod splitting;
+pub mod writing;

@@ -5,8 +5,8 @@ use lib.IntN.{ℤ, pos}
 use lib.ListN.{length}
 use Rattle.format.specs.Fmt.{Out, also}
 use Rattle.format.specs.Promises.{readRecord}
-use Rattle.packet_reading.specs.Packet.{packets, recordOf as packetOf}
-use Rattle.packet_reading.specs.declared.Packet.{Packet}
+use Rattle.packet.specs.Packet.{packets, recordOf as packetOf}
+use Rattle.packet.specs.declared.reading.Packet.{Packet}
 
 -- a record's numbers, in the paper's order; then the byte where the content begins, and its n bytes
 unfoldable pub rowOf : Packet → ℕ → List ℤ

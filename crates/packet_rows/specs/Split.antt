@@ -5,7 +5,7 @@ use mathlib.Core.Path.{_≡_}
 use Rattle.format.specs.Fmt.{Out}
 use Rattle.format.specs.Message.{codeOf, leaves}
 use Rattle.rows.specs.Language.{spoken}
-use Rattle.splitter.specs.Promises.{splitting}
+use Rattle.packet.specs.SplittingPromises.{splitting}
 
 abbrev pub splittingIn : List ℕ → List ℕ → ℕ → ℕ → ℕ → Out (List ℕ)
 splittingIn s c language number k = spoken language (λ english. splitting s c english number k)

@@ -2,11 +2,11 @@
 ghost use mathlib.Core.Path.{_≡_};
 ghost use Prim.Native.Nat.{_≤_};
 ghost use Rattle.rows.specs.Row.{Fills};
-ghost use Rattle.packet_reading.specs.Packet.{partBytes};
+ghost use Rattle.packet.specs.Packet.{partBytes};
 ghost use Rattle.packet_rows.specs.Packet.{rowOf, numbersOf};
 ghost use Rattle.packet_rows.specs.Split.{SplitsIn};
-use packet_reading::Answer;
-use packet_reading::Packet;
+use packet::Answer;
+use packet::Packet;
 
 // The greatest number of a language.
 const ENGLISH: u8 = 1;
@@ -15,7 +15,7 @@ const ENGLISH: u8 = 1;
 pub fn read(s: &[u8], row: &mut [i64]) -> u8
     ensures { λ code. ⌜ Fills (numbersOf (now (s .entry))) (now (row .entry)) code (now (row .exit)) ⌝ }
 {
-    let answer = packet_reading::read(s);
+    let answer = packet::read(s);
     match answer {
         Answer::Good(r) => {
             let numbers = numbers(r, s.len() - Packet::CONTENT);
@@ -32,7 +32,7 @@ pub fn split(buf: &mut [u8], content: &[u8], language: u8, number: u8, packet: u
     if language > ENGLISH {
         return format::RANGE;
     }
-    splitter::split(buf, content, language == ENGLISH, number, packet)
+    packet::split(buf, content, language == ENGLISH, number, packet)
 }
 
 fn numbers(r: Packet, bytes: usize) -> [i64; 6]

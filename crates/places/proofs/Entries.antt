@@ -6,7 +6,7 @@ use Prim.Native.Nat.{ℕ}
 use native.Mathlib.Omega.{arith}
 use lib.Dec.{eqb, ltb, leb}
 use borrow.Author.Tests.{eqb-true, eqb-false, eq-eqb, ne-eqb, le-leb, lt-leb, ltb-true, ltb-false}
-use Rattle.packet_reading.specs.Packet.{partBytes}
+use Rattle.packet.specs.Packet.{partBytes}
 use Rattle.places.specs.Places.{held, entryGood}
 use Rattle.places.specs.declared.Place.{Place}
 

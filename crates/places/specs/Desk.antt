@@ -6,8 +6,8 @@ use lib.Dec.{leb, ltb, eqb}
 use lib.ListN.{length, take, drop, set}
 use Rattle.format.specs.Message.{ahead}
 use Rattle.format.specs.Promises.{answered, readRecord}
-use Rattle.packet_reading.specs.Packet.{partBytes, joined, packets, recordOf}
-use Rattle.packet_reading.specs.declared.Packet.{Packet}
+use Rattle.packet.specs.Packet.{partBytes, joined, packets, recordOf}
+use Rattle.packet.specs.declared.reading.Packet.{Packet}
 use Rattle.places.specs.Places.{held, lacks, opened, holding, freed, fourPlaces, placeAt, front, goodPlaces, openAt, freeAt}
 use Rattle.places.specs.declared.Place.{Place}
 use Rattle.places.specs.declared.Reply.{Reply}

@@ -5,8 +5,8 @@ use mathlib.Core.List.{List, [], _∷_}
 use lib.Dec.{leb, ltb, eqb}
 use lib.ListN.{getD, set, replicate}
 use Rattle.format.specs.Message.{between}
-use Rattle.packet_reading.specs.Packet.{mostPackets, partBytes}
-use Rattle.packet_reading.specs.declared.Packet.{Packet}
+use Rattle.packet.specs.Packet.{mostPackets, partBytes}
+use Rattle.packet.specs.declared.reading.Packet.{Packet}
 use Rattle.places.specs.declared.Place.{Place}
 
 -- ---- numbers below a number

@@ -3,12 +3,12 @@ ghost use mathlib.Core.Path.{_≡_};
 ghost use mathlib.Core.Bool.{not, cond, _&&_};
 ghost use mathlib.Core.List.{[], _∷_};
 ghost use lib.Dec.{leb, ltb};
-ghost use Rattle.packet_reading.specs.Packet.{mostPackets, partBytes};
+ghost use Rattle.packet.specs.Packet.{mostPackets, partBytes};
 ghost use Rattle.places.specs.Places.{everyBelow, lacks, entryGood, goodPlace, passes, serves, clash, allApart, freed, placeAt, goodPlaces, openAt, freeAt};
 ghost use Rattle.places.specs.Desk.{laidWithin, firstTests, numberOf, stays, turnOf};
-use packet_reading::JOINED;
-use packet_reading::MOST;
-use packet_reading::PART;
+use packet::JOINED;
+use packet::MOST;
+use packet::PART;
 
 pub struct Place {
     pub open: bool,

@@ -2,8 +2,8 @@
 ghost use mathlib.Core.Path.{_≡_};
 ghost use Rattle.packet_rows.specs.Packet.{recordOf};
 ghost use Rattle.packet_rows.specs.Split.{SplitsIn};
-ghost use Rattle.packet_reading.specs.Packet.{packets, valuesOf};
-ghost use Rattle.splitter.specs.Splitter.{nextNumber};
+ghost use Rattle.packet.specs.Packet.{packets, valuesOf};
+ghost use Rattle.packet.specs.Splitter.{nextNumber};
 ghost use Rattle.format.specs.Promises.{Writes, Corrects};
 use packet::Packet;
 
@@ -55,5 +55,5 @@ pub extern "C" fn bellnewt_split(
 pub extern "C" fn bellnewt_next_number(number: u8) -> u8
     ensures { λ r. ⌜ r ≡ nextNumber number ⌝ }
 {
-    splitter::next_number(number)
+    packet::next_number(number)
 }

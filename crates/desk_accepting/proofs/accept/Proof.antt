@@ -8,12 +8,12 @@ use lib.ListN.{length, take, drop}
 use borrow.Author.Needs.{needs}
 use Rattle.format.specs.Fmt.{accepted}
 use Rattle.format.specs.Promises.{readRecord}
-use Rattle.packet_reading.specs.Packet.{partBytes, packets, recordOf}
+use Rattle.packet.specs.Packet.{partBytes, packets, recordOf}
 use Rattle.places.specs.Places.{placeAt, held, fourPlaces}
 use Rattle.places.specs.Desk.{firstTests, joins, opens, turnedAway, taken}
 use Rattle.places.specs.Promises.{Gives}
 use Rattle.places.specs.laws.Four.{last-of-four, settled}
-use Rattle.packet_reading.specs.laws.Accepted.{Fit, read-good}
+use Rattle.packet.specs.laws.Accepted.{Fit, read-good}
 use Rattle.places.specs.laws.Good.{open-sized, tests-passed}
 use Rattle.desk_accepting.proofs.Ways.{of-four, refused-packet, refused-tests, joins-open, opens-free}
 use Rattle.desk_accepting.proofs.accept.Statement.{statement}

@@ -7,7 +7,7 @@ use lib.Dec.{eqb, lit<}
 use lib.ListN.{getD, length, take, drop, length-drop, replicate, length-replicate}
 use lib.Seq.{length-take-le}
 use borrow.Author.Needs.{needs}
-use Rattle.packet_reading.specs.Packet.{mostPackets}
+use Rattle.packet.specs.Packet.{mostPackets}
 use Rattle.desk_rows.specs.Bytes.{totalBehind, begins, placeBytes}
 use Rattle.desk_rows.proofs.Stored.{byte-there, sizes-there, copied-whole}
 use Rattle.desk_rows.proofs.place.Statement.{statement}

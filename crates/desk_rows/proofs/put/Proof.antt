@@ -5,7 +5,7 @@ use Prim.Native.Nat.{_+_, _-_}
 use native.Mathlib.Omega.{arith}
 use lib.ListN.{length, set, length-set}
 use borrow.Author.Needs.{needs}
-use Rattle.packet_reading.specs.Packet.{mostPackets}
+use Rattle.packet.specs.Packet.{mostPackets}
 use Rattle.places.specs.Desk.{laid, laidWithin}
 use Rattle.desk_rows.specs.Bytes.{begins}
 use Rattle.places.specs.laws.Laid.{laid-within, length-laid}

@@ -8,7 +8,7 @@ use lib.Dec.{lit<}
 use lib.ListN.{length, take, drop, length-drop}
 use lib.Seq.{length-take-le}
 use borrow.Author.Tests.{le-leb, lt-leb}
-use Rattle.packet_reading.specs.Packet.{mostPackets}
+use Rattle.packet.specs.Packet.{mostPackets}
 use Rattle.places.specs.Desk.{numberOf, Change, stays, turnOf, laid, unplaced, accepting, asking, dropping}
 use Rattle.places.specs.Places.{fourPlaces, placeAt, front}
 use Rattle.places.specs.laws.Row.{turned, accepting-short, asking-short, dropping-short}

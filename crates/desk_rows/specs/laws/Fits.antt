@@ -8,8 +8,8 @@ use lib.ListN.{length, replicate, length-set, length-replicate}
 use borrow.Author.Tests.{ltb-true}
 use Rattle.format.specs.Fmt.{Out, accepted, refused}
 use Rattle.format.specs.Promises.{answered, readRecord}
-use Rattle.packet_reading.specs.Packet.{mostPackets, packets, recordOf}
-use Rattle.packet_reading.specs.declared.Packet.{Packet}
+use Rattle.packet.specs.Packet.{mostPackets, packets, recordOf}
+use Rattle.packet.specs.declared.reading.Packet.{Packet}
 use Rattle.places.specs.Desk.{Change, stays, turns, firstTests, Accepting, turnedAway, contradicts, joins, received, accepting, Asking, missingBelow, joinedBelow, notAnswered, answers, asking, Dropping, dropping}
 use Rattle.places.specs.Places.{lacks, holding, opened, freed, fourPlaces, placeAt, front, openAt, freeAt}
 use Rattle.places.specs.declared.Place.{Place}

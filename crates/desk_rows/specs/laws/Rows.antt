@@ -8,7 +8,7 @@ use native.Mathlib.Omega.{arith}
 use lib.Dec.{eqb}
 use lib.ListN.{length, take, drop, set}
 use borrow.Author.Tests.{le-leb}
-use Rattle.packet_reading.specs.Packet.{mostPackets}
+use Rattle.packet.specs.Packet.{mostPackets}
 use Rattle.places.specs.Desk.{Change, applied, laid, accepting, asking, dropping}
 use Rattle.places.specs.Places.{fourPlaces}
 use Rattle.places.specs.laws.Laid.{length-laid, laid-there, laid-elsewhere}

@@ -9,8 +9,8 @@ use lib.Dec.{ltb, eqb}
 use lib.ListN.{length, getD, length-append, List·getD-append}
 use lib.Seq.{getD-at}
 use borrow.Author.Tests.{ltb-true, ltb-false, eqb-true, eqb-false, ne-eqb}
-use Rattle.packet_reading.specs.Packet.{mostPackets, partBytes}
-use Rattle.packet_reading.specs.laws.Accepted.{Fit}
+use Rattle.packet.specs.Packet.{mostPackets, partBytes}
+use Rattle.packet.specs.laws.Accepted.{Fit}
 use Rattle.desk_runs.specs.Runs.{Part, came, contentOf, notCome}
 
 -- what holds of each of asking's four answers

@@ -10,7 +10,7 @@ use lib.ListN.{length, getD, set, take, drop, length-set}
 use lib.Seq.{getD-set-same, getD-set-other}
 use borrow.Author.Tests.{eqb-true, eqb-false, eq-eqb, ne-eqb, le-leb, lt-ltb}
 use Rattle.format.specs.Message.{between}
-use Rattle.packet_reading.specs.Packet.{mostPackets, partBytes}
+use Rattle.packet.specs.Packet.{mostPackets, partBytes}
 use Rattle.places.specs.Places.{everyBelow, held, lacks, entryGood, goodPlace}
 use Rattle.places.specs.Desk.{cell, inCell, laid, missingBelow, joinedBelow}
 use Rattle.places.specs.declared.Place.{Place}

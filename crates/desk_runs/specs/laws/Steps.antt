@@ -10,9 +10,9 @@ use lib.Seq.{set-getD}
 use borrow.Author.Tests.{ltb-true, ltb-false, eqb-true, eq-eqb, ne-eqb, not-false}
 use Rattle.format.specs.Fmt.{Out, accepted, refused}
 use Rattle.format.specs.Promises.{answered, readRecord}
-use Rattle.packet_reading.specs.Packet.{mostPackets, partBytes, packets, recordOf}
-use Rattle.packet_reading.specs.declared.Packet.{Packet}
-use Rattle.packet_reading.specs.laws.Accepted.{Fit, read-fit}
+use Rattle.packet.specs.Packet.{mostPackets, partBytes, packets, recordOf}
+use Rattle.packet.specs.declared.reading.Packet.{Packet}
+use Rattle.packet.specs.laws.Accepted.{Fit, read-fit}
 use Rattle.places.specs.Places.{blank, held, lacks, opened, holding, freed, fourPlaces, placeAt, front, openAt, freeAt}
 use Rattle.places.specs.Desk.{cell, inCell, laid, alike, numberOf, applied, firstTests, stays, Accepting, turnedAway, taken, contradicts, joins, opens, received, accepting, turns, Asking, notAnswered, answers, asking, Dropping, dropping, missingBelow, joinedBelow}
 use Rattle.places.specs.declared.Place.{Place}

@@ -9,7 +9,7 @@ use lib.Dec.{ltb, eqb}
 use lib.ListN.{length, set, take, drop, length-set}
 use lib.Seq.{getD-set-same, getD-set-other}
 use borrow.Author.Tests.{ltb-true, ltb-false, eqb-true, eqb-false, le-leb}
-use Rattle.packet_reading.specs.Packet.{mostPackets, partBytes}
+use Rattle.packet.specs.Packet.{mostPackets, partBytes}
 use Rattle.places.specs.Places.{everyBelow, blank, goodPlace, passes, clash, fourPlaces, placeAt, allApart, goodPlaces, openAt}
 use Rattle.places.specs.Desk.{storeBytes, cell, firstTests}
 use Rattle.places.specs.declared.Place.{Place}

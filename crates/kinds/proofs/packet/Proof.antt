@@ -1,8 +1,8 @@
 -- `packet` gives the number of the answer that `read` makes.
 use mathlib.Core.Path.{refl, ap, _∙_}
 use Rattle.format.specs.Message.{readMessage}
-use Rattle.packet_reading.specs.Packet.{packets, recordOf, numberOf}
-use Rattle.packet_reading.specs.declared.Answer.the-variants.{Good, Refused}
+use Rattle.packet.specs.Packet.{packets, recordOf, numberOf}
+use Rattle.packet.specs.declared.reading.Answer.the-variants.{Good, Refused}
 use Rattle.format.specs.laws.Answers.{numbered}
 use borrow.Author.Needs.{needs}
 use Rattle.kinds.proofs.packet.Statement.{statement}

@@ -14,7 +14,7 @@ use Rattle.walk.specs.laws.Making.{write-refused, write-bare}
 use Rattle.walk.specs.laws.Step.{clear}
 use Rattle.walk.specs.declared.walk.Walk.{Walk}
 use Rattle.notice_areas.specs.Row.{areasLong}
-use Rattle.packet_reading.specs.Packet.{joined}
+use Rattle.packet.specs.Packet.{joined}
 use Rattle.notice_reading.specs.Notice.{notice, notices}
 use Rattle.notice_reading.specs.Record.{valuesOf}
 use Rattle.notice_reading.specs.declared.Notice.{Notice}

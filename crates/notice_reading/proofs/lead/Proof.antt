@@ -4,7 +4,7 @@ use mathlib.Core.Path.{refl}
 use native.Mathlib.Omega.{arith}
 use lib.ListN.{length}
 use borrow.Author.Tests.{le-leb, lt-leb}
-use Rattle.packet_reading.specs.Packet.{joined}
+use Rattle.packet.specs.Packet.{joined}
 use Rattle.notice_reading.proofs.lead.Statement.{statement}
 use Rattle.notice_reading.proofs.lead.Tie as tie
 

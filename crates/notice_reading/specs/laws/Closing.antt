@@ -23,7 +23,7 @@ use Rattle.walk.specs.laws.Reading.{step-rest}
 use Rattle.walk.specs.laws.Step.{Steps, stuck, step-late}
 use Rattle.walk.specs.laws.Walked.{Walked, finish, same-values}
 use Rattle.walk.specs.declared.walk.Walk.{Walk}
-use Rattle.packet_reading.specs.Packet.{joined}
+use Rattle.packet.specs.Packet.{joined}
 use Rattle.text.specs.Text.{inLanguage}
 use Rattle.notice_reading.specs.Notice.{text}
 use Rattle.notice_reading.specs.Record.{texted}

@@ -12,7 +12,7 @@ use Rattle.format.specs.Words.{unless}
 use Rattle.format.specs.laws.Zero.{Numbered, Judged, only-numbered}
 use Rattle.notice_parts.specs.laws.Walking.{expiry-numbered}
 use Rattle.notice_areas.specs.laws.Numbered.{areas-numbered}
-use Rattle.packet_reading.specs.Packet.{joined}
+use Rattle.packet.specs.Packet.{joined}
 use Rattle.text.specs.Text.{inLanguage}
 use Rattle.notice_reading.specs.Notice.{text, notice, notices}
 

@@ -27,7 +27,7 @@ use Rattle.notice_areas.specs.Standing.{front, areasAt}
 use Rattle.notice_areas.specs.Steps.{areasWalked}
 use Rattle.notice_areas.specs.laws.Walking.{areas-along}
 use Rattle.notice_numbers.specs.Shapes.{filled}
-use Rattle.packet_reading.specs.Packet.{joined}
+use Rattle.packet.specs.Packet.{joined}
 use Rattle.notice_reading.specs.Notice.{notice, notices, sizes}
 use Rattle.notice_reading.specs.Steps.{fieldsRead, openingOf, endingOf, unreadBy, behind, courseOf}
 use Rattle.notice_reading.specs.laws.Opening.{opened}

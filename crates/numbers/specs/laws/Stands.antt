@@ -22,7 +22,7 @@ use Rattle.notice_areas.specs.Areas.{points, areas}
 use Rattle.notice_areas.specs.Row.{first, areasLong}
 use Rattle.notice_reading.specs.Notice.{notice, notices}
 use Rattle.notice_reading.specs.Record.{headOf, textOf, recordOf as noticeOf, valuesOf as noticeValues}
-use Rattle.packet_reading.specs.Packet.{packet, packets, recordOf as packetOf, valuesOf as packetValues}
+use Rattle.packet.specs.Packet.{packet, packets, recordOf as packetOf, valuesOf as packetValues}
 use Rattle.places.specs.Places.{everyBelow, firstFrom, goodPlace, allApart, goodPlaces, openAt, freeAt}
 use Rattle.places.specs.Desk.{alike, firstTests, joins, received, accepting, missingBelow, answers, asking}
 use Rattle.places.specs.laws.Alike.{alike-same}

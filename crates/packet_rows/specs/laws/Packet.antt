@@ -10,13 +10,13 @@ use Rattle.bits.specs.Bits.{Bytes}
 use Rattle.format.specs.Fmt.{accepted, also}
 use Rattle.format.specs.Promises.{readRecord}
 use Rattle.format.specs.laws.Answers.{read-code, bad-refuses}
-use Rattle.packet_reading.specs.Packet.{greatest, packets, recordOf, outOf, numberOf}
-use Rattle.packet_reading.specs.Promises.{Reads}
-use Rattle.packet_reading.specs.laws.Demands.{good}
-use Rattle.packet_reading.specs.laws.Shown.{shown}
-use Rattle.packet_reading.specs.laws.Sound.{read-sized}
-use Rattle.packet_reading.specs.declared.Packet.{Packet}
-use Rattle.packet_reading.specs.declared.Answer.the-variants.{Good, Refused}
+use Rattle.packet.specs.Packet.{greatest, packets, recordOf, outOf, numberOf}
+use Rattle.packet.specs.Promises.{Reads}
+use Rattle.packet.specs.laws.Demands.{good}
+use Rattle.packet.specs.laws.Shown.{shown}
+use Rattle.packet.specs.laws.Sound.{read-sized}
+use Rattle.packet.specs.declared.reading.Packet.{Packet}
+use Rattle.packet.specs.declared.reading.Answer.the-variants.{Good, Refused}
 use Rattle.rows.specs.Row.{Fills}
 use Rattle.rows.specs.laws.Row.{row-refused}
 use Rattle.packet_rows.specs.Packet.{rowOf, numbersOf}

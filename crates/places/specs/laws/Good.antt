@@ -7,7 +7,7 @@ use native.Mathlib.Omega.{arith}
 use lib.ListN.{length}
 use lib.Dec.{leb, ltb, eqb}
 use borrow.Author.Tests.{leb-true, eqb-true}
-use Rattle.packet_reading.specs.Packet.{mostPackets, partBytes}
+use Rattle.packet.specs.Packet.{mostPackets, partBytes}
 use Rattle.places.specs.Desk.{storeBytes, firstTests}
 use Rattle.places.specs.Places.{everyBelow, held, lacks, entryGood, goodPlace, passes, serves, fourPlaces, placeAt, allApart, goodPlaces, openAt}
 use Rattle.places.specs.laws.Below.{every-each, first-holds}

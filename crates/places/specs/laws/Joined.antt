@@ -7,7 +7,7 @@ use native.Mathlib.Omega.{arith}
 use native.Mathlib.Numerals.{add-one}
 use lib.ListN.{length, drop, length-append, length-drop}
 use lib.Seq.{length-take-le, take-at, drop-drop, drop-append-add}
-use Rattle.packet_reading.specs.Packet.{mostPackets, partBytes}
+use Rattle.packet.specs.Packet.{mostPackets, partBytes}
 use Rattle.places.specs.Desk.{storeBytes, cell, inCell, laid, joinedBelow}
 use Rattle.places.specs.Places.{held, fourPlaces}
 use Rattle.places.specs.laws.Good.{Sized}

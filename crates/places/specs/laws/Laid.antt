@@ -9,7 +9,7 @@ use lib.Dec.{ltb}
 use lib.ListN.{length, take, drop, length-append, length-drop, take-append-drop}
 use lib.Seq.{length-take-le, take-append-le, drop-at, drop-append-le, drop-drop, take-append-seam}
 use borrow.Author.Tests.{le-leb, ltb-true, ltb-false}
-use Rattle.packet_reading.specs.Packet.{mostPackets, partBytes}
+use Rattle.packet.specs.Packet.{mostPackets, partBytes}
 use Rattle.places.specs.Desk.{cell, laid, laidWithin}
 
 module _ (s : List ℕ) (at : ℕ) (c : List ℕ) (fits : at + length c ≤ length s) where

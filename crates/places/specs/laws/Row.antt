@@ -9,8 +9,8 @@ use lib.Seq.{set-getD}
 use borrow.Author.Tests.{le-leb, lt-leb}
 use Rattle.format.specs.Fmt.{Out, accepted, refused}
 use Rattle.format.specs.Promises.{answered, readRecord}
-use Rattle.packet_reading.specs.Packet.{packets, recordOf}
-use Rattle.packet_reading.specs.declared.Packet.{Packet}
+use Rattle.packet.specs.Packet.{packets, recordOf}
+use Rattle.packet.specs.declared.reading.Packet.{Packet}
 use Rattle.places.specs.Places.{everyBelow, allApart, fourPlaces, blank, front, goodPlaces}
 use Rattle.places.specs.Desk.{Change, stays, turns, applied, turnOf, storeBytes, firstTests, turnedAway, accepting, unplaced, notAnswered, asking, dropping}
 use Rattle.places.specs.Promises.{Accepts, Asks, Drops, AcceptTurn, AskTurn, DropTurn}

@@ -6,7 +6,7 @@ use native.Mathlib.Omega.{arith}
 use lib.Dec.{eqb, leb}
 use borrow.Author.Needs.{needs}
 use borrow.Author.Tests.{eq-eqb, ne-eqb}
-use Rattle.packet_reading.specs.Packet.{mostPackets}
+use Rattle.packet.specs.Packet.{mostPackets}
 use Rattle.places.specs.Places.{everyBelow, held, lacks, entryGood}
 use Rattle.places.specs.laws.Below.{every-next}
 use Rattle.places.proofs.Entries.{entry-limit, none-greater}

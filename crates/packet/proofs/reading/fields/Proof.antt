@@ -1,0 +1,163 @@
+-- `fields` walks the packet as its layout stands: one step a field, then the record is that of the values.
+use mathlib.Core.Path.{_≡_, refl, sym, ap, _∙_}
+use mathlib.Core.Bool.{Bool, true, cond}
+use mathlib.Core.List.{List}
+use Prim.Native.Nat.{ℕ, _-_, _*_, _≤_}
+use native.Mathlib.Omega.{arith}
+use lib.Dec.{eqb, lit<, lit≤}
+use lib.ListN.{length}
+use Rattle.walk.specs.Faults.{wholly}
+use Rattle.format.specs.Fmt.{also}
+use Rattle.format.specs.Message.{fieldsOf}
+use Rattle.format.specs.Words.{_‥_, ago}
+use Rattle.format.specs.laws.Answers.{told-so}
+use Rattle.format.specs.laws.Lead.{sized-fields, other-size}
+use Rattle.walk.specs.Reading.{ranged, carried}
+use Rattle.walk.specs.laws.Reading.{start, step-code, step-num, step-limits, step-rest, step-content}
+use Rattle.walk.specs.laws.Walked.{finish}
+use Rattle.packet.specs.Packet.{version, greatest, mostPackets, packet, recordOf, answerOf}
+use Rattle.packet.specs.declared.reading.Answer.the-variants.{Good, Refused}
+use borrow.Author.Needs.{needs}
+use Rattle.packet.proofs.reading.fields.Statement.{statement}
+use Rattle.packet.proofs.reading.fields.Tie as tie
+
+none-requires : tie.Need-none-requires
+none-requires c κs = search needs
+
+choose-requires : tie.Need-choose-requires
+choose-requires c κs = search needs
+
+-- a packet of another size is refused, by the first tests or by its size
+other : (lead : ℕ) (s : List ℕ) {b : Bool} {r : ℕ} → b ≡ eqb lead 0 → r ≡ cond b 1 lead → (5 ≤ length s → length s ≤ greatest → ⊥) → Refused r ≡ answerOf (also recordOf (fieldsOf packet 5 greatest lead s))
+other lead s e is n = ap Refused (is ∙ ap (λ x. cond x 1 lead) e) ∙ sym (ap (λ o. answerOf (also recordOf o)) (other-size packet 5 greatest lead s n))
+
+returns : tie.Need-returns
+returns c =
+    let x = c .before in
+    let a = x .before .before .before .args in
+    other (a .lead) (a .s .now) (x .before .none .ensures) (x .choose .ensures) (λ l u. omega (arith, l, c .if1 .taken))
+
+returns-2 : tie.Need-returns-2
+returns-2 c =
+    let x = c .before .before in
+    let a = x .before .before .before .args in
+    other (a .lead) (a .s .now) (x .before .none .ensures) (x .choose .ensures) (λ l u. omega (arith, u, c .if2 .taken))
+
+sub-content : tie.Need-sub-content
+sub-content c = search needs
+
+cast-content : tie.Need-cast-content
+cast-content c = search needs
+
+mul-content : tie.Need-mul-content
+mul-content c = search needs
+
+begin-requires : tie.Need-begin-requires
+begin-requires c κs = search needs
+
+code-requires : tie.Need-code-requires
+code-requires c κs = search needs
+
+code-requires-2 : tie.Need-code-requires-2
+code-requires-2 c κs = search needs
+
+num-requires : tie.Need-num-requires
+num-requires c κs = search needs
+
+cast-language : tie.Need-cast-language
+cast-language c = search needs
+
+num-requires-2 : tie.Need-num-requires-2
+num-requires-2 c κs = search needs
+
+cast-number : tie.Need-cast-number
+cast-number c = search needs
+
+num-requires-3 : tie.Need-num-requires-3
+num-requires-3 c κs = search needs
+
+cast-total : tie.Need-cast-total
+cast-total c = search needs
+
+last-requires : tie.Need-last-requires
+last-requires c κs = search needs
+
+num-requires-4 : tie.Need-num-requires-4
+num-requires-4 c κs = search needs
+
+cast-own : tie.Need-cast-own
+cast-own c = search needs
+
+rest-requires : tie.Need-rest-requires
+rest-requires c κs = search needs
+
+content-requires : tie.Need-content-requires
+content-requires c κs = search needs
+
+end-requires : tie.Need-end-requires
+end-requires c κs = search needs
+
+told-requires : tie.Need-told-requires
+told-requires c κs = search needs
+
+returns-3 : tie.Need-returns-3
+unfolding packet recordOf
+returns-3 c =
+    let ended = c .before in
+    let carrying = ended .before in
+    let rest = carrying .before in
+    let own = rest .before .before in
+    let most = own .before in
+    let total = most .before .before in
+    let number = total .before .before in
+    let language = number .before .before in
+    let edition = language .before in
+    let kind = edition .before in
+    let begin = kind .before in
+    let high = begin .before in
+    let low = high .before in
+    let i = low .before .before .before .before in
+    let a = i .args in
+    let s = a .s .now in
+    let n : wholly s 32 * 8 ≡ (length s - 4) * 8 = omega arith in
+    let r0 = start packet 0 (a .lead) s (begin .begin .ensures) in
+    let r1 = step-code 8 (lit≤ tt) (lit< tt) 0xE1 r0 (kind .code .ensures) in
+    let r2 = step-code 3 (lit≤ tt) (lit< tt) version r1 (edition .code2 .ensures) in
+    let r3 = step-num 1 (lit< tt) (lit≤ tt) (lit< tt) 0 1 r2 (language .num .ensures .0) in
+    let r4 = step-num 8 (lit< tt) (lit≤ tt) (lit< tt) 0 255 r3 (number .num2 .ensures .0) in
+    let r5 = step-num 6 (lit< tt) (lit≤ tt) (lit< tt) 1 mostPackets r4 (total .num3 .ensures .0) in
+    let r6 = step-limits 6 (lit< tt) (lit≤ tt) (lit< tt) 3 0 _ (λ h. (0 ‥ ago 0 h - 1) h) (λ v. refl) r5 (own .num4 .ensures .0 ∙ ap (λ n. ranged s 6 true 0 n 4 (total .num3 .result)) (most .last .ensures)) in
+    let r7 = step-rest (lit< tt) r6 (rest .rest .ensures) in
+    let r8 = step-content (wholly s 32 * 8) (omega arith) r7 (carrying .content .ensures ∙ ap (λ w. carried s w (rest .rest .result)) (sym n)) in
+    let w = finish (omega arith) r8 (ended .end .ensures) in
+    c .told .ensures ∙ told-so (λ r. Good (r .0)) Refused recordOf _ _ (ended .end .result .code) (ended .end .result .place) (w .so)
+    ∙ sym (ap (λ o. answerOf (also recordOf o)) (sized-fields packet 5 greatest (a .lead) s (λ z. (omega (arith, low .if1 .left), omega (arith, high .if2 .left)))))
+
+pub fields-spec : {M : Type 1} → statement M
+fields-spec =
+    tie.close
+    (tie.spec
+    none-requires
+    choose-requires
+    returns
+    returns-2
+    sub-content
+    cast-content
+    mul-content
+    begin-requires
+    code-requires
+    code-requires-2
+    num-requires
+    cast-language
+    num-requires-2
+    cast-number
+    num-requires-3
+    cast-total
+    last-requires
+    num-requires-4
+    cast-own
+    rest-requires
+    content-requires
+    end-requires
+    told-requires
+    returns-3)

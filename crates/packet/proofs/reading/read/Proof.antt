@@ -1,0 +1,25 @@
+-- `read` is the fields behind the first tests.
+use mathlib.Core.Path.{sym, ap, _∙_}
+use Rattle.format.specs.Fmt.{also}
+use Rattle.format.specs.laws.Lead.{read-first, sized-fields}
+use Rattle.packet.specs.laws.Sound.{sized}
+use Rattle.packet.specs.Packet.{greatest, packet, packets, recordOf, answerOf}
+use borrow.Author.Needs.{needs}
+use Rattle.packet.proofs.reading.read.Statement.{statement}
+use Rattle.packet.proofs.reading.read.Tie as tie
+
+lead-requires : tie.Need-lead-requires
+lead-requires c κs = search needs
+
+fields-requires : tie.Need-fields-requires
+fields-requires c κs = search needs
+
+returns : tie.Need-returns
+unfolding packets
+returns c =
+    let lead = c .before in
+    let s = lead .before .before .args .s .now in
+    c .fields .ensures ∙ ap (λ o. answerOf (also recordOf o)) (sized-fields packet 5 greatest (lead .lead .result) s (λ z. sized s (sym (lead .lead .ensures) ∙ z)) ∙ sym (read-first packets s (lead .lead .ensures)))
+
+pub read-spec : {M : Type 1} → statement M
+read-spec = tie.close (tie.spec lead-requires fields-requires returns)

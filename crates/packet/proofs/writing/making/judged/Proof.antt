@@ -1,0 +1,95 @@
+-- `judged` walks the head's values in bit order, each step a law of judging; the content is as many bits as its bytes have, and any will do.
+use mathlib.Core.Path.{refl, ap, _∙_}
+use Prim.Native.Nat.{_-_, _*_}
+use native.Mathlib.Omega.{arith}
+use lib.Dec.{lit<}
+use lib.ListN.{length}
+use Rattle.bits.specs.Bits.{valueOf, bitsOf}
+use Rattle.bits.specs.laws.Runs.{bytes-value-lt}
+use Rattle.format.specs.Words.{any, _‥_, ago}
+use Rattle.format.specs.laws.Extent.{opens-field}
+use Rattle.format.specs.laws.Tells.{only-tells, wrong-tells}
+use Rattle.walk.specs.Judging.{valued}
+use Rattle.walk.specs.laws.Judging.{judge-start, judge-fixed, judge-num, judge-late, valued-between, judge-bytes, judge-beyond, judge-end}
+use Rattle.packet.specs.Packet.{version, mostPackets, packet, valuesOf}
+use borrow.Author.Needs.{needs}
+use Rattle.packet.proofs.writing.making.judged.Statement.{statement}
+use Rattle.packet.proofs.writing.making.judged.Tie as tie
+
+begin-requires : tie.Need-begin-requires
+begin-requires c κs = search needs
+
+fixed-requires : tie.Need-fixed-requires
+fixed-requires c κs = search needs
+
+fixed-requires-2 : tie.Need-fixed-requires-2
+fixed-requires-2 c κs = search needs
+
+cast-value : tie.Need-cast-value
+cast-value c = search needs
+
+value-requires : tie.Need-value-requires
+value-requires c κs = search needs
+
+cast-value-2 : tie.Need-cast-value-2
+cast-value-2 c = search needs
+
+value-requires-2 : tie.Need-value-requires-2
+value-requires-2 c κs = search needs
+
+cast-value-3 : tie.Need-cast-value-3
+cast-value-3 c = search needs
+
+value-requires-3 : tie.Need-value-requires-3
+value-requires-3 c κs = search needs
+
+cast-value-4 : tie.Need-cast-value-4
+cast-value-4 c = search needs
+
+last-requires : tie.Need-last-requires
+last-requires c κs = search needs
+
+value-requires-4 : tie.Need-value-requires-4
+value-requires-4 c κs = search needs
+
+returns : tie.Need-returns
+unfolding packet valuesOf
+returns c x =
+    let most = c .before in
+    let total = most .before .before in
+    let number = total .before .before in
+    let language = number .before .before in
+    let edition = language .before .before in
+    let kind = edition .before in
+    let begin = kind .before in
+    let i = begin .before in
+    let r = i .args .r in
+    let r0 = judge-start packet 0 0 (valuesOf (r, x)) (begin .begin .ensures) in
+    let r1 = judge-fixed 8 1 0xE1 (lit< tt) (lit< tt) r0 (kind .fixed .ensures) in
+    let r2 = judge-fixed 3 1 version (lit< tt) (lit< tt) r1 (edition .fixed2 .ensures) in
+    let r3 = judge-num 1 (lit< tt) 0 1 (lit< tt) r2 (language .value .ensures) in
+    let r4 = judge-num 8 (lit< tt) 0 255 (lit< tt) r3 (number .value2 .ensures) in
+    let r5 = judge-num 6 (lit< tt) 1 mostPackets (lit< tt) r4 (total .value3 .ensures) in
+    let r6 = judge-late 6 (λ h. (0 ‥ ago 0 h - 1) h) 0 (r .total - 1) (lit< tt) (λ z. let (some, few) = valued-between (number .value2 .result) 6 (r .total) 1 mostPackets (total .value3 .ensures) z in (omega (arith, few), λ l. refl)) r5
+    (c .value4 .ensures ∙ ap (λ n. valued 6 (r .own) 0 n (total .value3 .result)) (most .last .ensures)) in
+    let r7 = judge-bytes (omega arith) r6 in
+    let w = length x * 8 in
+    judge-end (judge-beyond 0 opens-field (wrong-tells w (valueOf (bitsOf x)) (only-tells w 3 any _) (bytes-value-lt x)) r7)
+
+pub judged-spec : {M : Type 1} → statement M
+judged-spec =
+    tie.close
+    (tie.spec
+    begin-requires
+    fixed-requires
+    fixed-requires-2
+    cast-value
+    value-requires
+    cast-value-2
+    value-requires-2
+    cast-value-3
+    value-requires-3
+    cast-value-4
+    last-requires
+    value-requires-4
+    returns)

@@ -1,0 +1,163 @@
+// The packet (paper 01, "Notice and packet"; 000, 5.2.2.2): a part of a notice, with its head.
+ghost use mathlib.Core.Path.{_≡_};
+ghost use mathlib.Core.Bool.{cond};
+ghost use Prim.Native.Nat.{_-_};
+ghost use lib.Dec.{eqb};
+ghost use Rattle.format.specs.Fmt.{also};
+ghost use Rattle.format.specs.Message.{fieldsOf};
+ghost use Rattle.packet.specs.Packet.{greatest, packet, packets, recordOf, answerOf, numberOf};
+ghost use Rattle.packet.specs.Promises.{Reads, Shows};
+ghost use Rattle.packet.specs.declared.reading.Answer.the-variants.{Good, Refused};
+use walk::choosing::choose;
+use walk::choosing::none;
+
+// The content stands beside the record: in the packet that was read, or lent to be written.
+pub struct Packet {
+    // 0 Chinese, 1 English.
+    pub language: u8,
+    // Of the notice.
+    pub number: u8,
+    // How many packets the notice has.
+    pub total: u8,
+    // This packet's number among them, from 0.
+    pub own: u8,
+}
+
+pub enum Answer {
+    Good(Packet),
+    Refused(u8),
+}
+
+impl Answer {
+    // The record, unless a walk over its packet ended with a refusal.
+    fn told(code: u8, r: Packet) -> Answer
+        ensures { λ a. ⌜ a ≡ cond (eqb code 0) (Good r) (Refused code) ⌝ }
+    {
+        if code != 0 {
+            return Answer::Refused(code);
+        }
+        Answer::Good(r)
+    }
+
+    // Its number: 0 for a good one.
+    pub fn refusal(self) -> u8
+        ensures { λ r. ⌜ r ≡ numberOf self ⌝ }
+    {
+        match self {
+            Answer::Good(_) => 0,
+            Answer::Refused(code) => code,
+        }
+    }
+}
+
+impl Packet {
+    // The bits of the head.
+    pub const BITS: usize = 32;
+
+    // Where the content begins.
+    pub const CONTENT: usize = Packet::BITS / 8;
+
+    pub const LEAST: usize = Packet::CONTENT + 1;
+
+    pub const GREATEST: usize = Packet::CONTENT + PART;
+
+    // The fields that may be corrected, by their place among the packet's.
+    pub const LANGUAGE: usize = 2;
+
+    pub const NUMBER: usize = 3;
+
+    pub const TOTAL: usize = 4;
+
+    pub const OWN: usize = 5;
+}
+
+pub const CODE: u64 = 0xE1;
+
+pub const VERSION: u64 = 1;
+
+// The greatest total, the most bytes of content in a packet, and so in a whole notice.
+pub const MOST: usize = 63;
+
+pub const PART: usize = 206;
+
+pub const JOINED: usize = MOST * PART;
+
+pub fn read(s: &[u8]) -> Answer
+    ensures { λ r. ⌜ Reads (now (s .entry)) r ⌝ }
+{
+    fields(s, lead(s))
+}
+
+// The content, as a part of the packet itself; an empty part where the packet is refused.
+pub fn content(s: &[u8]) -> &[u8]
+    ensures { λ r. ⌜ Shows (now (s .entry)) (now r) ⌝ }
+{
+    let code = read(s).refusal();
+    if code != 0 {
+        return &s[..0];
+    }
+    &s[Packet::CONTENT..]
+}
+
+// The first tests: smallest size, code and version, greatest size.
+pub fn lead(s: &[u8]) -> u8
+    ensures { λ r. ⌜ r ≡ packets .lead (now (s .entry)) ⌝ }
+{
+    let size = s.len();
+    if size < Packet::LEAST {
+        return format::SIZE;
+    }
+    if bits::get(s, 0, 8) != CODE {
+        return format::KIND;
+    }
+    if bits::get(s, 8, 3) != VERSION {
+        return format::KIND;
+    }
+    if size > Packet::GREATEST {
+        return format::SIZE;
+    }
+    0
+}
+
+// The fields in bit order, after the first tests' answer. Another size is refused at once: no field has then to be tested for it.
+pub fn fields(s: &[u8], lead: u8) -> Answer
+    ensures { λ r. ⌜ r ≡ answerOf (also recordOf (fieldsOf packet 5 greatest lead (now (s .entry)))) ⌝ }
+{
+    let other = choose(none(lead), format::SIZE, lead);
+    if s.len() < Packet::LEAST {
+        return Answer::Refused(other);
+    }
+    if s.len() > Packet::GREATEST {
+        return Answer::Refused(other);
+    }
+    let content = (s.len() - Packet::CONTENT) as u32 * 8;
+    let w = walk::walk::Walk::begin(lead, 0)
+        .code(s, 8, CODE)
+        .code(s, 3, VERSION);
+    let w = w.num(s, 1, 0, 1);
+    let language = w.v as u8;
+    let w = w.num(s, 8, 0, 255);
+    let number = w.v as u8;
+    let w = w.num(s, 6, 1, MOST as u64);
+    let total = w.v as u8;
+    let w = w.num(s, 6, 0, last(total));
+    let own = w.v as u8;
+    let w = w.rest(s).content(s, content).end(s);
+    let r = Packet {
+        language,
+        number,
+        total,
+        own,
+    };
+    Answer::told(w.code, r)
+}
+
+// The greatest own number of so many packets.
+pub fn last(total: u8) -> u64
+    ensures { λ r. ⌜ r ≡ total - 1 ⌝ }
+{
+    if total == 0 {
+        return 0;
+    }
+    total as u64 - 1
+}

@@ -1,6 +1,0 @@
--- The packet: its definitions and promises, and in `laws` what is proved of them.
-pub mod Packet
-pub mod Changed
-pub mod Promises
-mod Examples
-pub mod laws
