@@ -5,14 +5,17 @@ use places::PLACES;
 use places::Place;
 use places::Reply;
 
+pub mod accepting;
+pub mod asking;
+
 // A packet comes in. Its own refusal comes before that of a row too short.
 pub fn accept(places: &mut [Place], store: &mut [u8], packet: &[u8]) -> Reply
     ensures { λ r. ⌜ Accepts (now (places .entry)) (now (store .entry)) (now (packet .entry)) r (now (places .exit)) (now (store .exit)) ⌝ }
 {
     if places.len() < PLACES {
-        return desk_accepting::unplaced(packet);
+        return crate::accepting::unplaced(packet);
     }
-    let accepted = desk_accepting::accept(
+    let accepted = crate::accepting::accept(
         places[0],
         places[1],
         places[2],
@@ -38,7 +41,7 @@ pub fn ask(
     if places.len() < PLACES {
         return Reply::Refused(ROOM);
     }
-    let asked = desk_asking::ask(
+    let asked = crate::asking::ask(
         places[0],
         places[1],
         places[2],
@@ -60,7 +63,7 @@ pub fn drop(places: &mut [Place], store: &[u8], number: u8) -> Reply
     if places.len() < PLACES {
         return Reply::Refused(ROOM);
     }
-    let dropped = desk_asking::drop(places[0], places[1], places[2], places[3], store, number);
+    let dropped = crate::asking::drop(places[0], places[1], places[2], places[3], store, number);
     let at = dropped.at;
     places[at] = dropped.place;
     dropped.reply

@@ -24,9 +24,9 @@ pub fn accept(places: &mut [u8], store: &mut [u8], packet: &[u8], again: &mut u8
     ensures { λ code. ⌜ AcceptsIn (now (places .entry)) (now (store .entry)) (now (packet .entry)) (now (again .entry)) code (now (places .exit)) (now (store .exit)) (now (again .exit)) ⌝ }
 {
     if places.len() < PLACES * PLACE {
-        return desk_accepting::unplaced(packet).refusal();
+        return desk::accepting::unplaced(packet).refusal();
     }
-    let turn = desk_accepting::accept(
+    let turn = desk::accepting::accept(
         place(places, 0),
         place(places, 1),
         place(places, 2),
@@ -55,7 +55,7 @@ pub fn ask(
     if places.len() < PLACES * PLACE {
         return format::ROOM;
     }
-    let turn = desk_asking::ask(
+    let turn = desk::asking::ask(
         place(places, 0),
         place(places, 1),
         place(places, 2),
@@ -78,7 +78,7 @@ pub fn drop(places: &mut [u8], store: &[u8], number: u8) -> u8
     if places.len() < PLACES * PLACE {
         return format::ROOM;
     }
-    let turn = desk_asking::drop(
+    let turn = desk::asking::drop(
         place(places, 0),
         place(places, 1),
         place(places, 2),

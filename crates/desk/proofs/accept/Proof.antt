@@ -1,14 +1,14 @@
 -- `desk::accept` meets its contract: a walk of its MIR by hand, printed by tools/walks. Of what it calls it is known only that it meets its contract.
 -- Assumes nothing.
 use Rattle.desk.proofs.Walk.{_≡_, refl, ℕ, _<_, List, [], _∷_, ltb→lt, nltb→le, lit<, length, set, length-set, URA, spell, named, erased, imm, mut, w8, w64, tyInt, tyBool, tyPtr, tyRef, Val, SProp, ent, sep, emp, via, fst∗, id⊢, Fml, flft, Memory, Routine, Heap, Env, Calls, Loops, WpFn, Tables, Atoms, sem, Fun, Lfts, Shares, toks, givenOf, tables, tablesOf, Given, Item, ‵, raw, _⊛_, ⋆, atRet, _$_, _∵_, !, qed, by, move, keep, drop, use1, use2, split, join, fsplit, fjoin, feqL, suffices, frame, done, look, init, store, stop, hop, fld, from, lit, addr, of-opd, bin, and-then, no-more, assigns, first, branches, skips, exec, returns, returns-within, enter, alloc1, alloc0, params1, pass1, pass0, free0, agg, whole, sub, look-in, local, field-of, sets, lands-as, frees-room, frees-cell, returned, R, vals-of, byte-fits, reaches, knows, lent, points-to, reads-place, stores-place, four-made, FmC, fmOf, WpFn-mono, owns, Is, shows, u8, sliceVal, sliceTy, MutSlice, Room, slice-vals, mut-slice-tells, finally, ShrSlice, shr-slice-tells, opens-slice, closes-slice, owned, peeks, heard, nothing, Args, Vals, onEntry, Meets, tripleOf, Contract, Triple, calls-at, entered, cited, says, Stays, gave-slice, stay-dropped, walkOf, goes-gave-slice, goes-dropped, ends-at, walked, walk-meets, yes, plain, shrSliceOf, Place, Reply, Refused, unplaced, fourPlaces, placeAt, front, Accepts, AcceptTurn, accepts-row, accepts-short, place-ty, turn-ty, reply-ty, IsReply, replied, reply-told, reply-row, reply-val, turn-row, turn-told, at-fits, placed, said, reply-typed, turn-typed, reply-made, lasting}
-use Rattle.desk_accepting.proofs.accept as core
-use Rattle.desk_accepting.proofs.accept.Symbol as core-def
-use Rattle.desk_accepting.proofs.accept.Symbol.{name as #core}
-use Rattle.desk_accepting.proofs.accept.Met as core-thm
-use Rattle.desk_accepting.proofs.unplaced as short
-use Rattle.desk_accepting.proofs.unplaced.Symbol as short-def
-use Rattle.desk_accepting.proofs.unplaced.Symbol.{name as #short}
-use Rattle.desk_accepting.proofs.unplaced.Met as short-thm
+use Rattle.desk.proofs.accepting.accept as core
+use Rattle.desk.proofs.accepting.accept.Symbol as core-def
+use Rattle.desk.proofs.accepting.accept.Symbol.{name as #core}
+use Rattle.desk.proofs.accepting.accept.Met as core-thm
+use Rattle.desk.proofs.accepting.unplaced as short
+use Rattle.desk.proofs.accepting.unplaced.Symbol as short-def
+use Rattle.desk.proofs.accepting.unplaced.Symbol.{name as #short}
+use Rattle.desk.proofs.accepting.unplaced.Met as short-thm
 use Rattle.desk.proofs.accept.Key.{name as #this}
 use Rattle.desk.proofs.accept as this
 use Rattle.desk.proofs.accept.Statement as stated
@@ -123,5 +123,5 @@ accept-spec 𝓤 H 𝓜 𝓖 𝓡 =
     entered 𝓤 H (tripleOf 𝓤 H (𝓖 .A) this.signature (this.spec 𝓤 H (𝓖 .A) (𝓜 .mem) (𝓡 .run)))
     (tables 𝓤 H 𝓜 𝓡 code.env .C) (tables 𝓤 H 𝓜 𝓡 code.env .Λ) #this code.function (code.unfolded 𝓤 H 𝓜 𝓡)
     (meets 𝓤 H (𝓖 .A) (givenOf 𝓤 H 𝓜 𝓖) (𝓜 .mem) (𝓡 .run) (tablesOf 𝓤 H 𝓜 (tables 𝓤 H 𝓜 𝓡 code.env))
-    (cited 𝓤 H (Core 𝓤 H (𝓖 .A) (𝓜 .mem) (𝓡 .run)) 𝓜 𝓡 code.env #core core-def.routine code.calls-desk-accepting·accept (core-thm.met 𝓤 H 𝓜 𝓖 𝓡))
-    (cited 𝓤 H (Short 𝓤 H (𝓖 .A) (𝓜 .mem) (𝓡 .run)) 𝓜 𝓡 code.env #short short-def.routine code.calls-desk-accepting·unplaced (short-thm.met 𝓤 H 𝓜 𝓖 𝓡)))
+    (cited 𝓤 H (Core 𝓤 H (𝓖 .A) (𝓜 .mem) (𝓡 .run)) 𝓜 𝓡 code.env #core core-def.routine code.calls-desk·accepting·accept (core-thm.met 𝓤 H 𝓜 𝓖 𝓡))
+    (cited 𝓤 H (Short 𝓤 H (𝓖 .A) (𝓜 .mem) (𝓡 .run)) 𝓜 𝓡 code.env #short short-def.routine code.calls-desk·accepting·unplaced (short-thm.met 𝓤 H 𝓜 𝓖 𝓡)))

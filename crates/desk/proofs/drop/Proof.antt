@@ -1,10 +1,10 @@
 -- `desk::drop` meets its contract: a walk of its MIR by hand, printed by tools/walks. Of what it calls it is known only that it meets its contract.
 -- Assumes nothing.
 use Rattle.desk.proofs.Walk.{_≡_, refl, ℕ, _<_, _^_, List, [], _∷_, ltb→lt, nltb→le, lit<, length, set, length-set, URA, spell, named, imm, mut, w8, w64, tyInt, tyBool, tyPtr, tyRef, Val, vint, SProp, ent, emp, via, fst∗, Fml, flft, Memory, Routine, Heap, Env, Calls, Loops, WpFn, Tables, Atoms, Fun, Lfts, Shares, toks, givenOf, tables, tablesOf, Given, Item, ‵, raw, _⊛_, ⋆, atRet, _$_, _∵_, !, qed, by, move, keep, drop, use1, use2, split, join, fsplit, fjoin, suffices, frame, done, look, init, store, stop, from, lit, of-opd, bin, and-then, no-more, assigns, first, branches, skips, exec, returns, returns-within, enter, alloc1, alloc0, params1, pass1, pass0, free0, agg, local, field-of, sets, lands-as, frees-room, frees-cell, returned, R, vals-of, byte-fits, reaches, knows, lent, points-to, reads-place, stores-place, four-made, FmC, fmOf, WpFn-mono, owns, Is, shows, uint-vals, uint-tells, u8, sliceVal, sliceTy, MutSlice, Room, slice-vals, mut-slice-tells, finally, ShrSlice, shr-slice-tells, opens-slice, closes-slice, owned, peeks, heard, nothing, Args, Vals, onEntry, Meets, tripleOf, Contract, Triple, calls-at, entered, cited, says, Stays, gave-slice, stay-dropped, walkOf, goes-gave-slice, goes-dropped, ends-at, walked, walk-meets, yes, plain, shrSliceOf, Place, Reply, Refused, fourPlaces, placeAt, front, Drops, DropTurn, drops-row, drops-short, place-ty, turn-ty, reply-ty, IsReply, refused-is, reply-row, reply-val, turn-row, turn-told, at-fits, placed, said, reply-typed, turn-typed, reply-made, lasting}
-use Rattle.desk_asking.proofs.drop as core
-use Rattle.desk_asking.proofs.drop.Symbol as core-def
-use Rattle.desk_asking.proofs.drop.Symbol.{name as #core}
-use Rattle.desk_asking.proofs.drop.Met as core-thm
+use Rattle.desk.proofs.asking.drop as core
+use Rattle.desk.proofs.asking.drop.Symbol as core-def
+use Rattle.desk.proofs.asking.drop.Symbol.{name as #core}
+use Rattle.desk.proofs.asking.drop.Met as core-thm
 use Rattle.desk.proofs.drop.Key.{name as #this}
 use Rattle.desk.proofs.drop as this
 use Rattle.desk.proofs.drop.Statement as stated
@@ -103,4 +103,4 @@ drop-spec 𝓤 H 𝓜 𝓖 𝓡 =
     entered 𝓤 H (tripleOf 𝓤 H (𝓖 .A) this.signature (this.spec 𝓤 H (𝓖 .A) (𝓜 .mem) (𝓡 .run)))
     (tables 𝓤 H 𝓜 𝓡 code.env .C) (tables 𝓤 H 𝓜 𝓡 code.env .Λ) #this code.function (code.unfolded 𝓤 H 𝓜 𝓡)
     (meets 𝓤 H (𝓖 .A) (givenOf 𝓤 H 𝓜 𝓖) (𝓜 .mem) (𝓡 .run) (tablesOf 𝓤 H 𝓜 (tables 𝓤 H 𝓜 𝓡 code.env))
-    (cited 𝓤 H (Core 𝓤 H (𝓖 .A) (𝓜 .mem) (𝓡 .run)) 𝓜 𝓡 code.env #core core-def.routine code.calls-desk-asking·drop (core-thm.met 𝓤 H 𝓜 𝓖 𝓡)))
+    (cited 𝓤 H (Core 𝓤 H (𝓖 .A) (𝓜 .mem) (𝓡 .run)) 𝓜 𝓡 code.env #core core-def.routine code.calls-desk·asking·drop (core-thm.met 𝓤 H 𝓜 𝓖 𝓡)))

@@ -1,0 +1,101 @@
+-- `ask` meets its contract: the first tests refuse, no place has the number, or it is `answer` at the place that has it.
+use Prim.Native.Nat.{_≤_}
+use mathlib.Core.List.{[], _∷_}
+use mathlib.Core.Path.{refl, sym, ap, _∙_}
+use native.Mathlib.Omega.{arith}
+use borrow.Author.Needs.{needs}
+use Rattle.places.specs.Desk.{turnOf, stays}
+use Rattle.places.specs.Places.{fourPlaces, openAt}
+use Rattle.places.specs.declared.Reply.the-variants.{Refused}
+use Rattle.places.specs.laws.Outcomes.{asking-refused, asking-unknown}
+use Rattle.places.specs.laws.Four.{first-again}
+use Rattle.desk.proofs.AskingWays.{Found, found, asks, asked}
+use Rattle.desk.proofs.asking.ask.Statement.{statement}
+use Rattle.desk.proofs.asking.ask.Tie as tie
+
+-- what is known of the place that was picked
+here : (k : tie.After-pick) → let a = k .before .before .before .before .before .before .before .before .args in Found (a .a) (a .b) (a .c) (a .d) (a .store .now) (a .number) (k .before .before .open-at .result) (k .pick .result)
+here k =
+    let o = k .before .before in
+    let t = o .before .before in
+    let a = t .before .before .before .before .args in
+    found (a .a) (a .b) (a .c) (a .d) (a .store .now) (a .number) (o .open-at .result) (k .pick .result)
+    (sym (t .first-tests .ensures) ∙ o .before .if1 .left) (o .open-at .ensures) (omega (arith, k .before .if2 .left)) (k .pick .ensures)
+
+first-tests-requires : tie.Need-first-tests-requires
+first-tests-requires c κs = search needs
+
+staying-requires : tie.Need-staying-requires
+staying-requires c κs = search needs
+
+returns : tie.Need-returns
+returns c =
+    let t = c .before .before in
+    let a = t .before .before .before .before .args in
+    let ps = a .a ∷ a .b ∷ a .c ∷ a .d ∷ [] in
+    let s = a .store .now in
+    let b = a .notice .now in
+    let w = a .missing .now in
+    let e = t .first-tests .ensures in
+    let again = c .staying .ensures ∙ ap (λ k. turnOf (a .a ∷ []) (Refused k) stays) e in
+    asked (a .a) (a .b) (a .c) (a .d) s (a .number) b w b w _ (c .staying .result) (asking-refused ps s (a .number) b w (λ z. c .before .if1 .taken (e ∙ z)))
+    (again, first-again (c .staying .result) (a .a) _ again, refl, refl)
+
+open-at-requires : tie.Need-open-at-requires
+open-at-requires c κs = search needs
+
+staying-requires-2 : tie.Need-staying-requires-2
+staying-requires-2 c κs = search needs
+
+returns-2 : tie.Need-returns-2
+returns-2 c =
+    let o = c .before .before in
+    let t = o .before .before in
+    let a = t .before .before .before .before .args in
+    let ps = a .a ∷ a .b ∷ a .c ∷ a .d ∷ [] in
+    let s = a .store .now in
+    let b = a .notice .now in
+    let w = a .missing .now in
+    let z = sym (t .first-tests .ensures) ∙ o .before .if1 .left in
+    let none : fourPlaces ≤ openAt ps (a .number) = omega (arith, o .open-at .ensures, c .before .if2 .taken) in
+    let again = c .staying2 .ensures in
+    asked (a .a) (a .b) (a .c) (a .d) s (a .number) b w b w _ (c .staying2 .result) (asking-unknown ps s (a .number) b w z none)
+    (again, first-again (c .staying2 .result) (a .a) _ again, refl, refl)
+
+pick-requires : tie.Need-pick-requires
+pick-requires c κs = search needs
+
+answer-requires : tie.Need-answer-requires
+answer-requires c κs = let f = here (c .before .before) in (f .sized, f .within, f .deep)
+
+same-length : tie.Need-same-length
+same-length c = search needs
+
+same-length-2 : tie.Need-same-length-2
+same-length-2 c = search needs
+
+returns-3 : tie.Need-returns-3
+returns-3 c =
+    let r = c .before .before .before .before in
+    let k = r .before .before .before in
+    let a = k .before .before .before .before .before .before .before .before .args in
+    let s = a .store .now in
+    let b = a .notice .now in
+    let w = a .missing .now in
+    asked (a .a) (a .b) (a .c) (a .d) s (a .number) b w _ _ _ (r .answer .result) (asks (a .a) (a .b) (a .c) (a .d) s (a .number) (here k) b w) (r .answer .ensures)
+
+pub ask-spec : {M : Type 1} → statement M
+ask-spec =
+    tie.close
+    (tie.spec
+    first-tests-requires
+    staying-requires
+    returns
+    open-at-requires
+    staying-requires-2
+    returns-2
+    pick-requires
+    answer-requires
+    same-length
+    same-length-2
+    returns-3)

@@ -1,3 +1,0 @@
--- What the proofs of `accept` and `unplaced` cite.
-mod Joins
-mod Ways

@@ -1,3 +1,0 @@
--- What the proofs of `ask` and `drop` cite.
-mod Answers
-mod Ways
