@@ -6,8 +6,8 @@ use lib.ListN.{length, getD}
 use Rattle.places.specs.Desk.{storeBytes}
 use Rattle.places.specs.Places.{fourPlaces}
 use Rattle.desk_runs.specs.Runs.{Desk, Call, comes, asks, drops}
-use Rattle.desk_rows.specs.Bytes.{begins, rowIn}
-use Rattle.desk_rows.specs.Promises.{AcceptsIn, AsksIn, DropsIn}
+use Rattle.desk_bytes.specs.Bytes.{begins, rowIn}
+use Rattle.desk_bytes.specs.Promises.{AcceptsIn, AsksIn, DropsIn}
 
 -- what every call is lent, and what it leaves
 pub record Lent : Type 0 where

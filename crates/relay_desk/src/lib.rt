@@ -1,5 +1,5 @@
 // What C and Rust link of the desk: calls over lent bytes, each handed on to its own. Places are 67 bytes for each of four: the open mark (0 closed, 1 open), message number, language, total, and a size for each of 63 packets, 0 where it is not held.
-ghost use Rattle.desk_rows.specs.Promises.{AcceptsIn, AsksIn, DropsIn};
+ghost use Rattle.desk_bytes.specs.Promises.{AcceptsIn, AsksIn, DropsIn};
 
 // A packet comes in; `again` becomes 1 where it came before, 0 where it is new.
 #[no_mangle]
@@ -11,7 +11,7 @@ pub extern "C" fn bellnewt_desk_accept(
 ) -> u8
     ensures { λ code. ⌜ AcceptsIn (now (places .entry)) (now (store .entry)) (now (packet .entry)) (now (again .entry)) code (now (places .exit)) (now (store .exit)) (now (again .exit)) ⌝ }
 {
-    desk_rows::accept(places, store, packet, again)
+    desk_bytes::accept(places, store, packet, again)
 }
 
 // Asks for the notice of that message number: its bytes into the front of `notice`, how many they are into `count`, and its
@@ -28,7 +28,7 @@ pub extern "C" fn bellnewt_desk_ask(
 ) -> u8
     ensures { λ code. ⌜ AsksIn (now (places .entry)) (now (store .entry)) number (now (notice .entry)) (now (missing .entry)) (now (count .entry)) (now (language .entry)) code (now (places .exit)) (now (notice .exit)) (now (missing .exit)) (now (count .exit)) (now (language .exit)) ⌝ }
 {
-    desk_rows::ask(places, store, number, notice, missing, count, language)
+    desk_bytes::ask(places, store, number, notice, missing, count, language)
 }
 
 // Drops the notice of that message number.
@@ -36,5 +36,5 @@ pub extern "C" fn bellnewt_desk_ask(
 pub extern "C" fn bellnewt_desk_drop(places: &mut [u8], store: &[u8], number: u8) -> u8
     ensures { λ code. ⌜ DropsIn (now (places .entry)) (now (store .entry)) number code (now (places .exit)) ⌝ }
 {
-    desk_rows::drop(places, store, number)
+    desk_bytes::drop(places, store, number)
 }

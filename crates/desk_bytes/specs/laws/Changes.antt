@@ -17,9 +17,9 @@ use Rattle.places.specs.declared.Place.{Place}
 use Rattle.places.specs.declared.Reply.{Reply}
 use Rattle.places.specs.declared.Reply.the-variants.{Refused}
 use Rattle.places.specs.declared.Turn.{Turn}
-use Rattle.desk_rows.specs.Bytes.{placeBytes, begins, placeIn, rowIn, bytesOf, changedBytes}
-use Rattle.desk_rows.specs.laws.Fits.{moves, Fits, none, one, accepting-fits, asking-fits, dropping-fits}
-use Rattle.desk_rows.specs.Promises.{againOf, countOf, languageOf, AcceptsIn, AsksIn, DropsIn}
+use Rattle.desk_bytes.specs.Bytes.{placeBytes, begins, placeIn, rowIn, bytesOf, changedBytes}
+use Rattle.desk_bytes.specs.laws.Fits.{moves, Fits, none, one, accepting-fits, asking-fits, dropping-fits}
+use Rattle.desk_bytes.specs.Promises.{againOf, countOf, languageOf, AcceptsIn, AsksIn, DropsIn}
 
 -- ---- a turn
 

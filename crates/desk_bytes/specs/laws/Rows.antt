@@ -13,9 +13,9 @@ use Rattle.places.specs.Desk.{Change, applied, laid, accepting, asking, droppin
 use Rattle.places.specs.Places.{fourPlaces}
 use Rattle.places.specs.laws.Laid.{length-laid, laid-there, laid-elsewhere}
 use Rattle.places.specs.declared.Place.{Place}
-use Rattle.desk_rows.specs.Bytes.{placeBytes, begins, totalBehind, placeOf, placeIn, rowIn, bytesOf, changedBytes}
-use Rattle.desk_rows.specs.laws.Fits.{Fits, none, one, accepting-fits, asking-fits, dropping-fits}
-use Rattle.desk_rows.specs.laws.Changes.{fourIn, row-long, sized}
+use Rattle.desk_bytes.specs.Bytes.{placeBytes, begins, totalBehind, placeOf, placeIn, rowIn, bytesOf, changedBytes}
+use Rattle.desk_bytes.specs.laws.Fits.{Fits, none, one, accepting-fits, asking-fits, dropping-fits}
+use Rattle.desk_bytes.specs.laws.Changes.{fourIn, row-long, sized}
 use Rattle.places.specs.declared.Reply.{Reply}
 
 -- ---- one place

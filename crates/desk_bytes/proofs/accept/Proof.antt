@@ -4,9 +4,9 @@ use mathlib.Core.List.{[], _∷_}
 use Prim.Native.Nat.{_-_}
 use borrow.Author.Needs.{needs}
 use Rattle.places.specs.Promises.{AcceptTurn}
-use Rattle.desk_rows.specs.laws.Changes.{fourIn, row-long, accepts-in, accepts-few}
-use Rattle.desk_rows.proofs.accept.Statement.{statement}
-use Rattle.desk_rows.proofs.accept.Tie as tie
+use Rattle.desk_bytes.specs.laws.Changes.{fourIn, row-long, accepts-in, accepts-few}
+use Rattle.desk_bytes.proofs.accept.Statement.{statement}
+use Rattle.desk_bytes.proofs.accept.Tie as tie
 
 mul-if1 : tie.Need-mul-if1
 mul-if1 c = search needs

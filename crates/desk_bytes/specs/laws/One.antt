@@ -3,7 +3,7 @@ use mathlib.Core.Path.{_≡_}
 use mathlib.Core.List.{List}
 use Prim.Native.Nat.{ℕ}
 use Rattle.format.specs.laws.Family.{one-reading}
-use Rattle.desk_rows.specs.Promises.{AcceptsIn, AsksIn, DropsIn}
+use Rattle.desk_bytes.specs.Promises.{AcceptsIn, AsksIn, DropsIn}
 
 module _ (bs s : List ℕ) where
   pub one-accepting : (m : List ℕ) (again code code′ : ℕ) (cs cs′ t t′ : List ℕ) (x x′ : ℕ) → AcceptsIn bs s m again code cs t x → AcceptsIn bs s m again code′ cs′ t′ x′

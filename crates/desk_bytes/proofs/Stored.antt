@@ -7,7 +7,7 @@ use lib.ListN.{getD, length, take, drop, set, length-append, drop-of-length-le}
 use lib.Seq.{getD-take, getD-drop, length-take-le, take-length, take-at, drop-at, drop-drop, sets-eq}
 use Rattle.packet.specs.Packet.{mostPackets}
 use Rattle.places.specs.Desk.{laid}
-use Rattle.desk_rows.specs.Bytes.{placeBytes}
+use Rattle.desk_bytes.specs.Bytes.{placeBytes}
 
 -- a copy that covers what was there
 pub copied-whole : (s d : List ℕ) → length d ≤ length s → take (length s) s ++ drop (length s) d ≡ s

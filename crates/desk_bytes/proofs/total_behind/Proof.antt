@@ -2,8 +2,8 @@
 use mathlib.Core.Path.{refl, sym}
 use Prim.Native.Nat.{_-_}
 use borrow.Author.Tests.{le-leb, lt-leb}
-use Rattle.desk_rows.proofs.total_behind.Statement.{statement}
-use Rattle.desk_rows.proofs.total_behind.Tie as tie
+use Rattle.desk_bytes.proofs.total_behind.Statement.{statement}
+use Rattle.desk_bytes.proofs.total_behind.Tie as tie
 
 returns : tie.Need-returns
 returns c = sym (rw (le-leb (c .before .args .mark) 1 (c .if1 .taken)) refl)

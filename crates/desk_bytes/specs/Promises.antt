@@ -5,7 +5,7 @@ use Prim.Native.Nat.{ℕ}
 use Rattle.places.specs.Desk.{numberOf, accepting, asking, dropping}
 use Rattle.places.specs.declared.Reply.{Reply}
 use Rattle.places.specs.declared.Reply.the-variants.{Done, Again, Joined, Missing, Refused}
-use Rattle.desk_rows.specs.Bytes.{rowIn, changedBytes}
+use Rattle.desk_bytes.specs.Bytes.{rowIn, changedBytes}
 
 -- ---- what a reply leaves of a lent number x
 

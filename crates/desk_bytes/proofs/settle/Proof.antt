@@ -2,8 +2,8 @@
 use mathlib.Core.Path.{refl, sym, _∙_}
 use Prim.Native.Nat.{_-_}
 use borrow.Author.Needs.{needs}
-use Rattle.desk_rows.proofs.settle.Statement.{statement}
-use Rattle.desk_rows.proofs.settle.Tie as tie
+use Rattle.desk_bytes.proofs.settle.Statement.{statement}
+use Rattle.desk_bytes.proofs.settle.Tie as tie
 
 moves-requires : tie.Need-moves-requires
 moves-requires c κs = search needs

@@ -7,11 +7,11 @@ use lib.ListN.{length, set, length-set}
 use borrow.Author.Needs.{needs}
 use Rattle.packet.specs.Packet.{mostPackets}
 use Rattle.places.specs.Desk.{laid, laidWithin}
-use Rattle.desk_rows.specs.Bytes.{begins}
+use Rattle.desk_bytes.specs.Bytes.{begins}
 use Rattle.places.specs.laws.Laid.{laid-within, length-laid}
-use Rattle.desk_rows.proofs.Stored.{laid-more, four-stored}
-use Rattle.desk_rows.proofs.put.Statement.{statement}
-use Rattle.desk_rows.proofs.put.Tie as tie
+use Rattle.desk_bytes.proofs.Stored.{laid-more, four-stored}
+use Rattle.desk_bytes.proofs.put.Statement.{statement}
+use Rattle.desk_bytes.proofs.put.Tie as tie
 
 mul-at : tie.Need-mul-at
 mul-at c = search needs

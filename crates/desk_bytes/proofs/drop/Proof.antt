@@ -5,9 +5,9 @@ use Prim.Native.Nat.{_-_}
 use lib.ListN.{drop}
 use borrow.Author.Needs.{needs}
 use Rattle.places.specs.Promises.{DropTurn}
-use Rattle.desk_rows.specs.laws.Changes.{fourIn, row-long, drops-in, drops-few}
-use Rattle.desk_rows.proofs.drop.Statement.{statement}
-use Rattle.desk_rows.proofs.drop.Tie as tie
+use Rattle.desk_bytes.specs.laws.Changes.{fourIn, row-long, drops-in, drops-few}
+use Rattle.desk_bytes.proofs.drop.Statement.{statement}
+use Rattle.desk_bytes.proofs.drop.Tie as tie
 
 mul-if1 : tie.Need-mul-if1
 mul-if1 c = search needs

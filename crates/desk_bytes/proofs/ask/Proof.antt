@@ -4,9 +4,9 @@ use mathlib.Core.List.{[], _∷_}
 use Prim.Native.Nat.{_-_}
 use borrow.Author.Needs.{needs}
 use Rattle.places.specs.Promises.{AskTurn}
-use Rattle.desk_rows.specs.laws.Changes.{fourIn, row-long, asks-in, asks-few}
-use Rattle.desk_rows.proofs.ask.Statement.{statement}
-use Rattle.desk_rows.proofs.ask.Tie as tie
+use Rattle.desk_bytes.specs.laws.Changes.{fourIn, row-long, asks-in, asks-few}
+use Rattle.desk_bytes.proofs.ask.Statement.{statement}
+use Rattle.desk_bytes.proofs.ask.Tie as tie
 
 mul-if1 : tie.Need-mul-if1
 mul-if1 c = search needs

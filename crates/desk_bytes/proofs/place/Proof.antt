@@ -8,10 +8,10 @@ use lib.ListN.{getD, length, take, drop, length-drop, replicate, length-replicat
 use lib.Seq.{length-take-le}
 use borrow.Author.Needs.{needs}
 use Rattle.packet.specs.Packet.{mostPackets}
-use Rattle.desk_rows.specs.Bytes.{totalBehind, begins, placeBytes}
-use Rattle.desk_rows.proofs.Stored.{byte-there, sizes-there, copied-whole}
-use Rattle.desk_rows.proofs.place.Statement.{statement}
-use Rattle.desk_rows.proofs.place.Tie as tie
+use Rattle.desk_bytes.specs.Bytes.{totalBehind, begins, placeBytes}
+use Rattle.desk_bytes.proofs.Stored.{byte-there, sizes-there, copied-whole}
+use Rattle.desk_bytes.proofs.place.Statement.{statement}
+use Rattle.desk_bytes.proofs.place.Tie as tie
 
 mul-at : tie.Need-mul-at
 mul-at c = search needs
