@@ -1,4 +1,5 @@
 -- Runs of calls at the desk: their definitions, and in `laws` demand 2 of them.
 pub mod Runs
 mod Examples
+pub mod Lent
 pub mod laws

@@ -5,3 +5,5 @@ pub mod Told
 pub mod Steps
 pub mod Demand
 pub mod Older
+pub mod Follows
+pub mod BytesDemand

@@ -10,13 +10,13 @@ use lib.ListN.{length, drop, getD}
 use lib.Seq.{getD-take, getD-drop}
 use Rattle.places.specs.Desk.{numberOf}
 use Rattle.places.specs.Places.{fourPlaces, placeAt}
 use Rattle.desk_runs.specs.Runs.{Desk, Empty, Call, Part, since, Complete, Given, asked, due}
 use Rattle.desk_runs.specs.laws.Demand.{asked-is-due, handed-out-exactly, whole}
 use Rattle.desk_bytes.specs.Bytes.{placeBytes, begins, placeIn}
 use Rattle.desk_bytes.specs.Promises.{countOf, languageOf, AsksIn}
 use Rattle.desk_bytes.specs.laws.Changes.{fourIn, row-long}
-use Rattle.desk_row_runs.specs.Lent.{Lent, deskIn, EmptyIn, Run, callsOf}
-use Rattle.desk_row_runs.specs.laws.Follows.{follows}
+use Rattle.desk_runs.specs.Lent.{Lent, deskIn, EmptyIn, Run, callsOf}
+use Rattle.desk_runs.specs.laws.Follows.{follows}
 
 -- ---- an empty desk
 

@@ -6,10 +6,10 @@ use native.Mathlib.Omega.{arith}
 use lib.ListN.{length}
 use Rattle.places.specs.Desk.{numberOf}
 use Rattle.places.specs.Places.{fourPlaces}
 use Rattle.desk_runs.specs.Runs.{Call, comes, asks, drops, replyTo, after, run, log}
 use Rattle.desk_bytes.specs.Bytes.{begins, rowIn}
 use Rattle.desk_bytes.specs.laws.Rows.{accepts-leaves, asks-leaves, drops-leaves}
-use Rattle.desk_row_runs.specs.Lent.{Lent, deskIn, Run, none, accepts, answers, gives-up, callsOf}
+use Rattle.desk_runs.specs.Lent.{Lent, deskIn, Run, none, accepts, answers, gives-up, callsOf}
 
 pub record Follows (d : Lent) (h : List (Call × ℕ)) (e : Lent) : Type 0 where
   pub wide : begins fourPlaces ≤ length (e .places)

@@ -1,3 +1,0 @@
--- What is proved of runs over lent bytes.
-pub mod Follows
-pub mod Demand
