@@ -10,9 +10,9 @@ use Rattle.format.specs.laws.Putting.{Putting, Puts}
 use Rattle.walk.specs.Judging.{beyond}
 use Rattle.walk.specs.laws.Judging.{Judging, Judged}
 use Rattle.walk.specs.declared.walk.Walk.{Walk}
-use Rattle.areas_making.specs.declared.Stepped.{Stepped}
-use Rattle.notice_areas.specs.Row.{areasLong}
-use Rattle.notice_areas.specs.Standing.{front}
+use Rattle.notice_fields.specs.declared.making.Stepped.{Stepped}
+use Rattle.notice_fields.specs.Row.{areasLong}
+use Rattle.notice_fields.specs.Standing.{front}
 use Rattle.notice_reading.specs.Notice.{rest, notice}
 use Rattle.notice_reading.specs.Record.{headed, valuesOf}
 use Rattle.notice_reading.specs.declared.Notice.{Notice}

@@ -7,7 +7,7 @@ use lib.Dec.{leb, ltb}
 use lib.ListN.{length}
 use Rattle.format.specs.Fmt.{Out}
 use Rattle.format.specs.Message.{codeOf, leaves, into, writeMessage}
-use Rattle.notice_areas.specs.Row.{areasLong}
+use Rattle.notice_fields.specs.Row.{areasLong}
 use Rattle.notice_reading.specs.Notice.{notices}
 use Rattle.notice_reading.specs.Record.{valuesOf}
 use Rattle.notice_reading.specs.declared.Notice.{Notice}

@@ -3,7 +3,7 @@ ghost use Prim.Native.Nat.{_≤_};
 ghost use lib.ListN.{length};
 ghost use Rattle.packet.specs.Packet.{joined};
 ghost use Rattle.notice.specs.Making.{HeadJudged, NoticeJudged, HeadPut, NoticePut};
-use areas_making::Stepped;
+use notice_fields::making::Stepped;
 use notice_reading::Notice;
 use walk::choosing::choose;
 use walk::walk::Walk;
@@ -19,7 +19,7 @@ pub(crate) fn judged(r: Notice, areas: &[u32], text: &[u8], english: bool) -> St
             next: 0,
         };
     }
-    let all = areas_making::judge(areas, r.count);
+    let all = notice_fields::making::judge(areas, r.count);
     let next = all.next;
     let behind = all.walk;
     let fault = choose(text::spoken(text, 0, text.len(), english), 0, format::RANGE);
@@ -40,10 +40,10 @@ fn judged_head(r: Notice) -> Walk
     let w = w.value(
         4,
         r.subtype as u64,
-        notice_parts::least_subtype(kind),
-        notice_parts::most_subtype(kind),
+        notice_fields::parts::least_subtype(kind),
+        notice_fields::parts::most_subtype(kind),
     );
-    let w = notice_parts::judged_expiry(w, r.expiry as u64);
+    let w = notice_fields::parts::judged_expiry(w, r.expiry as u64);
     w.value(4, r.count as u64, 0, 15)
 }
 
@@ -52,7 +52,7 @@ pub(crate) fn put(buf: &mut [u8], r: Notice, areas: &[u32], text: &[u8])
     ensures { λ _. ⌜ NoticePut r (now (areas .entry)) (now (text .entry)) (now (buf .entry)) (now (buf .exit)) ⌝ }
 {
     put_head(buf, r);
-    let at = areas_making::put(buf, areas, r.count);
+    let at = notice_fields::making::put(buf, areas, r.count);
     bits::whole_bytes::put_bytes(buf, at, text);
     change::putting::fill(buf, at + text.len() * 8);
 }

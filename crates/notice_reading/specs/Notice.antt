@@ -7,8 +7,8 @@ use Rattle.bits.specs.Bits.{bytesOf}
 use Rattle.format.specs.Fmt.{Fmt, end, field, bytes}
 use Rattle.format.specs.Message.{Layout, led, between}
 use Rattle.format.specs.Words.{_‥_, unless, kept, _▹_, num, deciding}
-use Rattle.notice_parts.specs.Parts.{subtype, expiry}
-use Rattle.notice_areas.specs.Areas.{areas}
+use Rattle.notice_fields.specs.Parts.{subtype, expiry}
+use Rattle.notice_fields.specs.Areas.{areas}
 use Rattle.packet.specs.Packet.{joined}
 use Rattle.text.specs.Text.{inLanguage}
 

@@ -3,7 +3,7 @@ use Prim.Native.Nat.{ℕ, _-_, _*_}
 use mathlib.Core.List.{List, [], _∷_, _++_}
 use lib.ListN.{length, take, drop, getD}
 use Rattle.bits.specs.Bits.{valueOf, digits, bitsOf, bytesOf}
-use Rattle.notice_areas.specs.Row.{areasTold}
+use Rattle.notice_fields.specs.Row.{areasTold}
 use Rattle.notice_reading.specs.declared.Notice.{Notice}
 
 -- the record, its areas, its text

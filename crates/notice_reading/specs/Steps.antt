@@ -11,8 +11,8 @@ use Rattle.format.specs.Fmt.{Out, read}
 use Rattle.walk.specs.Reading.{ranged, ended}
 use Rattle.walk.specs.Walk.{begun, onward}
 use Rattle.walk.specs.declared.walk.Walk.{Walk}
-use Rattle.notice_areas.specs.Steps.{areasWalked}
-use Rattle.notice_parts.specs.Steps.{leastSubtype, mostSubtype, expiryRead}
+use Rattle.notice_fields.specs.Steps.{areasWalked}
+use Rattle.notice_fields.specs.PartsSteps.{leastSubtype, mostSubtype, expiryRead}
 use Rattle.text.specs.Text.{inLanguage}
 use Rattle.notice_reading.specs.Notice.{notice, sizes}
 use Rattle.notice_reading.specs.declared.Opening.{Opening}

@@ -115,7 +115,7 @@ pub fn read(s: &[u8], english: bool, areas: &mut [u32], text: &mut [u8]) -> Answ
         return Answer::Refused(format::ROOM);
     }
     // A row that is too short stays as it was.
-    let numbers = notice_numbers::fill(s, notice.count, areas);
+    let numbers = notice_fields::row::fill(s, notice.count, areas);
     if areas.len() < numbers {
         return Answer::Refused(format::ROOM);
     }
@@ -147,7 +147,7 @@ pub fn fields(s: &[u8], want: usize, english: bool) -> Course
     let head = head(s, want);
     let notice = head.notice;
     let front = head.walk;
-    let areas = notice_areas::walk(s, front, notice.count);
+    let areas = notice_fields::areas::walk(s, front, notice.count);
     let ending = close(s, areas, english);
     let walk = ending.walk;
     Course {
@@ -211,11 +211,11 @@ fn head(s: &[u8], want: usize) -> Opening
     let w = w.num(
         s,
         4,
-        notice_parts::least_subtype(kind),
-        notice_parts::most_subtype(kind),
+        notice_fields::parts::least_subtype(kind),
+        notice_fields::parts::most_subtype(kind),
     );
     let subtype = w.v as u8;
-    let w = notice_parts::expiry(s, w);
+    let w = notice_fields::parts::expiry(s, w);
     let expiry = w.v as u32;
     let walk = w.decide(s, 4, 0, 15);
     let count = walk.v as u8;

@@ -9,8 +9,8 @@ use Rattle.format.specs.Fmt.{accepted, readField, read}
 use Rattle.format.specs.Message.{readMessage}
 use Rattle.format.specs.Words.{walk, wide, orZero}
 use Rattle.text.specs.Text.{english, inLanguage}
-use Rattle.notice_parts.specs.Parts.{subtypes, subtype}
-use Rattle.notice_areas.specs.Areas.{points, areas}
+use Rattle.notice_fields.specs.Parts.{subtypes, subtype}
+use Rattle.notice_fields.specs.Areas.{points, areas}
 use Rattle.notice_reading.specs.Notice.{notice, notices}
 use Rattle.notice_reading.specs.Record.{headOf, textOf, recordOf}
 use Rattle.angles.specs.Angles.{northing}

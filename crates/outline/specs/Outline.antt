@@ -4,8 +4,8 @@ use mathlib.Core.List.{List, [], _∷_, _++_}
 use lib.IntN.{ℤ}
 use lib.ListN.{drop, getD}
 use Rattle.angles.specs.Angles.{northing, easting}
-use Rattle.notice_areas.specs.Areas.{Kind, sea, circle, several, kindOf}
-use Rattle.notice_areas.specs.Row.{insideCount, areaLong}
+use Rattle.notice_fields.specs.Areas.{Kind, sea, circle, several, kindOf}
+use Rattle.notice_fields.specs.Row.{insideCount, areaLong}
 
 -- n points told by a row of numbers
 unfoldable pub pointsOf : ℕ → List ℕ → List ℤ

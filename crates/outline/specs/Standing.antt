@@ -3,9 +3,9 @@ use Prim.Native.Nat.{ℕ, zero, suc, _+_}
 use mathlib.Core.List.{List, [], _∷_, _++_}
 use lib.IntN.{ℤ}
 use Rattle.bits.specs.Answers.{got}
-use Rattle.notice_numbers.specs.Shapes.{shapeAt}
+use Rattle.notice_fields.specs.Shapes.{shapeAt}
 use Rattle.angles.specs.Angles.{northing, easting}
-use Rattle.notice_parts.specs.Parts.{latitudeBits, longitudeBits, pointBits}
+use Rattle.notice_fields.specs.Parts.{latitudeBits, longitudeBits, pointBits}
 
 -- n points
 unfoldable pub pointsDrawn : List ℕ → ℕ → ℕ → List ℤ

@@ -3,15 +3,15 @@ ghost use mathlib.Core.Path.{_≡_};
 ghost use Prim.Native.Nat.{_+_, _*_, _^_, _≤_};
 ghost use lib.ListN.{length};
 ghost use lib.Seq.{sets};
-ghost use Rattle.notice_areas.specs.Standing.{front};
+ghost use Rattle.notice_fields.specs.Standing.{front};
 ghost use Rattle.outline.specs.Promises.{Outlines};
 ghost use Rattle.outline.specs.Standing.{pointsDrawn, outlineAt};
 pub use angles::latitude_of;
 pub use angles::longitude_of;
-use notice_areas::FRONT;
-use notice_parts::LATITUDE;
-use notice_parts::LONGITUDE;
-use notice_parts::POINT;
+use notice_fields::areas::FRONT;
+use notice_fields::parts::LATITUDE;
+use notice_fields::parts::LONGITUDE;
+use notice_fields::parts::POINT;
 
 // How many points, or the refusal.
 pub enum Answer {
@@ -30,7 +30,7 @@ pub fn outline(s: &[u8], english: bool, row: &mut [i32]) -> Answer
         return Answer::Refused(code);
     }
     let notice = f.notice;
-    let extent = notice_numbers::measure(s, notice.count);
+    let extent = notice_fields::row::measure(s, notice.count);
     let points = extent.points;
     if row.len() < points * 2 {
         return Answer::Refused(format::ROOM);
@@ -49,7 +49,7 @@ fn draw(s: &[u8], count: u8, row: &mut [i32])
     let mut at = FRONT;
     let mut i: usize = 0;
     while i < most {
-        let area = notice_numbers::area_at(s, at);
+        let area = notice_fields::row::area_at(s, at);
         draw_points(s, area.first, area.points, row, k);
         k += area.points * 2;
         at = area.next as u32;

@@ -12,8 +12,8 @@ use Rattle.format.specs.Message.{codeOf, leaves, into, readMessage, writeMessag
 use Rattle.format.specs.Promises.{readRecord, Writes, Corrects}
 use Rattle.format.specs.laws.Family.{read-values, written-read}
 use Rattle.format.specs.laws.Round.{clash}
-use Rattle.notice_areas.specs.Row.{areasLong, areasTold}
-use Rattle.notice_areas.specs.laws.Row.{exact-told, exact-more}
+use Rattle.notice_fields.specs.Row.{areasLong, areasTold}
+use Rattle.notice_fields.specs.laws.Row.{exact-told, exact-more}
 use Rattle.notice_reading.specs.Changed.{changed}
 use Rattle.notice_reading.specs.Notice.{notice, notices}
 use Rattle.notice_reading.specs.Promises.{toldOf, Reads}

@@ -24,8 +24,8 @@ use Rattle.walk.specs.laws.Loops.{Going}
 use Rattle.walk.specs.laws.Step.{clear, stuck}
 use Rattle.walk.specs.declared.walk.Walk.{Walk}
 use Rattle.text.specs.Text.{inLanguage}
-use Rattle.notice_parts.specs.Steps.{bare}
-use Rattle.notice_areas.specs.Standing.{front}
+use Rattle.notice_fields.specs.PartsSteps.{bare}
+use Rattle.notice_fields.specs.Standing.{front}
 use Rattle.notice_reading.specs.Notice.{text}
 use Rattle.notice_reading.specs.Record.{texted}
 

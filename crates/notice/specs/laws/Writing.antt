@@ -13,12 +13,12 @@ use Rattle.walk.specs.Judging.{bytesTo, beyond, closing}
 use Rattle.walk.specs.laws.Making.{write-refused, write-bare}
 use Rattle.walk.specs.laws.Step.{clear}
 use Rattle.walk.specs.declared.walk.Walk.{Walk}
-use Rattle.notice_areas.specs.Row.{areasLong}
+use Rattle.notice_fields.specs.Row.{areasLong}
 use Rattle.packet.specs.Packet.{joined}
 use Rattle.notice_reading.specs.Notice.{notice, notices}
 use Rattle.notice_reading.specs.Record.{valuesOf}
 use Rattle.notice_reading.specs.declared.Notice.{Notice}
-use Rattle.areas_making.specs.declared.Stepped.{Stepped}
+use Rattle.notice_fields.specs.declared.making.Stepped.{Stepped}
 use Rattle.notice.specs.Making.{NoticeJudged}
 use Rattle.notice.specs.Promises.{roomFor, enough, NoticeWrites}
 

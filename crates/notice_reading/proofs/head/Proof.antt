@@ -5,7 +5,7 @@ use mathlib.Core.Bool.{true, false}
 use borrow.Author.Needs.{needs}
 use Rattle.walk.specs.Reading.{ranged}
 use Rattle.walk.specs.declared.walk.Walk.{Walk}
-use Rattle.notice_parts.specs.Steps.{leastSubtype, mostSubtype, expiryRead}
+use Rattle.notice_fields.specs.PartsSteps.{leastSubtype, mostSubtype, expiryRead}
 use Rattle.notice_reading.specs.Steps.{openingOf}
 use Rattle.notice_reading.proofs.head.Statement.{statement}
 use Rattle.notice_reading.proofs.head.Tie as tie

@@ -7,7 +7,7 @@ use borrow.Author.Needs.{needs}
 use Rattle.bits.specs.Bits.{bytesAt}
 use Rattle.bits.specs.laws.Runs.{length-run}
 use Rattle.format.specs.Fmt.{also}
-use Rattle.notice_areas.specs.Standing.{front, areasAt}
+use Rattle.notice_fields.specs.Standing.{front, areasAt}
 use Rattle.notice_reading.specs.Record.{recordOf}
 use Rattle.notice_reading.specs.laws.Told.{reads-refused, reads-few, reads-short, reads-good, stored, kept-row, copied, walked-good, walked-bad, fields-are}
 use Rattle.notice_reading.specs.declared.Answer.the-variants.{Good}

@@ -13,9 +13,9 @@ use Rattle.format.specs.Fmt.{end, none, found, spot}
 use Rattle.format.specs.laws.Correct.{none-clash}
 use Rattle.format.specs.laws.Past.{Past, past-filled, past-found, filled-set}
 use Rattle.format.specs.laws.Spots.{spotsAlong, spot-along, eachAt, set-each, each-past, each-from, kept-entry}
-use Rattle.notice_areas.specs.Row.{areasLong, areasTold}
-use Rattle.notice_areas.specs.laws.Past.{areas-past, areas-filled}
-use Rattle.notice_areas.specs.laws.Row.{first-take, told-exact, exact-told}
+use Rattle.notice_fields.specs.Row.{areasLong, areasTold}
+use Rattle.notice_fields.specs.laws.Past.{areas-past, areas-filled}
+use Rattle.notice_fields.specs.laws.Row.{first-take, told-exact, exact-told}
 use Rattle.notice_reading.specs.Changed.{spots, changed}
 use Rattle.notice_reading.specs.Notice.{text, rest, notice}
 use Rattle.notice_reading.specs.Record.{Whole, headed, texted, valuesOf}

@@ -20,8 +20,8 @@ use Rattle.format.specs.laws.Runs.{run-value}
 use Rattle.format.specs.laws.Whole.{was}
 use Rattle.text.specs.Text.{inLanguage}
 use Rattle.text.specs.laws.Clean.{no-line-end}
-use Rattle.notice_areas.specs.Row.{areasLong, areasTold}
-use Rattle.notice_areas.specs.laws.Row.{told-again, told-exact, exact-told}
+use Rattle.notice_fields.specs.Row.{areasLong, areasTold}
+use Rattle.notice_fields.specs.laws.Row.{told-again, told-exact, exact-told}
 use Rattle.notice_reading.specs.Changed.{changed}
 use Rattle.notice_reading.specs.Notice.{notice, notices}
 use Rattle.notice_reading.specs.Promises.{housed, toldOf, answerOf, Reads}

@@ -12,11 +12,11 @@ use Rattle.format.specs.laws.Extent.{extent-lay}
 use Rattle.format.specs.laws.Held.{Held}
 use Rattle.format.specs.laws.Past.{Filled, past-held, past-counted, held-filled}
 use Rattle.format.specs.laws.Zero.{Counted}
-use Rattle.notice_areas.specs.Areas.{areas}
-use Rattle.notice_areas.specs.Row.{areasLong, areasTold}
-use Rattle.notice_areas.specs.Standing.{front}
-use Rattle.notice_areas.specs.laws.Past.{areas-past, areas-filled}
-use Rattle.notice_areas.specs.laws.Row.{first-take, exact-told}
+use Rattle.notice_fields.specs.Areas.{areas}
+use Rattle.notice_fields.specs.Row.{areasLong, areasTold}
+use Rattle.notice_fields.specs.Standing.{front}
+use Rattle.notice_fields.specs.laws.Past.{areas-past, areas-filled}
+use Rattle.notice_fields.specs.laws.Row.{first-take, exact-told}
 use Rattle.text.specs.Text.{inLanguage}
 use Rattle.notice_reading.specs.Notice.{text, rest, notice}
 use Rattle.notice_reading.specs.Record.{Whole, headed, texted, textOf, valuesOf, headOf}

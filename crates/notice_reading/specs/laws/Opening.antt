@@ -10,11 +10,11 @@ use Rattle.walk.specs.Reading.{ranged}
 use Rattle.walk.specs.Walk.{begun, onward}
 use Rattle.walk.specs.laws.Along.{Going, going}
 use Rattle.walk.specs.laws.Reading.{start, step-num, step-limits, step-decide, got-lt}
-use Rattle.notice_areas.specs.Standing.{front}
-use Rattle.notice_parts.specs.Parts.{subtype}
-use Rattle.notice_parts.specs.Steps.{leastSubtype, mostSubtype, expiryRead}
-use Rattle.notice_parts.specs.laws.Subtypes.{subtype-limits}
-use Rattle.notice_parts.specs.laws.Walking.{expiry-read}
+use Rattle.notice_fields.specs.Standing.{front}
+use Rattle.notice_fields.specs.Parts.{subtype}
+use Rattle.notice_fields.specs.PartsSteps.{leastSubtype, mostSubtype, expiryRead}
+use Rattle.notice_fields.specs.laws.Subtypes.{subtype-limits}
+use Rattle.notice_fields.specs.laws.PartsWalking.{expiry-read}
 use Rattle.notice_reading.specs.Notice.{rest, notice}
 use Rattle.notice_reading.specs.Record.{headed}
 use Rattle.notice_reading.specs.Steps.{fieldsRead, openingOf}

@@ -10,8 +10,8 @@ use Rattle.format.specs.Fmt.{bad, end}
 use Rattle.format.specs.Message.{Sound}
 use Rattle.format.specs.Words.{unless}
 use Rattle.format.specs.laws.Zero.{Numbered, Judged, only-numbered}
-use Rattle.notice_parts.specs.laws.Walking.{expiry-numbered}
-use Rattle.notice_areas.specs.laws.Numbered.{areas-numbered}
+use Rattle.notice_fields.specs.laws.PartsWalking.{expiry-numbered}
+use Rattle.notice_fields.specs.laws.Numbered.{areas-numbered}
 use Rattle.packet.specs.Packet.{joined}
 use Rattle.text.specs.Text.{inLanguage}
 use Rattle.notice_reading.specs.Notice.{text, notice, notices}

@@ -23,10 +23,10 @@ use Rattle.format.specs.laws.Lead.{read-first, held-back, read-led}
 use Rattle.walk.specs.Walk.{begun}
 use Rattle.walk.specs.laws.Step.{clear, stuck}
 use Rattle.walk.specs.laws.Walked.{Walked, same-values}
-use Rattle.notice_areas.specs.Standing.{front, areasAt}
-use Rattle.notice_areas.specs.Steps.{areasWalked}
-use Rattle.notice_areas.specs.laws.Walking.{areas-along}
-use Rattle.notice_numbers.specs.Shapes.{filled}
+use Rattle.notice_fields.specs.Standing.{front, areasAt}
+use Rattle.notice_fields.specs.Steps.{areasWalked}
+use Rattle.notice_fields.specs.laws.Walking.{areas-along}
+use Rattle.notice_fields.specs.Shapes.{filled}
 use Rattle.packet.specs.Packet.{joined}
 use Rattle.notice_reading.specs.Notice.{notice, notices, sizes}
 use Rattle.notice_reading.specs.Steps.{fieldsRead, openingOf, endingOf, unreadBy, behind, courseOf}

@@ -17,9 +17,9 @@ use Rattle.txsq.specs.Txsq.{txsq, txsqs, recordOf as txsqOf}
 use Rattle.gljc.specs.Gljc.{gljc, gljcs}
 use Rattle.distress.specs.Report.{report, reports, reportOf, valuesOf as reportValues}
 use Rattle.distress.specs.Changed.{changed}
-use Rattle.notice_parts.specs.Parts.{subtypes, subtype}
-use Rattle.notice_areas.specs.Areas.{points, areas}
-use Rattle.notice_areas.specs.Row.{first, areasLong}
+use Rattle.notice_fields.specs.Parts.{subtypes, subtype}
+use Rattle.notice_fields.specs.Areas.{points, areas}
+use Rattle.notice_fields.specs.Row.{first, areasLong}
 use Rattle.notice_reading.specs.Notice.{notice, notices}
 use Rattle.notice_reading.specs.Record.{headOf, textOf, recordOf as noticeOf, valuesOf as noticeValues}
 use Rattle.packet.specs.Packet.{packet, packets, recordOf as packetOf, valuesOf as packetValues}

@@ -5,10 +5,10 @@ use native.Mathlib.Omega.{arith}
 use native.Mathlib.Numerals.{add-one}
 use lib.ListN.{length}
 use lib.Seq.{sets, length-sets}
-use Rattle.notice_areas.specs.Standing.{front, areaMost, areasEnd}
-use Rattle.notice_numbers.specs.Shapes.{shapeAt, pointsIn}
-use Rattle.notice_numbers.specs.declared.Shape.{Shape}
-use Rattle.notice_numbers.specs.laws.Shapes.{area-small, next-more, points-more}
+use Rattle.notice_fields.specs.Standing.{front, areaMost, areasEnd}
+use Rattle.notice_fields.specs.Shapes.{shapeAt, pointsIn}
+use Rattle.notice_fields.specs.declared.row.Shape.{Shape}
+use Rattle.notice_fields.specs.laws.Shapes.{area-small, next-more, points-more}
 use Rattle.outline.specs.Standing.{pointsDrawn, areaDrawn, outlineAt}
 use Rattle.outline.specs.laws.Drawing.{outline-at-long, points-within, first-near, area-turn}
 use Rattle.outline.proofs.draw.Statement.{statement}

@@ -7,7 +7,7 @@ use lib.ListN.{length, length-set}
 use lib.Seq.{sets}
 use Rattle.bits.specs.Answers.{got}
 use Rattle.angles.specs.Angles.{northing, easting}
-use Rattle.notice_parts.specs.Parts.{latitudeBits, longitudeBits, pointBits}
+use Rattle.notice_fields.specs.Parts.{latitudeBits, longitudeBits, pointBits}
 use Rattle.outline.specs.Standing.{pointsDrawn}
 use Rattle.angles.specs.laws.Angles.{latitude-stored, longitude-stored}
 use Rattle.outline.specs.laws.Drawing.{point-turn}

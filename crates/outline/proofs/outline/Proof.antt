@@ -6,8 +6,8 @@ use lib.ListN.{length}
 use lib.Seq.{sets}
 use borrow.Author.Needs.{needs}
 use Rattle.format.specs.Fmt.{also}
-use Rattle.notice_areas.specs.Standing.{front, areasAt}
-use Rattle.notice_numbers.specs.declared.Extent.{Extent}
+use Rattle.notice_fields.specs.Standing.{front, areasAt}
+use Rattle.notice_fields.specs.declared.row.Extent.{Extent}
 use Rattle.notice_reading.specs.Record.{recordOf}
 use Rattle.notice_reading.specs.laws.Told.{walked-good, walked-bad, fields-are}
 use Rattle.outline.specs.Outline.{outlineOf}

@@ -8,14 +8,14 @@ use lib.IntN.{ℤ}
 use lib.ListN.{length, drop, getD, set, length-append}
 use lib.Seq.{sets, drop-at}
 use Rattle.bits.specs.Answers.{got}
-use Rattle.notice_areas.specs.Areas.{Kind, sea, circle, several, kindOf}
-use Rattle.notice_areas.specs.Row.{insideLong, insideCount, areaLong}
-use Rattle.notice_areas.specs.Standing.{pointsAt, insideAt, areaWide, areasAt, areasEnd}
-use Rattle.notice_numbers.specs.Shapes.{shapeAs, shapeAt, pointsIn}
-use Rattle.notice_numbers.specs.laws.Shapes.{points-long, area-next, area-small}
-use Rattle.notice_numbers.specs.laws.Rows.{sets-on}
+use Rattle.notice_fields.specs.Areas.{Kind, sea, circle, several, kindOf}
+use Rattle.notice_fields.specs.Row.{insideLong, insideCount, areaLong}
+use Rattle.notice_fields.specs.Standing.{pointsAt, insideAt, areaWide, areasAt, areasEnd}
+use Rattle.notice_fields.specs.Shapes.{shapeAs, shapeAt, pointsIn}
+use Rattle.notice_fields.specs.laws.Shapes.{points-long, area-next, area-small}
+use Rattle.notice_fields.specs.laws.Rows.{sets-on}
 use Rattle.angles.specs.Angles.{northing, easting}
-use Rattle.notice_parts.specs.Parts.{latitudeBits, longitudeBits, pointBits}
+use Rattle.notice_fields.specs.Parts.{latitudeBits, longitudeBits, pointBits}
 use Rattle.outline.specs.Outline.{pointsOf, insideOf, outlineOf, pointCount}
 use Rattle.outline.specs.Standing.{pointsDrawn, areaDrawn, outlineAt}
 

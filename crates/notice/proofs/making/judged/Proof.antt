@@ -11,10 +11,10 @@ use Rattle.walk.specs.Walk.{onward}
 use Rattle.walk.specs.declared.walk.Walk.{Walk}
 use Rattle.walk.specs.laws.Loops.{going}
 use Rattle.walk.specs.laws.Step.{clean}
-use Rattle.areas_making.specs.laws.Judging.{AreasAre, areas-are}
-use Rattle.notice_areas.specs.Row.{areasTold}
-use Rattle.notice_areas.specs.Standing.{front}
-use Rattle.notice_parts.specs.Steps.{bare}
+use Rattle.notice_fields.specs.laws.Judging.{AreasAre, areas-are}
+use Rattle.notice_fields.specs.Row.{areasTold}
+use Rattle.notice_fields.specs.Standing.{front}
+use Rattle.notice_fields.specs.PartsSteps.{bare}
 use Rattle.notice_reading.specs.Record.{texted, valuesOf}
 use Rattle.notice.specs.laws.Judging.{spoken-whole, text-judged, from-front, refused-judged}
 use Rattle.notice.proofs.making.judged.Statement.{statement}

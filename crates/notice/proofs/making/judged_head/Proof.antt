@@ -6,10 +6,10 @@ use lib.Dec.{lit<}
 use borrow.Author.Needs.{needs}
 use Rattle.walk.specs.Judging.{valued}
 use Rattle.walk.specs.laws.Judging.{judge-start, judge-num, judge-limits, judge-deciding, valued-between}
-use Rattle.notice_parts.specs.Parts.{subtype}
-use Rattle.notice_parts.specs.Steps.{leastSubtype, mostSubtype}
-use Rattle.notice_parts.specs.laws.Subtypes.{subtype-limits, most-subtype-fits}
-use Rattle.notice_parts.specs.laws.Walking.{expiry-judged}
+use Rattle.notice_fields.specs.Parts.{subtype}
+use Rattle.notice_fields.specs.PartsSteps.{leastSubtype, mostSubtype}
+use Rattle.notice_fields.specs.laws.Subtypes.{subtype-limits, most-subtype-fits}
+use Rattle.notice_fields.specs.laws.PartsWalking.{expiry-judged}
 use Rattle.notice_reading.specs.Notice.{notice as Notice·notice}
 use Rattle.notice_reading.specs.Record.{headed}
 use Rattle.notice.proofs.making.judged_head.Statement.{statement}

@@ -9,10 +9,10 @@ use Rattle.format.specs.laws.Extent.{opens-field}
 use Rattle.format.specs.laws.Putting.{put-bytes, put-run, put-fill, put-end, begins}
 use Rattle.format.specs.laws.Runs.{run-bits}
 use Rattle.walk.specs.laws.Loops.{PutsAlong}
-use Rattle.areas_making.specs.laws.Putting.{areas-along, areas-near}
-use Rattle.notice_areas.specs.Areas.{areas}
-use Rattle.notice_areas.specs.Row.{areasTold}
-use Rattle.notice_areas.specs.Standing.{front}
+use Rattle.notice_fields.specs.laws.Putting.{areas-along, areas-near}
+use Rattle.notice_fields.specs.Areas.{areas}
+use Rattle.notice_fields.specs.Row.{areasTold}
+use Rattle.notice_fields.specs.Standing.{front}
 use Rattle.notice_reading.specs.Record.{texted, valuesOf}
 use Rattle.notice.proofs.making.put.Statement.{statement}
 use Rattle.notice.proofs.making.put.Tie as tie

@@ -1,3 +1,0 @@
--- What is proved of them.
-pub mod Judging
-pub mod Putting

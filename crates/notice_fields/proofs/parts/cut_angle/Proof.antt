@@ -1,0 +1,43 @@
+-- `cut_angle` is four parts of the walk.
+use mathlib.Core.Path.{ap, _∙_}
+use Rattle.walk.specs.Reading.{parted}
+use borrow.Author.Needs.{needs}
+use Rattle.notice_fields.proofs.parts.cut_angle.Statement.{statement}
+use Rattle.notice_fields.proofs.parts.cut_angle.Tie as tie
+
+unsought-requires : tie.Need-unsought-requires
+unsought-requires c κs = search needs
+
+part-requires : tie.Need-part-requires
+part-requires c κs = search needs
+
+part-requires-2 : tie.Need-part-requires-2
+part-requires-2 c κs = search needs
+
+part-requires-3 : tie.Need-part-requires-3
+part-requires-3 c κs = search needs
+
+part-requires-4 : tie.Need-part-requires-4
+part-requires-4 c κs = search needs
+
+returns : tie.Need-returns
+returns c =
+    let c3 = c .before in
+    let c2 = c3 .before in
+    let c1 = c2 .before in
+    let w = c1 .before in
+    let a = w .before .before .args in
+    let s = a .s .now in
+    let degrees = c2 .part2 .ensures ∙ ap (parted s (a .d) 0 (a .most)) (c1 .part .ensures ∙ ap (parted s 1 0 1) (w .unsought .ensures)) in
+    c .part4 .ensures ∙ ap (parted s 7 0 99) (c3 .part3 .ensures ∙ ap (parted s 6 0 60) degrees)
+
+pub cut-angle-spec : {M : Type 1} → statement M
+cut-angle-spec =
+    tie.close
+    (tie.spec
+    unsought-requires
+    part-requires
+    part-requires-2
+    part-requires-3
+    part-requires-4
+    returns)

@@ -1,0 +1,56 @@
+-- `expiry` judges the number where it is there, else the parts and the whole past them.
+use mathlib.Core.Path.{sym, ap, _∙_}
+use Rattle.walk.specs.Reading.{grouped}
+use Rattle.walk.specs.laws.Parts.{by-number, by-parts}
+use Rattle.walk.specs.laws.Reading.{got-lt}
+use Rattle.notice_fields.specs.PartsSteps.{expiryJudged}
+use Rattle.notice_fields.specs.laws.PartsWalking.{expiry-v}
+use borrow.Author.Needs.{needs}
+use Rattle.notice_fields.proofs.parts.expiry.Statement.{statement}
+use Rattle.notice_fields.proofs.parts.expiry.Tie as tie
+
+holds-requires : tie.Need-holds-requires
+holds-requires c κs = search needs
+
+get-requires : tie.Need-get-requires
+get-requires c κs = search needs
+
+judged-expiry-requires : tie.Need-judged-expiry-requires
+judged-expiry-requires c κs = search needs
+
+returns : tie.Need-returns
+returns c =
+    let get = c .before in
+    let f = get .before in
+    let holds = f .before in
+    let a = holds .before .before .args in
+    let e = by-number _ (sym (holds .holds .ensures) ∙ f .if1 .taken) (c .judged-expiry .ensures ∙ ap (λ v. expiryJudged v (a .w)) (get .get .ensures)) in
+    (e, got-lt (a .s .now) (a .w .at) 21 (expiry-v (a .s .now) (a .w) e))
+
+moment-requires : tie.Need-moment-requires
+moment-requires c κs = search needs
+
+group-requires : tie.Need-group-requires
+group-requires c κs = search needs
+
+returns-2 : tie.Need-returns-2
+returns-2 c =
+    let m = c .before in
+    let f = m .before in
+    let holds = f .before in
+    let a = holds .before .before .args in
+    let s = a .s .now in
+    let e = by-parts _ (sym (holds .holds .ensures) ∙ f .if1 .left) (c .group .ensures ∙ ap (λ p. grouped s 21 p (a .w)) (m .moment .ensures)) in
+    (e, got-lt s (a .w .at) 21 (expiry-v s (a .w) e))
+
+pub expiry-spec : {M : Type 1} → statement M
+expiry-spec =
+    tie.close
+    (tie.spec
+    holds-requires
+    get-requires
+    judged-expiry-requires
+    returns
+    moment-requires
+    group-requires
+    returns-2)

@@ -1,0 +1,260 @@
+-- `fill_area` meets its contract: the kind is stored, then what an area of that kind holds.
+use Prim.Native.Nat.{_+_, _-_}
+use mathlib.Core.Path.{ap, _∙_}
+use native.Mathlib.Omega.{arith}
+use borrow.Author.Needs.{needs}
+use lib.ListN.{length, set, length-set}
+use lib.Seq.{length-sets}
+use Rattle.walk.specs.laws.Reading.{got-lt}
+use Rattle.notice_fields.specs.Parts.{pointBits}
+use Rattle.notice_fields.specs.Standing.{pointsAt}
+use Rattle.notice_fields.specs.laws.Rows.{sea-stored, circle-stored, sea-long, circle-long, several-long, several-stored}
+use Rattle.notice_fields.proofs.row.fill_area.Statement.{statement}
+use Rattle.notice_fields.proofs.row.fill_area.Tie as tie
+
+get-requires : tie.Need-get-requires
+get-requires c κs = search needs
+
+cast-row : tie.Need-cast-row
+cast-row c =
+    let a = c .before .before .before .args in
+    omega (arith, got-lt (a .s .now) (a .at) 3 (c .get .ensures))
+
+mul-row : tie.Need-mul-row
+mul-row c = search needs
+
+slice-write-row : tie.Need-slice-write-row
+slice-write-row c =
+    let a = c .before .before .before .args in
+    omega arith
+
+add-get : tie.Need-add-get
+add-get c = search needs
+
+get-requires-2 : tie.Need-get-requires-2
+get-requires-2 c κs = search needs
+
+cast-row-2 : tie.Need-cast-row-2
+cast-row-2 c =
+    let a = c .before .before .before .before .before .args in
+    omega (arith, got-lt (a .s .now) (a .at + 3) 8 (c .get2 .ensures))
+
+add-row : tie.Need-add-row
+add-row c = search needs
+
+mul-row-2 : tie.Need-mul-row-2
+mul-row-2 c = search needs
+
+slice-write-row-2 : tie.Need-slice-write-row-2
+slice-write-row-2 c =
+    let i = c .before in
+    let g = i .before in
+    let a = g .before .before .before .args in
+    let n = sea-long (a .s .now) (a .row .now) (a .k) (a .at) (g .get .ensures) (i .if1 .taken) in
+    simp length-set (omega (arith, n))
+
+same-length : tie.Need-same-length
+same-length c = search needs
+
+returns : tie.Need-returns
+returns c =
+    let i = c .before in
+    let g = i .before in
+    let a = g .before .before .before .args in
+    sea-stored (a .s .now) (a .row .now) (a .k) (a .at) (g .get .ensures) (i .if1 .taken) (c .get2 .ensures)
+
+add-fill-points : tie.Need-add-fill-points
+add-fill-points c = search needs
+
+add-fill-points-2 : tie.Need-add-fill-points-2
+add-fill-points-2 c = search needs
+
+fill-points-requires : tie.Need-fill-points-requires
+fill-points-requires c κs =
+    let i = c .before in
+    let g = i .before .before in
+    let a = g .before .before .before .args in
+    let n = circle-long (a .s .now) (a .row .now) (a .k) (a .at) (g .get .ensures) (i .if2 .taken) in
+    (omega arith, omega arith, simp length-set (omega (arith, n)))
+
+add-get-2 : tie.Need-add-get-2
+add-get-2 c = search needs
+
+add-get-3 : tie.Need-add-get-3
+add-get-3 c = search needs
+
+get-requires-3 : tie.Need-get-requires-3
+get-requires-3 c κs = search needs
+
+cast-row-3 : tie.Need-cast-row-3
+cast-row-3 c =
+    let a = c .before .before .before .before .before .before .before .before .before .before .args in
+    omega (arith, got-lt (a .s .now) (a .at + 3 + pointBits) 10 (c .get3 .ensures))
+
+add-row-2 : tie.Need-add-row-2
+add-row-2 c = search needs
+
+mul-row-3 : tie.Need-mul-row-3
+mul-row-3 c = search needs
+
+slice-write-row-3 : tie.Need-slice-write-row-3
+slice-write-row-3 c =
+    let p = c .before .before .before in
+    let i = p .before .before in
+    let g = i .before .before in
+    let a = g .before .before .before .args in
+    let n = circle-long (a .s .now) (a .row .now) (a .k) (a .at) (g .get .ensures) (i .if2 .taken) in
+    omega (arith, n, ap length (p .fill-points .ensures) ∙ length-sets (set (a .row .now) (a .k) (g .get .result)) (a .k + 1) (pointsAt (a .s .now) 1 (a .at + 3)), length-set (a .row .now) (a .k) (g .get .result))
+
+add-get-4 : tie.Need-add-get-4
+add-get-4 c = search needs
+
+add-get-5 : tie.Need-add-get-5
+add-get-5 c = search needs
+
+add-get-6 : tie.Need-add-get-6
+add-get-6 c = search needs
+
+get-requires-4 : tie.Need-get-requires-4
+get-requires-4 c κs = search needs
+
+cast-row-4 : tie.Need-cast-row-4
+cast-row-4 c =
+    let a = c .before .before .before .before .before .before .before .before .before .before .before .args in
+    omega (arith, got-lt (a .s .now) (a .at + 3 + pointBits + 10) 2 (c .get4 .ensures))
+
+add-row-3 : tie.Need-add-row-3
+add-row-3 c = search needs
+
+mul-row-4 : tie.Need-mul-row-4
+mul-row-4 c = search needs
+
+slice-write-row-4 : tie.Need-slice-write-row-4
+slice-write-row-4 c =
+    let p = c .before .before .before .before in
+    let i = p .before .before in
+    let g = i .before .before in
+    let a = g .before .before .before .args in
+    let n = circle-long (a .s .now) (a .row .now) (a .k) (a .at) (g .get .ensures) (i .if2 .taken) in
+    simp length-set (omega (arith, n, ap length (p .fill-points .ensures) ∙ length-sets (set (a .row .now) (a .k) (g .get .result)) (a .k + 1) (pointsAt (a .s .now) 1 (a .at + 3)), length-set (a .row .now) (a .k) (g .get .result)))
+
+same-length-2 : tie.Need-same-length-2
+same-length-2 c =
+    let p = c .before .before .before .before in
+    let g = p .before .before .before .before in
+    let a = g .before .before .before .args in
+    simp length-set (ap length (p .fill-points .ensures) ∙ length-sets (set (a .row .now) (a .k) (g .get .result)) (a .k + 1) (pointsAt (a .s .now) 1 (a .at + 3)) ∙ length-set (a .row .now) (a .k) (g .get .result))
+
+returns-2 : tie.Need-returns-2
+returns-2 c =
+    let g3 = c .before in
+    let p = g3 .before .before .before in
+    let i = p .before .before in
+    let g = i .before .before in
+    let a = g .before .before .before .args in
+    circle-stored (a .s .now) (a .row .now) (a .k) (a .at) (g .get .ensures) (i .if2 .taken) (p .fill-points .ensures) (g3 .get3 .ensures) (c .get4 .ensures)
+
+add-get-7 : tie.Need-add-get-7
+add-get-7 c = search needs
+
+get-requires-5 : tie.Need-get-requires-5
+get-requires-5 c κs = search needs
+
+cast-row-5 : tie.Need-cast-row-5
+cast-row-5 c =
+    let a = c .before .before .before .before .before .before .args in
+    omega (arith, got-lt (a .s .now) (a .at + 3) 4 (c .get5 .ensures))
+
+add-row-4 : tie.Need-add-row-4
+add-row-4 c = search needs
+
+mul-row-5 : tie.Need-mul-row-5
+mul-row-5 c = search needs
+
+slice-write-row-5 : tie.Need-slice-write-row-5
+slice-write-row-5 c =
+    let i = c .before in
+    let g = i .before .before in
+    let a = g .before .before .before .args in
+    let n = several-long (a .s .now) (a .row .now) (a .k) (a .at) (g .get .ensures) (i .before .if1 .left) (i .if2 .left) (c .get5 .ensures) in
+    simp length-set (omega (arith, n))
+
+add-fill-points-3 : tie.Need-add-fill-points-3
+add-fill-points-3 c = search needs
+
+add-fill-points-4 : tie.Need-add-fill-points-4
+add-fill-points-4 c = search needs
+
+fill-points-requires-2 : tie.Need-fill-points-requires-2
+fill-points-requires-2 c κs =
+    let g5 = c .before in
+    let i = g5 .before in
+    let g = i .before .before in
+    let a = g .before .before .before .args in
+    let n = several-long (a .s .now) (a .row .now) (a .k) (a .at) (g .get .ensures) (i .before .if1 .left) (i .if2 .left) (g5 .get5 .ensures) in
+    (omega arith, omega (arith, got-lt (a .s .now) (a .at + 3) 4 (g5 .get5 .ensures)), simp length-set (omega (arith, n)))
+
+same-length-3 : tie.Need-same-length-3
+same-length-3 c =
+    let p = c .before .before in
+    let g5 = p .before .before in
+    let g = g5 .before .before .before in
+    let a = g .before .before .before .args in
+    ap length (p .fill-points2 .ensures) ∙ length-sets (set (set (a .row .now) (a .k) (g .get .result)) (a .k + 1) (g5 .get5 .result)) (a .k + 2) (pointsAt (a .s .now) (g5 .get5 .result) (a .at + 7)) ∙ length-set (set (a .row .now) (a .k) (g .get .result)) (a .k + 1) (g5 .get5 .result) ∙ length-set (a .row .now) (a .k) (g .get .result)
+
+returns-3 : tie.Need-returns-3
+returns-3 c =
+    let p = c .before .before in
+    let g5 = p .before .before in
+    let i = g5 .before in
+    let g = i .before .before in
+    let a = g .before .before .before .args in
+    several-stored (a .s .now) (a .row .now) (a .k) (a .at) (g .get .ensures) (i .before .if1 .left) (i .if2 .left) (g5 .get5 .ensures) (p .fill-points2 .ensures)
+
+pub fill-area-spec : {M : Type 1} → statement M
+fill-area-spec =
+    tie.close
+    (tie.spec
+    get-requires
+    cast-row
+    mul-row
+    slice-write-row
+    add-get
+    get-requires-2
+    cast-row-2
+    add-row
+    mul-row-2
+    slice-write-row-2
+    same-length
+    returns
+    add-fill-points
+    add-fill-points-2
+    fill-points-requires
+    add-get-2
+    add-get-3
+    get-requires-3
+    cast-row-3
+    add-row-2
+    mul-row-3
+    slice-write-row-3
+    add-get-4
+    add-get-5
+    add-get-6
+    get-requires-4
+    cast-row-4
+    add-row-3
+    mul-row-4
+    slice-write-row-4
+    same-length-2
+    returns-2
+    add-get-7
+    get-requires-5
+    cast-row-5
+    add-row-4
+    mul-row-5
+    slice-write-row-5
+    add-fill-points-3
+    add-fill-points-4
+    fill-points-requires-2
+    same-length-3
+    returns-3)

@@ -1,0 +1,34 @@
+-- The areas of a notice (paper 01, "Notice and packet"; 000, 5.2.2.3.8): their layout. Assumes nothing.
+use Prim.Native.Nat.{ℕ, zero, suc}
+use mathlib.Core.Bool.{cond}
+use lib.Dec.{eqb}
+use Rattle.format.specs.Fmt.{Fmt}
+use Rattle.format.specs.Words.{_‥_, _▹_, num, deciding}
+use Rattle.notice_fields.specs.Parts.{latitude, longitude}
+
+-- what an area is, by its number: 0 a sea area; 3 a circle; 1 points, 2 a line, 4 a polygon, which have so many points at least
+pub data Kind : Type 0 where
+  sea : Kind
+  circle : Kind
+  several : (least : ℕ) → Kind
+
+-- at least 1 point, 2 of a line, 3 of a polygon
+abbrev pub leastOf : ℕ → ℕ
+leastOf k = cond (eqb k 1) 1 (cond (eqb k 2) 2 3)
+
+abbrev pub kindOf : ℕ → Kind
+kindOf k = cond (eqb k 0) sea (cond (eqb k 3) circle (several (leastOf k)))
+
+unfoldable pub points : ℕ → Fmt → Fmt
+points zero f = f
+points (suc n) f = latitude ▹ longitude ▹ points n f
+
+-- what an area holds: a code; its middle, radius and unit; or its points, counted
+abbrev pub inside : Kind → Fmt → Fmt
+inside sea f = num 8 (0 ‥ 255) f
+inside circle f = points 1 ▹ num 10 (0 ‥ 1_023) ▹ num 2 (0 ‥ 3) ▹ f
+inside (several least) f = deciding 4 (least ‥ 15) λ n. points n f
+
+unfoldable pub areas : ℕ → Fmt → Fmt
+areas zero f = f
+areas (suc n) f = deciding 3 (0 ‥ 4) λ k. inside (kindOf k) (areas n f)
