@@ -13,9 +13,9 @@ use Rattle.walk.specs.declared.walk.Walk.{Walk}
 use Rattle.notice_fields.specs.declared.making.Stepped.{Stepped}
 use Rattle.notice_fields.specs.Row.{areasLong}
 use Rattle.notice_fields.specs.Standing.{front}
-use Rattle.notice_reading.specs.Notice.{rest, notice}
-use Rattle.notice_reading.specs.Record.{headed, valuesOf}
-use Rattle.notice_reading.specs.declared.Notice.{Notice}
+use Rattle.notice.specs.Notice.{rest, notice}
+use Rattle.notice.specs.Record.{headed, valuesOf}
+use Rattle.notice.specs.declared.reading.Notice.{Notice}
 
 -- judging stands at the areas, whatever values follow
 pub record HeadJudged (r : Notice) (w : Walk) : Type 0 where

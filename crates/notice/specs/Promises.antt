@@ -1,27 +1,38 @@
--- What writing a notice promises of the buffer s that it is lent: what every layout's writing does; and 6, last, where the row has fewer numbers than its kinds and counts ask for. Assumes nothing.
+-- What reading a notice promises of the bytes s, the row and the buffer that it is lent; writing and correcting promise what every layout's do (format/specs/Promises). Assumes nothing.
 use mathlib.Core.Path.{_≡_}
-use mathlib.Core.Bool.{Bool, cond}
-use mathlib.Core.List.{List, []}
+use mathlib.Core.Bool.{Bool, _&&_}
+use mathlib.Core.List.{List}
 use Prim.Native.Nat.{ℕ}
-use lib.Dec.{leb, ltb}
+use lib.Dec.{leb}
 use lib.ListN.{length}
-use Rattle.format.specs.Fmt.{Out}
-use Rattle.format.specs.Message.{codeOf, leaves, into, writeMessage}
-use Rattle.notice_fields.specs.Row.{areasLong}
-use Rattle.notice_reading.specs.Notice.{notices}
-use Rattle.notice_reading.specs.Record.{valuesOf}
-use Rattle.notice_reading.specs.declared.Notice.{Notice}
+use Rattle.format.specs.Fmt.{Out, accepted, check, orBad, after}
+use Rattle.format.specs.Message.{ahead}
+use Rattle.format.specs.Promises.{answered, readRecord}
+use Rattle.notice.specs.Notice.{notices}
+use Rattle.notice.specs.Record.{Whole, recordOf}
+use Rattle.notice.specs.declared.reading.Told.{Told}
+use Rattle.notice.specs.declared.reading.Answer.{Answer}
+use Rattle.notice.specs.declared.reading.Answer.the-variants.{Good, Refused}
 
-abbrev pub roomFor : ℕ → ℕ → ℕ → ℕ
-roomFor has asked room = cond (ltb has asked) 0 room
+-- a record that a row of `areas` and a buffer of `text` entries have room for (6, tested last)
+abbrev pub housed : (areas text : ℕ) → Out Whole → Out Whole
+housed areas text o = after o (λ x. check (orBad (leb (length (x .1 .0)) areas && leb (length (x .1 .1)) text) 6) 0 (accepted x))
 
--- the row has what its kinds and counts ask for
-abbrev pub enough : Notice → List ℕ → Bool
-enough r areas = leb (areasLong (r .count) areas) (length areas)
+-- what an answer tells of it: the record, and how many numbers its areas and bytes its text have
+abbrev pub toldOf : Whole → Told
+toldOf x = record { notice = x .0; numbers = length (x .1 .0); text = length (x .1 .1) }
 
--- a writing's answer o in the buffer s, where the row has enough or not: the code, and t left of s
-abbrev pub Lays : Bool → Out (List ℕ) → List ℕ → ℕ → List ℕ → Type 0
-Lays has o s code t = (code ≡ codeOf (into (cond has s []) o)) × (t ≡ cond has (leaves (into s o) s) s)
+-- the paper's number and values
+abbrev pub answerOf : Out Whole → Answer
+answerOf = answered (λ x. Good (toldOf x)) Refused
 
-abbrev pub NoticeWrites : Bool → List ℕ → Notice → List ℕ → List ℕ → ℕ → List ℕ → Type 0
-NoticeWrites english s r areas text = Lays (enough r areas) (writeMessage (notices english) (valuesOf (r, (areas, text)))) s
+abbrev pub numberOf : Answer → ℕ
+numberOf (Good r) = 0
+numberOf (Refused c) = c
+
+-- the answer, and what is left of the row and the buffer
+abbrev pub Reads : Bool → List ℕ → List ℕ → List ℕ → Answer → List ℕ → List ℕ → Type 0
+Reads english s areas text a areas′ text′ = let o = housed (length areas) (length text) (readRecord (notices english) recordOf s) in
+    (a ≡ answerOf o)
+    × (areas′ ≡ answered (λ x. ahead (x .1 .0) areas) (λ c. areas) o)
+    × (text′ ≡ answered (λ x. ahead (x .1 .1) text) (λ c. text) o)

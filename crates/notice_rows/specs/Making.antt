@@ -5,10 +5,10 @@ use mathlib.Core.List.{List}
 use Rattle.format.specs.Fmt.{Out}
 use Rattle.format.specs.Message.{codeOf, leaves, writeMessage, correctMessage}
 use Rattle.rows.specs.Language.{spoken}
-use Rattle.notice_reading.specs.Notice.{notices}
-use Rattle.notice_reading.specs.Record.{valuesOf}
-use Rattle.notice_reading.specs.declared.Notice.{Notice}
-use Rattle.notice.specs.Promises.{enough, Lays}
+use Rattle.notice.specs.Notice.{notices}
+use Rattle.notice.specs.Record.{valuesOf}
+use Rattle.notice.specs.declared.reading.Notice.{Notice}
+use Rattle.notice.specs.WritingPromises.{enough, Lays}
 
 -- writing: the code, and t left of s
 abbrev pub WritesIn : ℕ → List ℕ → Notice → List ℕ → List ℕ → ℕ → List ℕ → Type 0

@@ -9,11 +9,11 @@ use Rattle.format.specs.Fmt.{Out, accepted, orBad, check, after}
 use Rattle.format.specs.Message.{codeOf, ahead}
 use Rattle.format.specs.Promises.{readRecord, answered}
 use Rattle.rows.specs.Language.{spoken}
-use Rattle.notice_reading.specs.Notice.{notices}
-use Rattle.notice_reading.specs.Record.{Whole, recordOf as wholeOf}
-use Rattle.notice_reading.specs.Promises.{housed, toldOf}
-use Rattle.notice_reading.specs.declared.Notice.{Notice}
-use Rattle.notice_reading.specs.declared.Told.{Told}
+use Rattle.notice.specs.Notice.{notices}
+use Rattle.notice.specs.Record.{Whole, recordOf as wholeOf}
+use Rattle.notice.specs.Promises.{housed, toldOf}
+use Rattle.notice.specs.declared.reading.Notice.{Notice}
+use Rattle.notice.specs.declared.reading.Told.{Told}
 
 -- source, station, serial, year, type, subtype, expiry, how many areas; then how many numbers these have, and bytes the text
 unfoldable pub rowOf : Told → List ℤ

@@ -3,9 +3,9 @@ ghost use mathlib.Core.Path.{_≡_};
 ghost use Prim.Native.Nat.{_<_, _^_};
 ghost use Rattle.notice_rows.specs.Notice.{rowOf, unroomed, NoticeFills};
 ghost use Rattle.notice_rows.specs.Making.{WritesIn, CorrectsIn};
-use notice_reading::Answer;
-use notice_reading::Notice;
-use notice_reading::Told;
+use notice::Answer;
+use notice::Notice;
+use notice::Told;
 
 // The greatest number of a language.
 const ENGLISH: u8 = 1;
@@ -23,9 +23,9 @@ pub fn read(s: &[u8], language: u8, row: &mut [i64], areas: &mut [u32], text: &m
     }
     let english = language == ENGLISH;
     if row.len() < ROW {
-        return unroomed(notice_reading::refusal(s, english));
+        return unroomed(notice::refusal(s, english));
     }
-    let answer = notice_reading::read(s, english, areas, text);
+    let answer = notice::read(s, english, areas, text);
     match answer {
         Answer::Good(r) => {
             let numbers = numbers(r);

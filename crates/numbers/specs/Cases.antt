@@ -13,8 +13,8 @@ use Rattle.gljc.specs.Gljc.{gljcs, recordOf as gljcOf}
 use Rattle.distress.specs.Report.{reports, reportOf, valuesOf as reportValues}
 use Rattle.distress.specs.Changed.{changed}
 use Rattle.distress.specs.declared.reading.Report.{Report}
-use Rattle.notice_reading.specs.Notice.{notices}
-use Rattle.notice_reading.specs.Record.{Whole, headed, recordOf as noticeOf, valuesOf as noticeValues}
+use Rattle.notice.specs.Notice.{notices}
+use Rattle.notice.specs.Record.{Whole, headed, recordOf as noticeOf, valuesOf as noticeValues}
 use Rattle.packet.specs.Packet.{packets, valuesOf as packetValues}
 use Rattle.places.specs.Desk.{numberOf}
 use Rattle.places.specs.declared.Reply.{Reply}

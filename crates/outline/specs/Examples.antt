@@ -11,8 +11,8 @@ use Rattle.format.specs.Words.{walk, wide, orZero}
 use Rattle.text.specs.Text.{english, inLanguage}
 use Rattle.notice_fields.specs.Parts.{subtypes, subtype}
 use Rattle.notice_fields.specs.Areas.{points, areas}
-use Rattle.notice_reading.specs.Notice.{notice, notices}
-use Rattle.notice_reading.specs.Record.{headOf, textOf, recordOf}
+use Rattle.notice.specs.Notice.{notice, notices}
+use Rattle.notice.specs.Record.{headOf, textOf, recordOf}
 use Rattle.angles.specs.Angles.{northing}
 use Rattle.outline.specs.Outline.{pointsOf, outlineOf, pointCount}
 use Rattle.outline.specs.Promises.{drawn, counted}

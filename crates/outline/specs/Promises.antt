@@ -7,8 +7,8 @@ use lib.IntN.{ℤ}
 use Rattle.format.specs.Fmt.{Out, accepted, refused, also}
 use Rattle.format.specs.Message.{leaves, into}
 use Rattle.format.specs.Promises.{answered, readRecord}
-use Rattle.notice_reading.specs.Notice.{notices}
-use Rattle.notice_reading.specs.Record.{Whole, recordOf}
+use Rattle.notice.specs.Notice.{notices}
+use Rattle.notice.specs.Record.{Whole, recordOf}
 use Rattle.outline.specs.Outline.{outlineOf, pointCount}
 use Rattle.outline.specs.declared.Answer.{Answer}
 use Rattle.outline.specs.declared.Answer.the-variants.{Good, Refused}

@@ -23,7 +23,7 @@ pub enum Answer {
 pub fn outline(s: &[u8], english: bool, row: &mut [i32]) -> Answer
     ensures { λ r. ⌜ Outlines english (now (s .entry)) (now (row .entry)) r (now (row .exit)) ⌝ }
 {
-    let f = notice_reading::fields(s, 0, english);
+    let f = notice::reading::fields(s, 0, english);
     let walk = f.walk;
     let code = walk.code;
     if code != 0 {

@@ -1,7 +1,7 @@
 // The notice: writing and correcting. Language 0 is Chinese, 1 English; above that it is 4 before anything else.
 ghost use Rattle.notice_rows.specs.Notice.{recordOf};
 ghost use Rattle.notice_rows.specs.Making.{WritesIn, CorrectsIn};
-use notice_reading::Notice;
+use notice::Notice;
 
 // Writes the notice of these numbers, areas and text into the front of a lent buffer.
 #[no_mangle]

@@ -1,88 +1,201 @@
--- Demands 2 and 3 of the notice, of the promises that its reading, writing and correcting make: a row with the numbers that its areas ask for is written as every layout's values are. Assumes nothing.
-use mathlib.Core.Path.{_≡_, refl, subst, subst⁻¹}
-use mathlib.Core.Bool.{Bool, true, false, cond}
-use mathlib.Core.List.{List, [], _∷_, _++_}
-use Prim.Native.Nat.{ℕ, _≤_, _<_, _^_}
+-- The notice is a family of format/specs/laws/Family, whose theorems are demands 2 and 3; said here of the notice's own promises, and once more of the expiry, whose correction must leave the count of areas. Assumes nothing.
+use mathlib.Core.Path.{_≡_, refl, sym, ap, ap₂, _∙_, subst⁻¹}
+use mathlib.Core.Bool.{Bool, true, false, _&&_}
+use mathlib.Core.List.{List, [], _∷_, _++_, append-nil}
+use Prim.Native.Nat.{ℕ, _+_, _*_, _≤_, _<_, _^_}
 use native.Mathlib.Omega.{arith}
-use borrow.Author.Tests.{le-leb}
-use lib.ListN.{length, take, drop, length-append}
-use Rattle.bits.specs.Bits.{Bytes}
-use Rattle.format.specs.Fmt.{Out, accepted, found, spot}
-use Rattle.format.specs.Message.{codeOf, leaves, into, readMessage, writeMessage, ahead}
-use Rattle.format.specs.Promises.{readRecord, Writes, Corrects}
-use Rattle.format.specs.laws.Family.{read-values, written-read}
-use Rattle.format.specs.laws.Round.{clash}
+use lib.Dec.{leb, lit<, lit≤}
+use lib.ListN.{length, take, drop, getD}
+use lib.Seq.{take-at}
+use Rattle.bits.specs.Bits.{Bytes, digits, putAt, fieldAt}
+use Rattle.bits.specs.laws.Bytes.{length-bytes, bytes-below}
+use Rattle.bits.specs.laws.Fields.{length-put, field-put-before, field-put-after}
+use Rattle.format.specs.Fmt.{Out, accepted, refused, check, orBad, none, found, spot}
+use Rattle.format.specs.Message.{codeOf, leaves, readMessage, ahead}
+use Rattle.format.specs.Promises.{answered, readRecord, Writes, Corrects}
+use Rattle.format.specs.laws.Family.{Family, written-read, read-written, record-values, accepted-correction, correction-none, corrected-as-written}
+use Rattle.format.specs.laws.Held.{Held, held}
+use Rattle.format.specs.laws.Round.{also-inv, read-write}
+use Rattle.format.specs.laws.Runs.{run-value}
+use Rattle.format.specs.laws.Whole.{was}
+use Rattle.text.specs.Text.{inLanguage}
+use Rattle.text.specs.laws.Clean.{no-line-end}
 use Rattle.notice_fields.specs.Row.{areasLong, areasTold}
-use Rattle.notice_fields.specs.laws.Row.{exact-told, exact-more}
-use Rattle.notice_reading.specs.Changed.{changed}
-use Rattle.notice_reading.specs.Notice.{notice, notices}
-use Rattle.notice_reading.specs.Promises.{toldOf, Reads}
-use Rattle.notice_reading.specs.Record.{Whole, valuesOf, recordOf}
-use Rattle.notice_reading.specs.declared.Answer.the-variants.{Good}
-use Rattle.notice_reading.specs.declared.Notice.{Notice}
-use Rattle.notice_reading.specs.declared.Told.{Told}
-use Rattle.notice_reading.specs.laws.Correction.{Lent, changes}
-use Rattle.notice_reading.specs.laws.Demands.{asked-row, longer-row, family, wholeOf, good, written-reads as written-values, read-writes-back as values-back, corrected as corrected-values}
-use Rattle.notice.specs.Promises.{enough, NoticeWrites}
+use Rattle.notice_fields.specs.laws.Row.{told-again, told-exact, exact-told}
+use Rattle.notice.specs.Changed.{changed}
+use Rattle.notice.specs.Notice.{notice, notices}
+use Rattle.notice.specs.Promises.{housed, toldOf, answerOf, Reads}
+use Rattle.notice.specs.Record.{Whole, headed, texted, valuesOf, headOf, textOf, recordOf}
+use Rattle.notice.specs.declared.reading.Answer.{Answer}
+use Rattle.notice.specs.declared.reading.Answer.the-variants.{Good, Refused}
+use Rattle.notice.specs.declared.reading.Notice.{Notice}
+use Rattle.notice.specs.declared.reading.Told.{Told}
+use Rattle.notice.specs.laws.Correction.{Lent, head-spotted, changes}
+use Rattle.notice.specs.laws.Listed.{counted, Listed, listed}
+use Rattle.notice.specs.laws.Sound.{sound, judged}
+use Rattle.notice.specs.laws.Told.{recorded, told, reads-good}
 
--- ---- what writing a notice promises, where the row has enough, is what every layout's writing does
+-- ---- a row tells no more than its areas
 
-pub enough-writes : (english : Bool) (s : List ℕ) (r : Notice) (row t : List ℕ) (code : ℕ) (u : List ℕ) → enough r row ≡ true → NoticeWrites english s r row t code u
-    → Writes (notices english) s code u (valuesOf (r, (row, t)))
-enough-writes english s r row t code u e x =
-    let o = writeMessage (notices english) (valuesOf (r, (row, t))) in
-    subst (λ b. (code ≡ codeOf (into (cond b s []) o)) × (u ≡ cond b (leaves (into s o) s) s)) e x
+-- a row has the values of the numbers that its kinds and counts ask for,
+pub asked-row : (r : Notice) (row t : List ℕ) → valuesOf (r, (areasTold (r .count) row, t)) ≡ valuesOf (r, (row, t))
+unfolding valuesOf
+asked-row r row t =
+    let n = r .count in
+    ap (λ l. headed r (l ++ texted t)) (ap (areasTold n) (sym (append-nil (areasTold n row))) ∙ told-again n row [])
 
--- no notice has no bytes
-some-bytes : (english : Bool) (m : List ℕ) {x : Whole} → length m ≤ 0 → readRecord (notices english) recordOf m ≡ accepted x → ⊥
-unfolding readMessage notices
-some-bytes english [] l e = clash e
-some-bytes english (b ∷ m) l e = omega arith
+-- and so a longer row those of its front
+pub longer-row : (r : Notice) (row us t : List ℕ) → areasLong (r .count) row ≡ length row → valuesOf (r, (row ++ us, t)) ≡ valuesOf (r, (row, t))
+unfolding valuesOf
+longer-row r row us t exact =
+    let n = r .count in
+    ap (λ l. headed r (l ++ texted t)) (ap (λ l. areasTold n (l ++ us)) (sym (told-exact n row exact)) ∙ told-again n row us)
 
--- where it answered 0, the row had enough
-pub accepted-writes : (english : Bool) (s : List ℕ) (r : Notice) (row t u : List ℕ) → Bytes t → NoticeWrites english s r row t 0 u → (enough r row ≡ true) × Writes (notices english) s 0 u (valuesOf (r, (row, t)))
-accepted-writes english s r row t u fine x = go (enough r row) refl
+-- ---- the family
+
+same-record : (x : Whole) → Lent x → recordOf (valuesOf x) ≡ x
+unfolding valuesOf
+same-record x (exact, fine) =
+    let n = x .0 .count in
+    told (x .0) (areasTold n (x .1 .0)) (x .1 .1) fine ∙ ap (λ l. (x .0, (l, x .1 .1))) (told-exact n (x .1 .0) exact)
+
+-- the record of accepted values
+record-is : (english : Bool) (vs : List ℕ) (l : Listed english vs) → recordOf vs ≡ (headOf vs, (l .row, textOf (l .size) (l .number)))
+record-is english vs l = ap recordOf (l .is) ∙ recorded (headOf vs) (l .row) (l .size) (l .number)
+
+text-values : (n v : ℕ) → v < 2 ^ (n * 8) → texted (textOf n v) ≡ n ∷ v ∷ []
+unfolding textOf
+text-values n v l = ap₂ (λ a b. a ∷ b ∷ []) (length-bytes n (digits (n * 8) v)) (run-value n v l)
+
+same-values : (english : Bool) (vs : List ℕ) → Held (notice english) [] vs → valuesOf (recordOf vs) ≡ vs
+unfolding valuesOf
+same-values english vs h =
+    let l = listed english vs h in
+    ap valuesOf (record-is english vs l)
+    ∙ ap₂ (λ us ws. headed (headOf vs) (us ++ ws)) (told-exact (headOf vs .count) (l .row) (l .exact)) (text-values (l .size) (l .number) (l .narrow))
+    ∙ sym (l .is)
+
+can-lend : (english : Bool) (vs : List ℕ) → Held (notice english) [] vs → Lent (recordOf vs)
+unfolding textOf
+can-lend english vs h = let l = listed english vs h in subst⁻¹ Lent (record-is english vs l) (l .exact, bytes-below (l .size) _)
+
+pub family : (english : Bool) → Family (notices english) Whole Lent valuesOf recordOf changed
+unfolding notices
+family english = record {
+  sound = sound english;
+  judged = judged english;
+  counted = λ x k. counted english x;
+  same-record = λ x k h. same-record x k;
+  same-values = same-values english;
+  can-lend = can-lend english;
+  changes = λ x i v p w k e n. changes english x i v p w k e;
+}
+
+-- ---- said of the notice's promises
+
+-- Two answers that reading may give to the same bytes, row and buffer are equal, and leave the same.
+pub one-reading : (english : Bool) (s row text : List ℕ) (a b : Answer) (row₁ text₁ row₂ text₂ : List ℕ) → Reads english s row text a row₁ text₁ → Reads english s row text b row₂ text₂
+    → (a ≡ b) × (row₁ ≡ row₂) × (text₁ ≡ text₂)
+one-reading english s row text a b row₁ text₁ row₂ text₂ (x, y, z) (x′, y′, z′) = (x ∙ sym x′, y ∙ sym y′, z ∙ sym z′)
+
+-- the notice that a good answer tells: its areas and text stand in front of what was lent
+abbrev pub wholeOf : Told → List ℕ → List ℕ → Whole
+wholeOf a row text = (a .notice, (take (a .numbers) row, take (a .text) text))
+
+-- a good answer is an accepted reading
+pub good : (english : Bool) (s row text : List ℕ) (a : Told) (row′ text′ : List ℕ) → Reads english s row text (Good a) row′ text′ → readRecord (notices english) recordOf s ≡ accepted (wholeOf a row′ text′)
+good english s row text a row′ text′ (x, y, z) = go (readRecord (notices english) recordOf s) x y z
   where
-    o : Out (List ℕ)
-    o = writeMessage (notices english) (valuesOf (r, (row, t)))
+    clash : {X : Type 0} {c : ℕ} → Good a ≡ Refused c → X
+    clash e = let z : _≡_ {A = ℕ} 0 1 = cc in absurd (omega arith)
 
-    go : (b : Bool) → enough r row ≡ b → (enough r row ≡ true) × Writes (notices english) s 0 u (valuesOf (r, (row, t)))
-    go true e = (e, enough-writes english s r row t 0 u e x)
-    go false e =
-        let w : Writes (notices english) [] 0 (leaves (into [] o) []) (valuesOf (r, (row, t))) = (subst (λ b. 0 ≡ codeOf (into (cond b s []) o)) e (x .0), refl) in
-        let y = written-read (family english) [] (r, (areasTold (r .count) row, t)) _ (exact-told (r .count) row, fine) (subst⁻¹ (Writes (notices english) [] 0 _) (asked-row r row t) w) in
-        absurd (some-bytes english (y .message) (y .room) (y .reads))
+    fits : (q : Whole) → Good a ≡ Good (toldOf q) → row′ ≡ ahead (q .1 .0) row → text′ ≡ ahead (q .1 .1) text → q ≡ wholeOf a row′ text′
+    fits q e y z =
+        let k : a ≡ toldOf q = cc in
+        let areas : take (a .numbers) row′ ≡ q .1 .0 = ap₂ (λ (a : Told) l. take (a .numbers) l) k y ∙ take-at (q .1 .0) (drop (length (q .1 .0)) row) (length (q .1 .0)) refl in
+        let words : take (a .text) text′ ≡ q .1 .1 = ap₂ (λ (a : Told) l. take (a .text) l) k z ∙ take-at (q .1 .1) (drop (length (q .1 .1)) text) (length (q .1 .1)) refl in
+        λ i. (sym k i .notice, (sym areas i, sym words i))
 
--- ---- demand 2
+    go : (o : Out Whole) → Good a ≡ answerOf (housed (length row) (length text) o) → row′ ≡ answered (λ x. ahead (x .1 .0) row) (λ c. row) (housed (length row) (length text) o)
+        → text′ ≡ answered (λ x. ahead (x .1 .1) text) (λ c. text) (housed (length row) (length text) o) → o ≡ accepted (wholeOf a row′ text′)
+    go (refused c p) x y z = clash x
+    go (accepted q) x y z = roomy (leb (length (q .1 .0)) (length row) && leb (length (q .1 .1)) (length text)) x y z
+      where
+        roomy : (b : Bool) → let o = check (orBad b 6) 0 (accepted q) in Good a ≡ answerOf o → row′ ≡ answered (λ x. ahead (x .1 .0) row) (λ c. row) o → text′ ≡ answered (λ x. ahead (x .1 .1) text) (λ c. text) o → accepted q ≡ accepted (wholeOf a row′ text′)
+        roomy true x y z = ap accepted (fits q x y z)
+        roomy false x y z = clash x
 
 -- What is written from a row and a text is read back as the same record, the numbers that the row was asked for, and the same text, where there is room for them.
-pub written-reads : (english : Bool) (s : List ℕ) (r : Notice) (row t u : List ℕ) → Bytes t → NoticeWrites english s r row t 0 u → let xs = areasTold (r .count) row in
+pub written-reads : (english : Bool) (s : List ℕ) (r : Notice) (row t u : List ℕ) → Bytes t → Writes (notices english) s 0 u (valuesOf (r, (row, t))) → let xs = areasTold (r .count) row in
     (m : List ℕ) × (u ≡ m ++ drop (length m) s)
     × ((areas text : List ℕ) → length xs ≤ length areas → length t ≤ length text → Reads english m areas text (Good (toldOf (r, (xs, t)))) (ahead xs areas) (ahead t text))
-written-reads english s r row t u fine x = written-values english s r row t u fine (accepted-writes english s r row t u fine x .1)
+written-reads english s r row t u fine w =
+    let y = written-read (family english) s (r, (areasTold (r .count) row, t)) u (exact-told (r .count) row, fine) (subst⁻¹ (Writes (notices english) s 0 u) (asked-row r row t) w) in
+    (y .message, y .front, λ areas text k l. reads-good english (y .message) areas text (y .reads) k l)
 
--- s is a notice that reading answered with a, the row and the text
 module _ (english : Bool) (s row text : List ℕ) (a : Told) (row′ text′ : List ℕ) (fine : Bytes s) (reads : Reads english s row text (Good a) row′ text′) where
-  -- the row has what the notice's areas ask for, and so has a longer one
-  lent : Lent (wholeOf a row′ text′)
-  lent = read-values (family english) s (wholeOf a row′ text′) fine (good english s row text a row′ text′ reads) .1
-
-  -- What is read is written back as the same bytes, from the numbers that were read, whatever stands behind them in the row.
-  pub read-writes-back : (us u : List ℕ) (code : ℕ) (t : List ℕ) → length s ≤ length u → NoticeWrites english u (a .notice) (take (a .numbers) row′ ++ us) (take (a .text) text′) code t
-      → (code ≡ 0) × (t ≡ s ++ drop (length s) u)
-  read-writes-back us u code t l x =
-      let r = a .notice in
-      let xs = take (a .numbers) row′ in
-      let more = exact-more (r .count) xs us (lent .0) in
-      let w = enough-writes english u r (xs ++ us) (take (a .text) text′) code t (le-leb (areasLong (r .count) (xs ++ us)) (length (xs ++ us)) (omega (arith, more, length-append xs us))) x in
-      values-back english s row text a row′ text′ fine reads u code t l (subst (Writes (notices english) u code t) (longer-row r xs us (take (a .text) text′) (lent .0)) w)
+  -- What is read is written back as the same bytes.
+  pub read-writes-back : (u : List ℕ) (code : ℕ) (t : List ℕ) → length s ≤ length u → Writes (notices english) u code t (valuesOf (wholeOf a row′ text′)) → (code ≡ 0) × (t ≡ s ++ drop (length s) u)
+  read-writes-back = read-written (family english) s (wholeOf a row′ text′) fine (good english s row text a row′ text′ reads)
 
   -- Demand 3: correcting a notice, where the field can spell the value, is writing the notice with that field changed; else nothing differs.
   pub corrected : (i v p w : ℕ) → spot (notice english) [] (valuesOf (wholeOf a row′ text′)) i ≡ found p w → v < 2 ^ w → (code : ℕ) (t : List ℕ) → Corrects (notices english) s i v code t
-      → (u : List ℕ) → length s ≤ length u → (code′ : ℕ) (t′ : List ℕ) → let y = changed i v (wholeOf a row′ text′) in NoticeWrites english u (y .0) (y .1 .0) (y .1 .1) code′ t′
+      → (u : List ℕ) → length s ≤ length u → (code′ : ℕ) (t′ : List ℕ) → Writes (notices english) u code′ t′ (valuesOf (changed i v (wholeOf a row′ text′)))
       → (code ≡ code′) × (code ≡ 0 → t ≡ take (length s) t′) × ((code ≡ 0 → ⊥) → t ≡ s)
-  corrected i v p w e n code t c u l code′ t′ x =
-      let y = changed i v (wholeOf a row′ text′) in
-      let (exact, fine′) = changes english (wholeOf a row′ text′) i v p w lent e .1 in
-      let has : enough (y .0) (y .1 .0) ≡ true = le-leb (areasLong (y .0 .count) (y .1 .0)) (length (y .1 .0)) (omega (arith, exact)) in
-      corrected-values english s row text a row′ text′ fine reads i v p w e n code t c u l code′ t′ (enough-writes english u (y .0) (y .1 .0) (y .1 .1) code′ t′ has x)
+  unfolding notices
+  corrected = corrected-as-written (family english) s (wholeOf a row′ text′) fine (good english s row text a row′ text′ reads)
+
+  -- A field that may not be corrected is 10, and nothing differs;
+  pub corrected-none : (i v : ℕ) → spot (notice english) [] (valuesOf (wholeOf a row′ text′)) i ≡ none → (code : ℕ) (t : List ℕ) → Corrects (notices english) s i v code t → (code ≡ 10) × (t ≡ s)
+  unfolding notices
+  corrected-none i v e code t (x, y) =
+      let o = correction-none (family english) s (wholeOf a row′ text′) fine (good english s row text a row′ text′ reads) i v e in
+      (x ∙ ap codeOf o, y ∙ ap (λ o. leaves o s) o)
+
+  -- how many areas there are is one.
+  pub count-stays : (v code : ℕ) (t : List ℕ) → Corrects (notices english) s 7 v code t → (code ≡ 10) × (t ≡ s)
+  count-stays v = corrected-none 7 v (head-spotted english (wholeOf a row′ text′) 7 (lit< tt))
+
+-- A correction changes the field's bits alone.
+pub correction-bits : (english : Bool) (s : List ℕ) (i v : ℕ) (t : List ℕ) (e : Corrects (notices english) s i v 0 t) → let c = accepted-correction (family english) s i v t e in t ≡ putAt s (c .place) (c .width) v
+unfolding notices
+correction-bits english s i v t e = accepted-correction (family english) s i v t e .changed
+
+-- the expiry stands in the 21 bits from 38 on, and they alone are changed
+expiry-bits : (english : Bool) (s : List ℕ) (v : ℕ) (t : List ℕ) → Corrects (notices english) s 6 v 0 t → (t ≡ putAt s 38 21 v) × (38 + 21 ≤ length s * 8)
+unfolding notices
+expiry-bits english s v t e =
+    let c = accepted-correction (family english) s 6 v t e in
+    let same = record-values (family english) s (c .values) (c .before) in
+    let there : found 38 21 ≡ found (c .place) (c .width) =
+    sym (head-spotted english (recordOf (c .values)) 6 (lit< tt)) ∙ ap (λ vs. spot (notice english) [] vs 6) same ∙ c .there in
+    let place : c .place ≡ 38 = cc in
+    let width : c .width ≡ 21 = cc in
+    (c .changed ∙ ap₂ (λ p w. putAt s p w v) place width, omega (arith, c .within, place, width))
+
+-- An expiry that was corrected leaves the areas' count, four bits at 59, and every other bit: what stands before its own 21 bits, and what stands behind them.
+pub expiry-leaves-count : (english : Bool) (s : List ℕ) (v : ℕ) (t : List ℕ) → Corrects (notices english) s 6 v 0 t
+    → (fieldAt t 59 4 ≡ fieldAt s 59 4)
+    × ((at w : ℕ) → at + w ≤ 38 → fieldAt t at w ≡ fieldAt s at w)
+    × ((at w : ℕ) → 59 ≤ at → fieldAt t at w ≡ fieldAt s at w)
+    × (length t ≡ length s)
+expiry-leaves-count english s v t e =
+    let (is, fits) = expiry-bits english s v t e in
+    let behind : (at w : ℕ) → 59 ≤ at → fieldAt t at w ≡ fieldAt s at w = λ at w l. ap (λ t. fieldAt t at w) is ∙ field-put-after s 38 21 fits v at w l in
+    (behind 59 4 (lit≤ tt), λ at w l. ap (λ t. fieldAt t at w) is ∙ field-put-before s 38 21 fits v at w l, behind, ap length is ∙ length-put s 38 21 v)
+
+-- ---- the text
+
+-- The text of a notice that reading accepts is text in its language.
+pub accepted-text : (english : Bool) (s : List ℕ) (x : Whole) → readRecord (notices english) recordOf s ≡ accepted x → inLanguage english (x .1 .1) ≡ true
+unfolding notices
+accepted-text english s x e =
+    let (vs, m, k) = also-inv recordOf (readMessage (notices english) s) e in
+    let h = held (notice english) [] 0 vs _ (read-write (notice english) [] 0 vs _ (was (notices english) s vs m .walked)) in
+    let l = listed english vs h in
+    ap (λ (x : Whole). inLanguage english (x .1 .1)) (sym k ∙ record-is english vs l) ∙ l .spoken
+
+-- No line end passes: every byte of the text that a good reading hands out is at least 0x20.
+pub read-no-line-end : (english : Bool) (s row text : List ℕ) (a : Told) (row′ text′ : List ℕ) → Reads english s row text (Good a) row′ text′ → let t = take (a .text) text′ in
+    (i : ℕ) → i < length t → 0x20 ≤ getD t i 0
+read-no-line-end english s row text a row′ text′ e = no-line-end english (take (a .text) text′) (accepted-text english s (wholeOf a row′ text′) (good english s row text a row′ text′ e))

@@ -26,8 +26,8 @@ use Rattle.walk.specs.declared.walk.Walk.{Walk}
 use Rattle.text.specs.Text.{inLanguage}
 use Rattle.notice_fields.specs.PartsSteps.{bare}
 use Rattle.notice_fields.specs.Standing.{front}
-use Rattle.notice_reading.specs.Notice.{text}
-use Rattle.notice_reading.specs.Record.{texted}
+use Rattle.notice.specs.Notice.{text}
+use Rattle.notice.specs.Record.{texted}
 
 -- the fault of a text's number is its language's
 text-wrong : (english : Bool) (t : List ℕ) → Bytes t

@@ -15,12 +15,12 @@ use Rattle.walk.specs.laws.Step.{clear}
 use Rattle.walk.specs.declared.walk.Walk.{Walk}
 use Rattle.notice_fields.specs.Row.{areasLong}
 use Rattle.packet.specs.Packet.{joined}
-use Rattle.notice_reading.specs.Notice.{notice, notices}
-use Rattle.notice_reading.specs.Record.{valuesOf}
-use Rattle.notice_reading.specs.declared.Notice.{Notice}
+use Rattle.notice.specs.Notice.{notice, notices}
+use Rattle.notice.specs.Record.{valuesOf}
+use Rattle.notice.specs.declared.reading.Notice.{Notice}
 use Rattle.notice_fields.specs.declared.making.Stepped.{Stepped}
 use Rattle.notice.specs.Making.{NoticeJudged}
-use Rattle.notice.specs.Promises.{roomFor, enough, NoticeWrites}
+use Rattle.notice.specs.WritingPromises.{roomFor, enough, NoticeWrites}
 
 -- what was closed with no refusal: its size, and that there is room
 pub record Closes (room : ℕ) (r : Walk) : Type 0 where

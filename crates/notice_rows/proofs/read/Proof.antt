@@ -4,7 +4,7 @@ use native.Mathlib.Omega.{arith}
 use lib.Dec.{eqb}
 use Rattle.format.specs.Fmt.{accepted}
 use Rattle.rows.specs.Row.{Fills}
-use Rattle.notice_reading.specs.Promises.{Reads}
+use Rattle.notice.specs.Promises.{Reads}
 use Rattle.notice_rows.specs.Notice.{unroomed, NoticeFills}
 use Rattle.notice_rows.specs.laws.Notice.{good-rooms, lent-not, lent-short, lent-good, lent-bad}
 use borrow.Author.Needs.{needs}

@@ -6,7 +6,7 @@ use Prim.Native.Nat.{ℕ}
 use native.Mathlib.Omega.{arith}
 use borrow.Author.Tests.{le-leb, lt-leb}
 use Rattle.format.specs.Fmt.{refused}
-use Rattle.notice.specs.Promises.{enough, Lays}
+use Rattle.notice.specs.WritingPromises.{enough, Lays}
 use borrow.Author.Needs.{needs}
 use Rattle.notice_rows.proofs.write.Statement.{statement}
 use Rattle.notice_rows.proofs.write.Tie as tie

@@ -14,12 +14,12 @@ use Rattle.format.specs.Promises.{readRecord, answered}
 use Rattle.format.specs.laws.Zero.{read-zero-message}
 use Rattle.rows.specs.Row.{Fills}
 use Rattle.rows.specs.laws.Row.{row-full, one-filling}
-use Rattle.notice_reading.specs.Notice.{notices}
-use Rattle.notice_reading.specs.Record.{Whole, recordOf as wholeOf}
-use Rattle.notice_reading.specs.Promises.{housed, toldOf, answerOf, Reads}
-use Rattle.notice_reading.specs.laws.Sound.{judged}
-use Rattle.notice_reading.specs.declared.Told.{Told}
-use Rattle.notice_reading.specs.declared.Answer.the-variants.{Good, Refused}
+use Rattle.notice.specs.Notice.{notices}
+use Rattle.notice.specs.Record.{Whole, recordOf as wholeOf}
+use Rattle.notice.specs.Promises.{housed, toldOf, answerOf, Reads}
+use Rattle.notice.specs.laws.Sound.{judged}
+use Rattle.notice.specs.declared.reading.Told.{Told}
+use Rattle.notice.specs.declared.reading.Answer.the-variants.{Good, Refused}
 use Rattle.notice_rows.specs.Notice.{rowOf, roomy, unroomed, Lent, NoticeFills}
 
 -- a refusal leaves the row, the areas and the text as they were

@@ -20,8 +20,8 @@ use Rattle.distress.specs.Changed.{changed}
 use Rattle.notice_fields.specs.Parts.{subtypes, subtype}
 use Rattle.notice_fields.specs.Areas.{points, areas}
 use Rattle.notice_fields.specs.Row.{first, areasLong}
-use Rattle.notice_reading.specs.Notice.{notice, notices}
-use Rattle.notice_reading.specs.Record.{headOf, textOf, recordOf as noticeOf, valuesOf as noticeValues}
+use Rattle.notice.specs.Notice.{notice, notices}
+use Rattle.notice.specs.Record.{headOf, textOf, recordOf as noticeOf, valuesOf as noticeValues}
 use Rattle.packet.specs.Packet.{packet, packets, recordOf as packetOf, valuesOf as packetValues}
 use Rattle.places.specs.Places.{everyBelow, firstFrom, goodPlace, allApart, goodPlaces, openAt, freeAt}
 use Rattle.places.specs.Desk.{alike, firstTests, joins, received, accepting, missingBelow, answers, asking}

@@ -8,8 +8,8 @@ use borrow.Author.Needs.{needs}
 use Rattle.format.specs.Fmt.{also}
 use Rattle.notice_fields.specs.Standing.{front, areasAt}
 use Rattle.notice_fields.specs.declared.row.Extent.{Extent}
-use Rattle.notice_reading.specs.Record.{recordOf}
-use Rattle.notice_reading.specs.laws.Told.{walked-good, walked-bad, fields-are}
+use Rattle.notice.specs.Record.{recordOf}
+use Rattle.notice.specs.laws.Told.{walked-good, walked-bad, fields-are}
 use Rattle.outline.specs.Outline.{outlineOf}
 use Rattle.outline.specs.laws.Drawing.{outline-stands, outline-at-long, count-stands, points-few}
 use Rattle.outline.specs.laws.Outlines.{outlines-refused, outlines-short, outlines-good}

@@ -13,9 +13,9 @@ use lib.Dec.{leb}
 use Rattle.format.specs.Fmt.{Out, accepted, refused, check, orBad, also}
 use Rattle.format.specs.Message.{readMessage, leaves, into}
 use Rattle.format.specs.laws.Zero.{read-zero-message}
-use Rattle.notice_reading.specs.Notice.{notices}
-use Rattle.notice_reading.specs.Record.{Whole, recordOf}
-use Rattle.notice_reading.specs.laws.Sound.{judged}
+use Rattle.notice.specs.Notice.{notices}
+use Rattle.notice.specs.Record.{Whole, recordOf}
+use Rattle.notice.specs.laws.Sound.{judged}
 use Rattle.outline.specs.Promises.{told, outlineIn, countIn, pointsTold, drawn, answerOf, Outlines}
 use Rattle.outline.specs.declared.Answer.{Answer}
 use Rattle.outline.specs.declared.Answer.the-variants.{Good, Refused}

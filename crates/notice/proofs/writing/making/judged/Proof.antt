@@ -1,0 +1,80 @@
+-- `judged` walks the head, the areas and the text; a refused head ends it.
+use Prim.Native.Nat.{_+_, _-_, _*_}
+use mathlib.Core.Path.{sym, ap, _∙_, subst⁻¹}
+use mathlib.Core.Bool.{cond}
+use mathlib.Core.List.{_++_}
+use native.Mathlib.Omega.{arith}
+use lib.ListN.{length}
+use borrow.Author.Needs.{needs}
+use Rattle.bits.specs.Bits.{Bytes}
+use Rattle.walk.specs.Walk.{onward}
+use Rattle.walk.specs.declared.walk.Walk.{Walk}
+use Rattle.walk.specs.laws.Loops.{going}
+use Rattle.walk.specs.laws.Step.{clean}
+use Rattle.notice_fields.specs.laws.Judging.{AreasAre, areas-are}
+use Rattle.notice_fields.specs.Row.{areasTold}
+use Rattle.notice_fields.specs.Standing.{front}
+use Rattle.notice_fields.specs.PartsSteps.{bare}
+use Rattle.notice.specs.Record.{texted, valuesOf}
+use Rattle.notice.specs.laws.Judging.{spoken-whole, text-judged, from-front, refused-judged}
+use Rattle.notice.proofs.writing.making.judged.Statement.{statement}
+use Rattle.notice.proofs.writing.making.judged.Tie as tie
+
+judged-head-requires : tie.Need-judged-head-requires
+judged-head-requires c κs = search needs
+
+returns : tie.Need-returns
+unfolding valuesOf
+returns c =
+    let h = c .before .before in
+    let a = h .before .before .before .args in
+    let x = h .judged-head .ensures in
+    record {
+      judged = refused-judged (length (a .text .now) * 8) (c .if1 .taken) (going (x .is (a .english) (areasTold (a .r .count) (a .areas .now) ++ texted (a .text .now))));
+      asked = λ z. absurd (c .if1 .taken z);
+    }
+
+judge-requires : tie.Need-judge-requires
+judge-requires c κs = search needs
+
+spoken-requires : tie.Need-spoken-requires
+spoken-requires c κs = search needs
+
+choose-requires : tie.Need-choose-requires
+choose-requires c κs = search needs
+
+wide-requires : tie.Need-wide-requires
+wide-requires c κs = search needs
+
+returns-2 : tie.Need-returns-2
+unfolding valuesOf onward
+returns-2 c =
+    let ch = c .before in
+    let sp = ch .before in
+    let j = sp .before .before in
+    let i = j .before in
+    let h = i .before .before in
+    let known = h .before in
+    let a = known .before .before .args in
+    let t = a .text .now in
+    let fine : Bytes t = λ i. known .shared-slice-known2 .given i .fits in
+    let x = h .judged-head .ensures in
+    let few = x .few (i .if1 .left) in
+    let y = subst⁻¹ (AreasAre (a .areas .now) (a .r .count) 0 (bare front 0 0)) (j .judge .ensures) (areas-are (a .areas .now) (a .r .count) 0 (bare front 0 0) (omega (arith, few))) in
+    let g = y .along .on (from-front (i .if1 .left) (x .is (a .english) (areasTold (a .r .count) (a .areas .now) ++ texted t))) in
+    record {
+      judged = text-judged (a .english) t (ch .choose .result) fine (omega (arith, y .near, few)) (ch .choose .ensures ∙ ap (λ b. cond b 0 4) (sp .spoken .ensures ∙ spoken-whole (a .english) t fine)) (c .wide .ensures) g;
+      asked = λ z. y .next (clean (j .judge .result .walk .code) (ch .choose .result) (ap (λ (w : Walk). w .code) (sym (c .wide .ensures)) ∙ z) .0) ∙ omega arith;
+    }
+
+pub judged-spec : {M : Type 1} → statement M
+judged-spec =
+    tie.close
+    (tie.spec
+    judged-head-requires
+    returns
+    judge-requires
+    spoken-requires
+    choose-requires
+    wide-requires
+    returns-2)

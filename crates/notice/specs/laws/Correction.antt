@@ -1,0 +1,108 @@
+-- The notice with one field changed has the values with that one changed: what may be corrected is no count, no kind and no text, so the row has as many numbers as before. Assumes nothing.
+use mathlib.Core.Path.{_≡_, refl, sym, ap, _∙_, subst}
+use mathlib.Core.Bool.{Bool, true, false, cond}
+use mathlib.Core.List.{List, [], _∷_, _++_}
+use Prim.Native.Nat.{ℕ, zero, suc, _+_, _-_, _<_}
+use native.Mathlib.Omega.{arith}
+use borrow.Author.Tests.{leb-true, leb-false}
+use lib.Dec.{eqb, leb, lit<}
+use lib.ListN.{length, drop, getD, set, length-append, length-drop, length-set, List·getD-append}
+use lib.Seq.{set-append-left, take-at}
+use Rattle.bits.specs.Bits.{Bytes}
+use Rattle.format.specs.Fmt.{end, none, found, spot}
+use Rattle.format.specs.laws.Correct.{none-clash}
+use Rattle.format.specs.laws.Past.{Past, past-filled, past-found, filled-set}
+use Rattle.format.specs.laws.Spots.{spotsAlong, spot-along, eachAt, set-each, each-past, each-from, kept-entry}
+use Rattle.notice_fields.specs.Row.{areasLong, areasTold}
+use Rattle.notice_fields.specs.laws.Past.{areas-past, areas-filled}
+use Rattle.notice_fields.specs.laws.Row.{first-take, told-exact, exact-told}
+use Rattle.notice.specs.Changed.{spots, changed}
+use Rattle.notice.specs.Notice.{text, rest, notice}
+use Rattle.notice.specs.Record.{Whole, headed, texted, valuesOf}
+use Rattle.notice.specs.laws.Listed.{two}
+
+-- a row of the numbers that its counts and kinds ask for, and a text of bytes
+abbrev pub Lent : Whole → Type 0
+Lent x = (areasLong (x .0 .count) (x .1 .0) ≡ length (x .1 .0)) × Bytes (x .1 .1)
+
+-- ---- where fields stand
+
+-- the head's, the same in every notice
+pub head-spotted : (english : Bool) (x : Whole) (i : ℕ) → i < 8 → spot (notice english) [] (valuesOf x) i ≡ getD spots i none
+unfolding notice valuesOf spotsAlong
+head-spotted english x i l =
+    let r = x .0 in
+    let before = r .count ∷ r .expiry ∷ r .subtype ∷ r .kind ∷ r .year ∷ r .serial ∷ r .station ∷ r .source ∷ [] in
+    spot-along (notice english) (valuesOf x) i ∙ List·getD-append spots (spotsAlong (rest english (r .count)) before (areasTold (r .count) (x .1 .0) ++ texted (x .1 .1)) 63) none i l
+
+-- a text may not be corrected
+text-kept : (english : Bool) (t h : List ℕ) (k : ℕ) → spot (text english end) h (texted t) k ≡ none
+unfolding spot
+text-kept english t h zero = refl
+text-kept english t h (suc zero) = refl
+text-kept english t h (suc (suc k)) = refl
+
+-- ---- a number of the row
+
+-- what opens a longer row exactly is an exact row
+opening : (n : ℕ) (row us : List ℕ) → areasLong n (row ++ us) ≡ length row → areasLong n row ≡ length row
+opening n row us e =
+    let all = row ++ us in
+    let a = areasLong n all in
+    let is : areasTold n all ≡ row = first-take a all (omega (arith, e, length-append row us)) ∙ take-at row us a (sym e) in
+    subst (λ l. areasLong n l ≡ length l) is (exact-told n all)
+
+module _ (english : Bool) (n : ℕ) (h row t : List ℕ) (j v : ℕ) {p w : ℕ} (exact : areasLong n row ≡ length row) (there : spot (rest english n) h (row ++ texted t) j ≡ found p w) where
+  behind : Past (rest english n) row (text english end)
+  behind = subst (λ l. Past (rest english n) l (text english end)) (told-exact n row exact) (areas-past n row (text english end))
+
+  -- it is one,
+  in-row : j < length row
+  in-row = go (leb (length row) j) refl
+    where
+      go : (x : Bool) → leb (length row) j ≡ x → j < length row
+      go true e = let (h′, q, z) = past-found (rest english n) (text english end) h row (texted t) j behind (leb-true (length row) j e) there in none-clash (sym (text-kept english t h′ (j - length row)) ∙ z)
+      go false e = leb-false (length row) j e
+
+  -- and the changed row has as many
+  pub row-set : (areasLong n (set row j v) ≡ length (set row j v)) × (set (row ++ texted t) j v ≡ set row j v ++ texted t)
+  row-set =
+      let all = set (row ++ texted t) j v in
+      let is : all ≡ set row j v ++ texted t = set-append-left row (texted t) j v in-row in
+      let (enough, y) = areas-filled n all (text english end) (filled-set (rest english n) h (row ++ texted t) j v (past-filled (rest english n) (text english end) row (texted t) behind tt) there) in
+      let (a, b, last) = two english (drop (areasLong n all) all) y in
+      let long : areasLong n all ≡ length (set row j v) =
+      omega (arith, enough, ap length last, length-drop (areasLong n all) all, length-set (row ++ texted t) j v, length-append row (texted t), length-set row j v) in
+      (opening n (set row j v) (texted t) (ap (areasLong n) (sym is) ∙ long), is)
+
+-- ---- the record
+
+-- the row, changed or not
+row-changed : (english : Bool) (x : Whole) (i v p w : ℕ) (b : Bool) → leb 8 i ≡ b → areasLong (x .0 .count) (x .1 .0) ≡ length (x .1 .0) → spot (notice english) [] (valuesOf x) i ≡ found p w
+    → let n = x .0 .count in let row = cond b (set (x .1 .0) (i - 8) v) (x .1 .0) in
+    (areasTold n row ++ texted (x .1 .1) ≡ eachAt i v 8 (areasTold n (x .1 .0) ++ texted (x .1 .1))) × (areasLong n row ≡ length row)
+unfolding notice valuesOf
+row-changed english x i v p w false k exact e = (sym (each-past i v 8 _ (leb-false 8 i k)), exact)
+row-changed english x i v p w true k exact e =
+    let r = x .0 in
+    let n = r .count in
+    let row = x .1 .0 in
+    let t = texted (x .1 .1) in
+    let j = i - 8 in
+    let told : areasTold n row ≡ row = told-exact n row exact in
+    let (h, q, there) = past-found (notice english) (rest english n) [] (headed r []) (areasTold n row ++ t) i refl (leb-true 8 i k) e in
+    let (exact′, is) = row-set english n h row (x .1 .1) j v exact (subst (λ l. spot (rest english n) h (l ++ t) j ≡ found q w) told there) in
+    let back : 8 + j ≡ i = omega (arith, leb-true 8 i k) in
+    (ap (_++ t) (told-exact n (set row j v) exact′) ∙ sym is ∙ ap (λ l. set (l ++ t) j v) (sym told) ∙ sym (each-from j v 8 (areasTold n row ++ t)) ∙ ap (λ i. eachAt i v 8 (areasTold n row ++ t)) back, exact′)
+
+-- The changed record has the changed list of values.
+pub changes : (english : Bool) (x : Whole) (i v p w : ℕ) → Lent x → spot (notice english) [] (valuesOf x) i ≡ found p w → (valuesOf (changed i v x) ≡ set (valuesOf x) i v) × Lent (changed i v x)
+unfolding valuesOf changed eachAt
+changes english x i v p w (exact, fine) e =
+    let r = x .0 in
+    let (rest, exact′) = row-changed english x i v p w (leb 8 i) refl exact e in
+    let f : ℕ → ℕ → ℕ = λ k old. cond (eqb i k) v old in
+    let count = kept-entry (λ i. spot (notice english) [] (valuesOf x) i) i v e 7 (r .count) (head-spotted english x 7 (lit< tt)) in (
+      (λ y. f 0 (r .source) ∷ f 1 (r .station) ∷ f 2 (r .serial) ∷ f 3 (r .year) ∷ f 4 (r .kind) ∷ f 5 (r .subtype) ∷ f 6 (r .expiry) ∷ count y ∷ rest y) ∙ sym (set-each i v (valuesOf x)),
+      (exact′, fine),
+    )

@@ -1,0 +1,55 @@
+-- The notice's layout is sound, and its judges refuse by the paper's numbers: so the laws on all layouts hold of it. Assumes nothing.
+use mathlib.Core.Path.{_≡_, refl}
+use mathlib.Core.Bool.{Bool, true, false, cond, _&&_, false≢true}
+use Prim.Native.Nat.{ℕ}
+use native.Mathlib.Omega.{arith}
+use lib.Dec.{leb}
+use lib.ListN.{length}
+use Rattle.bits.specs.Bits.{bytesOf}
+use Rattle.format.specs.Fmt.{bad, end}
+use Rattle.format.specs.Message.{Sound}
+use Rattle.format.specs.Words.{unless}
+use Rattle.format.specs.laws.Zero.{Numbered, Judged, only-numbered}
+use Rattle.notice_fields.specs.laws.PartsWalking.{expiry-numbered}
+use Rattle.notice_fields.specs.laws.Numbered.{areas-numbered}
+use Rattle.packet.specs.Packet.{joined}
+use Rattle.text.specs.Text.{inLanguage}
+use Rattle.notice.specs.Notice.{text, notice, notices}
+
+pub sound : (english : Bool) → Sound (notices english)
+unfolding notices
+sound english = record {
+  sized = λ s vs e. first (leb 8 (length s)) (leb (length s) joined);
+  kinds = λ b vs e. refl;
+  stays = λ vs i v p w e. refl;
+  some = λ e. absurd (false≢true e);
+}
+  where
+    first : (x y : Bool) → _≡_ {A = ℕ} (cond x (cond (x && y) 0 1) 1) (cond (x && y) 0 1)
+    first true y = refl
+    first false y = refl
+
+-- ---- every judge refuses by a number of the paper
+
+spoken : (english : Bool) (n : ℕ) → Numbered (λ h b. unless (inLanguage english (bytesOf n b)) 4 0)
+spoken english n h b i e = go (inLanguage english (bytesOf n b)) e
+  where
+    go : (x : Bool) → unless x 4 0 ≡ bad 0 i → ⊥
+    go true e = let z : _≡_ {A = ℕ} 0 1 = cc in omega arith
+    go false e = let z : _≡_ {A = ℕ} 4 0 = cc in omega arith
+
+pub judged : (english : Bool) → Judged (notice english)
+unfolding notice
+judged english = (
+  only-numbered 5 3 _,
+  (
+    only-numbered 4 3 _,
+    (
+      only-numbered 14 3 _,
+      (
+        only-numbered 7 3 _,
+        (only-numbered 4 3 _, (only-numbered 4 3 _, (expiry-numbered, (only-numbered 4 3 _, λ n. areas-numbered n (text english end) (λ m. (spoken english m, tt)))))),
+      ),
+    ),
+  ),
+)

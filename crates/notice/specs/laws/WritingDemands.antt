@@ -1,0 +1,88 @@
+-- Demands 2 and 3 of the notice, of the promises that its reading, writing and correcting make: a row with the numbers that its areas ask for is written as every layout's values are. Assumes nothing.
+use mathlib.Core.Path.{_≡_, refl, subst, subst⁻¹}
+use mathlib.Core.Bool.{Bool, true, false, cond}
+use mathlib.Core.List.{List, [], _∷_, _++_}
+use Prim.Native.Nat.{ℕ, _≤_, _<_, _^_}
+use native.Mathlib.Omega.{arith}
+use borrow.Author.Tests.{le-leb}
+use lib.ListN.{length, take, drop, length-append}
+use Rattle.bits.specs.Bits.{Bytes}
+use Rattle.format.specs.Fmt.{Out, accepted, found, spot}
+use Rattle.format.specs.Message.{codeOf, leaves, into, readMessage, writeMessage, ahead}
+use Rattle.format.specs.Promises.{readRecord, Writes, Corrects}
+use Rattle.format.specs.laws.Family.{read-values, written-read}
+use Rattle.format.specs.laws.Round.{clash}
+use Rattle.notice_fields.specs.Row.{areasLong, areasTold}
+use Rattle.notice_fields.specs.laws.Row.{exact-told, exact-more}
+use Rattle.notice.specs.Changed.{changed}
+use Rattle.notice.specs.Notice.{notice, notices}
+use Rattle.notice.specs.Promises.{toldOf, Reads}
+use Rattle.notice.specs.Record.{Whole, valuesOf, recordOf}
+use Rattle.notice.specs.declared.reading.Answer.the-variants.{Good}
+use Rattle.notice.specs.declared.reading.Notice.{Notice}
+use Rattle.notice.specs.declared.reading.Told.{Told}
+use Rattle.notice.specs.laws.Correction.{Lent, changes}
+use Rattle.notice.specs.laws.Demands.{asked-row, longer-row, family, wholeOf, good, written-reads as written-values, read-writes-back as values-back, corrected as corrected-values}
+use Rattle.notice.specs.WritingPromises.{enough, NoticeWrites}
+
+-- ---- what writing a notice promises, where the row has enough, is what every layout's writing does
+
+pub enough-writes : (english : Bool) (s : List ℕ) (r : Notice) (row t : List ℕ) (code : ℕ) (u : List ℕ) → enough r row ≡ true → NoticeWrites english s r row t code u
+    → Writes (notices english) s code u (valuesOf (r, (row, t)))
+enough-writes english s r row t code u e x =
+    let o = writeMessage (notices english) (valuesOf (r, (row, t))) in
+    subst (λ b. (code ≡ codeOf (into (cond b s []) o)) × (u ≡ cond b (leaves (into s o) s) s)) e x
+
+-- no notice has no bytes
+some-bytes : (english : Bool) (m : List ℕ) {x : Whole} → length m ≤ 0 → readRecord (notices english) recordOf m ≡ accepted x → ⊥
+unfolding readMessage notices
+some-bytes english [] l e = clash e
+some-bytes english (b ∷ m) l e = omega arith
+
+-- where it answered 0, the row had enough
+pub accepted-writes : (english : Bool) (s : List ℕ) (r : Notice) (row t u : List ℕ) → Bytes t → NoticeWrites english s r row t 0 u → (enough r row ≡ true) × Writes (notices english) s 0 u (valuesOf (r, (row, t)))
+accepted-writes english s r row t u fine x = go (enough r row) refl
+  where
+    o : Out (List ℕ)
+    o = writeMessage (notices english) (valuesOf (r, (row, t)))
+
+    go : (b : Bool) → enough r row ≡ b → (enough r row ≡ true) × Writes (notices english) s 0 u (valuesOf (r, (row, t)))
+    go true e = (e, enough-writes english s r row t 0 u e x)
+    go false e =
+        let w : Writes (notices english) [] 0 (leaves (into [] o) []) (valuesOf (r, (row, t))) = (subst (λ b. 0 ≡ codeOf (into (cond b s []) o)) e (x .0), refl) in
+        let y = written-read (family english) [] (r, (areasTold (r .count) row, t)) _ (exact-told (r .count) row, fine) (subst⁻¹ (Writes (notices english) [] 0 _) (asked-row r row t) w) in
+        absurd (some-bytes english (y .message) (y .room) (y .reads))
+
+-- ---- demand 2
+
+-- What is written from a row and a text is read back as the same record, the numbers that the row was asked for, and the same text, where there is room for them.
+pub written-reads : (english : Bool) (s : List ℕ) (r : Notice) (row t u : List ℕ) → Bytes t → NoticeWrites english s r row t 0 u → let xs = areasTold (r .count) row in
+    (m : List ℕ) × (u ≡ m ++ drop (length m) s)
+    × ((areas text : List ℕ) → length xs ≤ length areas → length t ≤ length text → Reads english m areas text (Good (toldOf (r, (xs, t)))) (ahead xs areas) (ahead t text))
+written-reads english s r row t u fine x = written-values english s r row t u fine (accepted-writes english s r row t u fine x .1)
+
+-- s is a notice that reading answered with a, the row and the text
+module _ (english : Bool) (s row text : List ℕ) (a : Told) (row′ text′ : List ℕ) (fine : Bytes s) (reads : Reads english s row text (Good a) row′ text′) where
+  -- the row has what the notice's areas ask for, and so has a longer one
+  lent : Lent (wholeOf a row′ text′)
+  lent = read-values (family english) s (wholeOf a row′ text′) fine (good english s row text a row′ text′ reads) .1
+
+  -- What is read is written back as the same bytes, from the numbers that were read, whatever stands behind them in the row.
+  pub read-writes-back : (us u : List ℕ) (code : ℕ) (t : List ℕ) → length s ≤ length u → NoticeWrites english u (a .notice) (take (a .numbers) row′ ++ us) (take (a .text) text′) code t
+      → (code ≡ 0) × (t ≡ s ++ drop (length s) u)
+  read-writes-back us u code t l x =
+      let r = a .notice in
+      let xs = take (a .numbers) row′ in
+      let more = exact-more (r .count) xs us (lent .0) in
+      let w = enough-writes english u r (xs ++ us) (take (a .text) text′) code t (le-leb (areasLong (r .count) (xs ++ us)) (length (xs ++ us)) (omega (arith, more, length-append xs us))) x in
+      values-back english s row text a row′ text′ fine reads u code t l (subst (Writes (notices english) u code t) (longer-row r xs us (take (a .text) text′) (lent .0)) w)
+
+  -- Demand 3: correcting a notice, where the field can spell the value, is writing the notice with that field changed; else nothing differs.
+  pub corrected : (i v p w : ℕ) → spot (notice english) [] (valuesOf (wholeOf a row′ text′)) i ≡ found p w → v < 2 ^ w → (code : ℕ) (t : List ℕ) → Corrects (notices english) s i v code t
+      → (u : List ℕ) → length s ≤ length u → (code′ : ℕ) (t′ : List ℕ) → let y = changed i v (wholeOf a row′ text′) in NoticeWrites english u (y .0) (y .1 .0) (y .1 .1) code′ t′
+      → (code ≡ code′) × (code ≡ 0 → t ≡ take (length s) t′) × ((code ≡ 0 → ⊥) → t ≡ s)
+  corrected i v p w e n code t c u l code′ t′ x =
+      let y = changed i v (wholeOf a row′ text′) in
+      let (exact, fine′) = changes english (wholeOf a row′ text′) i v p w lent e .1 in
+      let has : enough (y .0) (y .1 .0) ≡ true = le-leb (areasLong (y .0 .count) (y .1 .0)) (length (y .1 .0)) (omega (arith, exact)) in
+      corrected-values english s row text a row′ text′ fine reads i v p w e n code t c u l code′ t′ (enough-writes english u (y .0) (y .1 .0) (y .1 .1) code′ t′ has x)

@@ -1,0 +1,29 @@
+// The notice telegram (paper 01, "Notice and packet"; 000, 5.2.2): reading, writing and correcting it.
+ghost use Rattle.notice.specs.WritingPromises.{NoticeWrites, roomFor};
+ghost use mathlib.Core.Path.{_≡_};
+use crate::reading::Notice;
+
+mod making;
+
+// Writes the notice into the front of a lent buffer: its record, the numbers of its areas and its text are judged, then the
+// size that they make (1), then room (6): in the buffer, and that the row has as many numbers as its kinds and counts ask for.
+pub fn write(buf: &mut [u8], r: Notice, areas: &[u32], text: &[u8], english: bool) -> u8
+    ensures { λ code. ⌜ NoticeWrites english (now (buf .entry)) r (now (areas .entry)) (now (text .entry)) code (now (buf .exit)) ⌝ }
+{
+    let judged = making::judged(r, areas, text, english);
+    let walk = judged.walk;
+    let room = room(areas.len(), judged.next, buf.len());
+    let code = walk.closes_before(text.len(), false, Notice::LEAST, Notice::GREATEST, room);
+    if code != 0 {
+        return code;
+    }
+    making::put(buf, r, areas, text);
+    0
+}
+
+// The buffer's room: none where the row has fewer numbers than it should.
+fn room(has: usize, asked: usize, room: usize) -> usize
+    ensures { λ r. ⌜ r ≡ roomFor has asked room ⌝ }
+{
+    if has < asked { 0 } else { room }
+}
