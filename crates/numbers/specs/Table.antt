@@ -2,7 +2,7 @@
 use Prim.Native.Nat.{ℕ}
 use mathlib.Core.Bool.{Bool, true, false, _&&_}
 use mathlib.Core.List.{List, [], _∷_}
-use Rattle.angles.specs.Angles.{northing, easting}
+use Rattle.outline.specs.Angles.{northing, easting}
 use Rattle.places.specs.Desk.{alike}
 use Rattle.numbers.specs.Cases.{plus, minus, signs, sender, checked, position, longitudeRead, longitudeWritten, noticeBytes, noticeWritten, noticeRead, yearCorrected, packetHead, heldReplies, missing, slots, south, west, outlined}
 

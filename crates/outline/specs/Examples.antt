@@ -13,7 +13,7 @@ use Rattle.notice_fields.specs.Parts.{subtypes, subtype}
 use Rattle.notice_fields.specs.Areas.{points, areas}
 use Rattle.notice.specs.Notice.{notice, notices}
 use Rattle.notice.specs.Record.{headOf, textOf, recordOf}
-use Rattle.angles.specs.Angles.{northing}
+use Rattle.outline.specs.Angles.{northing}
 use Rattle.outline.specs.Outline.{pointsOf, outlineOf, pointCount}
 use Rattle.outline.specs.Promises.{drawn, counted}
 

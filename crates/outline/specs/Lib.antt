@@ -3,4 +3,5 @@ pub mod Outline
 pub mod Promises
 pub mod Standing
 mod Examples
+pub mod Angles
 pub mod laws

@@ -3,7 +3,7 @@ use Prim.Native.Nat.{ℕ, zero, suc, _+_}
 use mathlib.Core.List.{List, [], _∷_, _++_}
 use lib.IntN.{ℤ}
 use lib.ListN.{drop, getD}
-use Rattle.angles.specs.Angles.{northing, easting}
+use Rattle.outline.specs.Angles.{northing, easting}
 use Rattle.notice_fields.specs.Areas.{Kind, sea, circle, several, kindOf}
 use Rattle.notice_fields.specs.Row.{insideCount, areaLong}
 

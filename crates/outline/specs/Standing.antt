@@ -4,7 +4,7 @@ use mathlib.Core.List.{List, [], _∷_, _++_}
 use lib.IntN.{ℤ}
 use Rattle.bits.specs.Answers.{got}
 use Rattle.notice_fields.specs.Shapes.{shapeAt}
-use Rattle.angles.specs.Angles.{northing, easting}
+use Rattle.outline.specs.Angles.{northing, easting}
 use Rattle.notice_fields.specs.Parts.{latitudeBits, longitudeBits, pointBits}
 
 -- n points

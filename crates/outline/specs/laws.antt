@@ -1,3 +1,4 @@
 -- What is proved of them.
 pub mod Drawing
 pub mod Outlines
+pub mod Angles

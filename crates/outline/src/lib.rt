@@ -6,12 +6,14 @@ ghost use lib.Seq.{sets};
 ghost use Rattle.notice_fields.specs.Standing.{front};
 ghost use Rattle.outline.specs.Promises.{Outlines};
 ghost use Rattle.outline.specs.Standing.{pointsDrawn, outlineAt};
-pub use angles::latitude_of;
-pub use angles::longitude_of;
+pub use crate::angles::latitude_of;
+pub use crate::angles::longitude_of;
 use notice_fields::areas::FRONT;
 use notice_fields::parts::LATITUDE;
 use notice_fields::parts::LONGITUDE;
 use notice_fields::parts::POINT;
+
+pub mod angles;
 
 // How many points, or the refusal.
 pub enum Answer {

@@ -6,10 +6,10 @@ use borrow.Author.Needs.{needs}
 use lib.ListN.{length, length-set}
 use lib.Seq.{sets}
 use Rattle.bits.specs.Answers.{got}
-use Rattle.angles.specs.Angles.{northing, easting}
+use Rattle.outline.specs.Angles.{northing, easting}
 use Rattle.notice_fields.specs.Parts.{latitudeBits, longitudeBits, pointBits}
 use Rattle.outline.specs.Standing.{pointsDrawn}
-use Rattle.angles.specs.laws.Angles.{latitude-stored, longitude-stored}
+use Rattle.outline.specs.laws.Angles.{latitude-stored, longitude-stored}
 use Rattle.outline.specs.laws.Drawing.{point-turn}
 use Rattle.outline.proofs.draw_points.Statement.{statement}
 use Rattle.outline.proofs.draw_points.Tie as tie

@@ -14,7 +14,7 @@ use Rattle.notice_fields.specs.Standing.{pointsAt, insideAt, areaWide, areasAt,
 use Rattle.notice_fields.specs.Shapes.{shapeAs, shapeAt, pointsIn}
 use Rattle.notice_fields.specs.laws.Shapes.{points-long, area-next, area-small}
 use Rattle.notice_fields.specs.laws.Rows.{sets-on}
-use Rattle.angles.specs.Angles.{northing, easting}
+use Rattle.outline.specs.Angles.{northing, easting}
 use Rattle.notice_fields.specs.Parts.{latitudeBits, longitudeBits, pointBits}
 use Rattle.outline.specs.Outline.{pointsOf, insideOf, outlineOf, pointCount}
 use Rattle.outline.specs.Standing.{pointsDrawn, areaDrawn, outlineAt}

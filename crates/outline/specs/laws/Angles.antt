@@ -9,7 +9,7 @@ use borrow.Author.Tests.{eq-eqb, ne-eqb}
 use mir.Syntax.{w32}
 use mir.Val.{SFits, toZ, ofZ}
 use mir.ValLaws.{toZ-pos, toZ-ofZ}
-use Rattle.angles.specs.Angles.{hundredths, turned, northing, easting}
+use Rattle.outline.specs.Angles.{hundredths, turned, northing, easting}
 
 neg-fits : (m : ℕ) → m < 2 ^ 31 → SFits w32 (negℤ (pos m))
 neg-fits zero h = record { sfits = omega arith }

@@ -1,7 +1,7 @@
 // A point's angles as signed numbers (paper 01, "Notice and packet"): in hundredths of a minute, south and west negative.
 ghost use mathlib.Core.Path.{_≡_};
 ghost use Prim.Native.Nat.{_<_};
-ghost use Rattle.angles.specs.Angles.{hundredths, turned, northing, easting};
+ghost use Rattle.outline.specs.Angles.{hundredths, turned, northing, easting};
 
 // A latitude in hundredths of a minute, by the number that its bits spell: negative in the south.
 pub fn latitude_of(v: u64) -> i32

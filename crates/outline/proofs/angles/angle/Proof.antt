@@ -1,8 +1,8 @@
 -- `angle` is the sum of its parts, or its negative: both fit 32 signed bits.
 use borrow.Author.Needs.{needs}
-use Rattle.angles.specs.laws.Angles.{minus-fits, angle-kept, angle-turned}
-use Rattle.angles.proofs.angle.Statement.{statement}
-use Rattle.angles.proofs.angle.Tie as tie
+use Rattle.outline.specs.laws.Angles.{minus-fits, angle-kept, angle-turned}
+use Rattle.outline.proofs.angles.angle.Statement.{statement}
+use Rattle.outline.proofs.angles.angle.Tie as tie
 
 mul-size : tie.Need-mul-size
 mul-size c = search needs

@@ -1,2 +1,0 @@
--- What is proved of them.
-pub mod Angles
