@@ -6,18 +6,18 @@ use native.Mathlib.Omega.{arith}
 use lib.ListN.{length, take, drop, length-append, length-drop}
 use lib.Seq.{sets, drop-drop, length-sets, take-all}
 use borrow.Author.Tests.{le-leb, lt-leb}
-use Rattle.records.specs.Records.{Entry, front, records, sizeOf}
-use Rattle.kinds.specs.Kinds.{word, entryLine}
-use Rattle.kinds.specs.laws.Words.{word-few}
+use Rattle.daylog.specs.Records.{Entry, front, records, sizeOf}
+use Rattle.daylog.specs.Kinds.{word, entryLine}
+use Rattle.daylog.specs.laws.Words.{word-few}
 use Rattle.daylog.specs.Log.{after, after-all, lines}
-use Rattle.lines.specs.Stores.{placed, Stores}
+use Rattle.daylog.specs.Stores.{placed, Stores}
 use Rattle.daylog.specs.Promises.{listed, chosen, Lists}
-use Rattle.lines.specs.laws.Text.{sets-append}
-use Rattle.records.specs.laws.Records.{front-size, records-open}
+use Rattle.daylog.specs.laws.Text.{sets-append}
+use Rattle.daylog.specs.laws.Records.{front-size, records-open}
 use Rattle.daylog.specs.laws.Windows.{entryAt, records-next, body-size}
-use Rattle.records.specs.declared.Next.{Next}
-use Rattle.records.specs.declared.Next.the-variants.{Record, Bad, Short}
-use Rattle.lines.specs.laws.Made.{placed-all, stored}
+use Rattle.daylog.specs.declared.records.Next.{Next}
+use Rattle.daylog.specs.declared.records.Next.the-variants.{Record, Bad, Short}
+use Rattle.daylog.specs.laws.Made.{placed-all, stored}
 
 -- the records that are left to list
 abbrev pub ahead : List ℕ → List ℕ → ℕ → ℕ → ℕ → List Entry

@@ -11,12 +11,12 @@ use Rattle.format.specs.Fmt.{readField, read}
 use Rattle.format.specs.Message.{readMessage}
 use Rattle.format.specs.Words.{walk}
 use Rattle.serial.specs.Serial.{codeAs, codeOf as serialCode}
-use Rattle.lines.specs.Text.{digitsBy, decimal, line}
-use Rattle.kinds.specs.Words.{serial, packet, unknown}
+use Rattle.daylog.specs.LinesText.{digitsBy, decimal, line}
+use Rattle.daylog.specs.Words.{serial, packet, unknown}
 use Rattle.daylog.specs.Text.{head, broken}
-use Rattle.kinds.specs.Kinds.{word, codeOf, entryLine}
+use Rattle.daylog.specs.Kinds.{word, codeOf, entryLine}
 use Rattle.daylog.specs.Log.{after-all, lines, listingFrom, listing}
-use Rattle.records.specs.Records.{front, recordsBy, records, sizeOf}
+use Rattle.daylog.specs.Records.{front, recordsBy, records, sizeOf}
 
 tens : decimal 210 ≡ 0x32 ∷ 0x31 ∷ 0x30 ∷ []
 unfolding decimal digitsBy

@@ -4,4 +4,9 @@ pub mod Log
 pub mod Promises
 pub mod Run
 mod Examples
+pub mod LinesText
+pub mod Stores
+pub mod Records
+pub mod Words
+pub mod Kinds
 pub mod laws

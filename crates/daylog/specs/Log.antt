@@ -2,10 +2,10 @@
 use Prim.Native.Nat.{ℕ, zero, suc, _+_, _-_, _%_, _^_}
 use mathlib.Core.List.{List, [], _∷_, _++_}
 use lib.ListN.{length}
-use Rattle.kinds.specs.Kinds.{entryLine}
-use Rattle.lines.specs.Text.{line}
+use Rattle.daylog.specs.Kinds.{entryLine}
+use Rattle.daylog.specs.LinesText.{line}
 use Rattle.daylog.specs.Text.{head, broken}
-use Rattle.records.specs.Records.{Entry, records, sizeOf}
+use Rattle.daylog.specs.Records.{Entry, records, sizeOf}
 
 -- The number after n. Records are counted modulo 2 ^ 64, and no log has so many.
 abbrev pub after : ℕ → ℕ

@@ -6,11 +6,11 @@ use Prim.Native.Nat.{ℕ, _-_}
 use lib.Dec.{leb}
 use lib.ListN.{length}
 use Rattle.daylog.specs.Text.{head}
-use Rattle.records.specs.Records.{Entry, records, sizeOf}
-use Rattle.kinds.specs.Kinds.{entryLine}
+use Rattle.daylog.specs.Records.{Entry, records, sizeOf}
+use Rattle.daylog.specs.Kinds.{entryLine}
 use Rattle.daylog.specs.Log.{after, after-all, lines, endingOf}
 use Rattle.daylog.specs.declared.Listed.{Listed}
-use Rattle.lines.specs.Stores.{Made}
+use Rattle.daylog.specs.Stores.{Made}
 
 -- 55 bytes are room for any line
 abbrev pub roomed : List ℕ → List ℕ → List ℕ

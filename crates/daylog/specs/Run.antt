@@ -3,10 +3,10 @@ use mathlib.Core.Path.{_≡_}
 use mathlib.Core.List.{List, [], _++_}
 use Prim.Native.Nat.{ℕ, _≤_}
 use lib.ListN.{length, take, drop}
-use Rattle.records.specs.Records.{front}
+use Rattle.daylog.specs.Records.{front}
 use Rattle.daylog.specs.Promises.{Lists, Ends}
 use Rattle.daylog.specs.declared.Listed.{Listed}
-use Rattle.records.specs.declared.Next.the-variants.{Bad, Short}
+use Rattle.daylog.specs.declared.records.Next.the-variants.{Bad, Short}
 
 -- a run from record number n on, that holds some bytes of the log and has yet to read the rest, and the text that it writes
 pub data Run : ℕ → List ℕ → List ℕ → List ℕ → Type 0 where

@@ -1,13 +1,17 @@
 // The day log (paper 01, "Day log listing"): what stands in it, and its listing, a window of the log at a time.
 ghost use Rattle.daylog.specs.Promises.{Lists, Ends, Heads};
-pub use kinds::code;
-use kinds::entry;
-use lines::line;
-use lines::text;
-use records::HEAD;
-pub use records::Next;
-pub use records::first;
-pub use records::keep;
+pub use crate::kinds::code;
+use crate::kinds::entry;
+use crate::lines::line;
+use crate::lines::text;
+use crate::records::HEAD;
+pub use crate::records::Next;
+pub use crate::records::first;
+pub use crate::records::keep;
+
+pub mod kinds;
+pub mod lines;
+pub mod records;
 
 // No line is longer: two numbers of 20 digits, a word of 8, a code of 3, three spaces and the line feed.
 pub const ROOM: usize = 55;

@@ -5,11 +5,11 @@ use native.Mathlib.Omega.{arith}
 use lib.Dec.{lit<}
 use lib.ListN.{length}
 use borrow.Author.Tests.{le-leb, lt-leb}
-use Rattle.lines.specs.Text.{line}
+use Rattle.daylog.specs.LinesText.{line}
 use Rattle.daylog.specs.Text.{broken}
 use Rattle.daylog.specs.Log.{endingOf}
-use Rattle.lines.specs.laws.Text.{line-most}
-use Rattle.lines.specs.laws.Made.{none, placed-all, stored}
+use Rattle.daylog.specs.laws.Text.{line-most}
+use Rattle.daylog.specs.laws.Made.{none, placed-all, stored}
 use borrow.Author.Needs.{needs}
 use Rattle.daylog.proofs.ending.Statement.{statement}
 use Rattle.daylog.proofs.ending.Tie as tie

@@ -3,7 +3,7 @@ use native.Mathlib.Omega.{arith}
 use lib.ListN.{length}
 use borrow.Author.Tests.{le-leb, lt-leb}
 use Rattle.daylog.specs.Text.{head}
-use Rattle.lines.specs.laws.Made.{none, placed-all, stored}
+use Rattle.daylog.specs.laws.Made.{none, placed-all, stored}
 use borrow.Author.Needs.{needs}
 use Rattle.daylog.proofs.heading.Statement.{statement}
 use Rattle.daylog.proofs.heading.Tie as tie

@@ -4,7 +4,7 @@ use mathlib.Core.Logic.{⊎-elim}
 use Prim.Native.Nat.{_-_}
 use native.Mathlib.Omega.{arith}
 use lib.ListN.{length, drop, length-drop}
-use Rattle.records.specs.Records.{front, records}
+use Rattle.daylog.specs.Records.{front, records}
 use Rattle.daylog.proofs.Listing.{Left, start, turn, stop, full, dry, rest-of, seen, fits, body-of}
 use Rattle.daylog.proofs.list.Statement.{statement}
 use Rattle.daylog.proofs.list.Tie as tie

@@ -4,7 +4,7 @@ use mathlib.Core.List.{List}
 use Prim.Native.Nat.{ℕ}
 use Rattle.daylog.specs.Promises.{Lists, Ends, Heads}
 use Rattle.daylog.specs.declared.Listed.{Listed}
-use Rattle.lines.specs.laws.Made.{one-text}
+use Rattle.daylog.specs.laws.Made.{one-text}
 
 pub one-list : (s : List ℕ) (n : ℕ) (out : List ℕ) (a b : Listed) (x y : List ℕ) → Lists s n out a x → Lists s n out b y → (a ≡ b) × (x ≡ y)
 one-list s n out a b x y p q =

@@ -10,16 +10,16 @@ use lib.ListN.{length, take, drop, length-append, length-take, length-drop}
 use lib.Seq.{take-at, take-append-le, drop-append-le, drop-drop}
 use borrow.Author.Tests.{le-leb}
 use Rattle.daylog.specs.Text.{head}
-use Rattle.records.specs.Records.{Entry, front, opened, records, sizeOf}
-use Rattle.kinds.specs.Kinds.{entryLine}
+use Rattle.daylog.specs.Records.{Entry, front, opened, records, sizeOf}
+use Rattle.daylog.specs.Kinds.{entryLine}
 use Rattle.daylog.specs.Log.{after, after-all, lines, endingOf, listingFrom, listing}
-use Rattle.lines.specs.Stores.{Made}
+use Rattle.daylog.specs.Stores.{Made}
 use Rattle.daylog.specs.Promises.{roomed, listed, Lists, Heads}
 use Rattle.daylog.specs.Run.{Run, reads, lists, cut, bad}
-use Rattle.records.specs.laws.Records.{front-size, front-stays, records-empty, records-open}
+use Rattle.daylog.specs.laws.Records.{front-size, front-stays, records-empty, records-open}
 use Rattle.daylog.specs.declared.Listed.{Listed}
-use Rattle.records.specs.declared.Next.{Next}
-use Rattle.records.specs.declared.Next.the-variants.{Record, Bad, Short}
+use Rattle.daylog.specs.declared.records.Next.{Next}
+use Rattle.daylog.specs.declared.records.Next.the-variants.{Record, Bad, Short}
 
 -- the record that s begins with
 abbrev pub entryAt : List ℕ → ℕ → ℕ → Entry

@@ -1,0 +1,169 @@
+-- `entry` stores the line with the word that its kind has.
+use mathlib.Core.Path.{_≡_, refl}
+use mathlib.Core.List.{List}
+use Prim.Native.Nat.{ℕ, _+_, _≤_, _<_, _^_}
+use native.Mathlib.Omega.{arith}
+use lib.Dec.{lit≤}
+use lib.ListN.{length}
+use borrow.Author.Tests.{ne-eqb}
+use Rattle.daylog.specs.Kinds.{word, codeOf, entryLine}
+use Rattle.daylog.specs.Stores.{placed, Stores}
+use Rattle.daylog.specs.LinesText.{line}
+use Rattle.daylog.specs.Words.{serial, packet, distress, ais, unknown}
+use Rattle.daylog.specs.laws.Text.{line-most}
+use Rattle.daylog.specs.laws.Made.{placed-most}
+use borrow.Author.Needs.{needs}
+use Rattle.daylog.proofs.kinds.entry.Statement.{statement}
+use Rattle.daylog.proofs.kinds.entry.Tie as tie
+
+-- ---- the words
+
+serial-word : (k : ℕ) → k ≡ 1 → word k ≡ serial
+unfolding word
+serial-word k e = rw e refl
+
+packet-word : (k : ℕ) → k ≡ 2 → word k ≡ packet
+unfolding word
+packet-word k e = rw e refl
+
+distress-word : (k : ℕ) → k ≡ 3 → word k ≡ distress
+unfolding word
+distress-word k e = rw e refl
+
+ais-word : (k : ℕ) → k ≡ 4 → word k ≡ ais
+unfolding word
+ais-word k e = rw e refl
+
+other-word : (k : ℕ) → (k ≡ 1 → ⊥) → (k ≡ 2 → ⊥) → (k ≡ 3 → ⊥) → (k ≡ 4 → ⊥) → word k ≡ unknown
+unfolding word
+other-word k a b c d = rw (ne-eqb k 1 a, ne-eqb k 2 b, ne-eqb k 3 c, ne-eqb k 4 d) refl
+
+-- ---- a line with the word w
+
+module _ (n k : ℕ) (body w : List ℕ) (code : ℕ) (small : n < 2 ^ 64) (short : length w ≤ 8) (byte : code < 256) (few : length body < 2 ^ 64) where
+  pub stored : word k ≡ w → code ≡ codeOf k body → {at r : ℕ} {out left : List ℕ} → Stores out at (placed (length w + 47) out at (line n w code (length body))) r left
+      → Stores out at (placed (length (word k) + 47) out at (entryLine n (record { kind = k; body = body }))) r left × (r ≤ at + 55)
+  unfolding entryLine
+  stored e f {at} {r} {out} s = (
+    rw (e, ← f) s,
+    omega (arith, s .ends, placed-most (length w + 47) out at (line n w code (length body)), line-most n w code (length body) small byte few),
+  )
+
+code-requires : tie.Need-code-requires
+code-requires c κs = search needs
+
+slice-aggregate-line : tie.Need-slice-aggregate-line
+slice-aggregate-line c = search needs
+
+line-requires : tie.Need-line-requires
+line-requires c κs = search needs
+
+slice-aggregate-line-2 : tie.Need-slice-aggregate-line-2
+slice-aggregate-line-2 c = search needs
+
+line-requires-2 : tie.Need-line-requires-2
+line-requires-2 c κs = search needs
+
+slice-aggregate-line-3 : tie.Need-slice-aggregate-line-3
+slice-aggregate-line-3 c = search needs
+
+line-requires-3 : tie.Need-line-requires-3
+line-requires-3 c κs = search needs
+
+slice-aggregate-line-4 : tie.Need-slice-aggregate-line-4
+slice-aggregate-line-4 c = search needs
+
+line-requires-4 : tie.Need-line-requires-4
+line-requires-4 c κs = search needs
+
+slice-aggregate-line-5 : tie.Need-slice-aggregate-line-5
+slice-aggregate-line-5 c = search needs
+
+line-requires-5 : tie.Need-line-requires-5
+line-requires-5 c κs = search needs
+
+same-length : tie.Need-same-length
+same-length c = search needs
+
+returns : tie.Need-returns
+returns c =
+    let l = c .before .before in
+    let m = l .before .before .before in
+    let p = m .before in
+    let s = p .before .before .before in
+    let a = s .args in
+    stored (a .number) (a .kind) (a .body .now) serial (p .code .result) (s .fits .number .fits) (lit≤ tt) (omega arith) (omega arith) (serial-word (a .kind) (m .match .keys1)) (p .code .ensures) (l .line .ensures)
+
+same-length-2 : tie.Need-same-length-2
+same-length-2 c = search needs
+
+returns-2 : tie.Need-returns-2
+returns-2 c =
+    let l = c .before .before in
+    let m = l .before .before .before in
+    let p = m .before in
+    let s = p .before .before .before in
+    let a = s .args in
+    stored (a .number) (a .kind) (a .body .now) packet (p .code .result) (s .fits .number .fits) (lit≤ tt) (omega arith) (omega arith) (packet-word (a .kind) (m .match .keys2)) (p .code .ensures) (l .line2 .ensures)
+
+same-length-3 : tie.Need-same-length-3
+same-length-3 c = search needs
+
+returns-3 : tie.Need-returns-3
+returns-3 c =
+    let l = c .before .before in
+    let m = l .before .before .before in
+    let p = m .before in
+    let s = p .before .before .before in
+    let a = s .args in
+    stored (a .number) (a .kind) (a .body .now) distress (p .code .result) (s .fits .number .fits) (lit≤ tt) (omega arith) (omega arith) (distress-word (a .kind) (m .match .keys3)) (p .code .ensures) (l .line3 .ensures)
+
+same-length-4 : tie.Need-same-length-4
+same-length-4 c = search needs
+
+returns-4 : tie.Need-returns-4
+returns-4 c =
+    let l = c .before .before in
+    let m = l .before .before .before in
+    let p = m .before in
+    let s = p .before .before .before in
+    let a = s .args in
+    stored (a .number) (a .kind) (a .body .now) ais (p .code .result) (s .fits .number .fits) (lit≤ tt) (omega arith) (omega arith) (ais-word (a .kind) (m .match .keys4)) (p .code .ensures) (l .line4 .ensures)
+
+same-length-5 : tie.Need-same-length-5
+same-length-5 c = search needs
+
+returns-5 : tie.Need-returns-5
+returns-5 c =
+    let l = c .before .before in
+    let m = l .before .before .before in
+    let p = m .before in
+    let s = p .before .before .before in
+    let a = s .args in
+    stored (a .number) (a .kind) (a .body .now) unknown (p .code .result) (s .fits .number .fits) (lit≤ tt) (omega arith) (omega arith) (other-word (a .kind) (m .match .rest .0 .0 .0 .1) (m .match .rest .0 .0 .1) (m .match .rest .0 .1) (m .match .rest .1)) (p .code .ensures) (l .line5 .ensures)
+
+pub entry-spec : {M : Type 1} → statement M
+entry-spec =
+    tie.close
+    (tie.spec
+    code-requires
+    slice-aggregate-line
+    line-requires
+    slice-aggregate-line-2
+    line-requires-2
+    slice-aggregate-line-3
+    line-requires-3
+    slice-aggregate-line-4
+    line-requires-4
+    slice-aggregate-line-5
+    line-requires-5
+    same-length
+    returns
+    same-length-2
+    returns-2
+    same-length-3
+    returns-3
+    same-length-4
+    returns-4
+    same-length-5
+    returns-5)

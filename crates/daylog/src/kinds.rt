@@ -1,0 +1,55 @@
+// The kinds of a day log's records (paper 01, "Day log listing"): what reading a body answers, and the line that is listed.
+ghost use mathlib.Core.Path.{_≡_};
+ghost use Prim.Native.Nat.{_+_, _≤_};
+ghost use lib.ListN.{length};
+ghost use Rattle.daylog.specs.Stores.{placed, Stores};
+ghost use Rattle.daylog.specs.Kinds.{word, codeOf, entryLine};
+ghost use Rattle.format.specs.Message.{codeOf as Message·codeOf, readMessage};
+ghost use Rattle.distress.specs.Report.{reports};
+ghost use Rattle.packet.specs.Packet.{packets};
+use crate::lines::line;
+
+// What reading the body answers, by the record's kind.
+pub fn code(kind: u16, body: &[u8]) -> u8
+    ensures { λ r. ⌜ r ≡ codeOf kind (now (body .entry)) ⌝ }
+{
+    match kind {
+        1 => serial::code(body),
+        2 => packet(body),
+        3 => report(body),
+        4 => ais::code(body),
+        _ => format::KIND,
+    }
+}
+
+fn packet(body: &[u8]) -> u8
+    ensures { λ r. ⌜ r ≡ Message·codeOf (readMessage packets (now (body .entry))) ⌝ }
+{
+    let answer = packet::read(body);
+    answer.refusal()
+}
+
+fn report(body: &[u8]) -> u8
+    ensures { λ r. ⌜ r ≡ Message·codeOf (readMessage reports (now (body .entry))) ⌝ }
+{
+    let answer = distress::read(body);
+    answer.refusal()
+}
+
+// A record's line, with its kind's word. Where a line with that word might have no room, answers the same place and leaves
+// every byte.
+pub fn entry(out: &mut [u8], at: usize, number: u64, kind: u16, body: &[u8]) -> usize
+    ensures { λ r. ⌜ Stores (now (out .entry)) at
+        (placed (length (word kind) + 47) (now (out .entry)) at (entryLine number (record { kind = kind; body = now (body .entry) }))) r (now (out .exit))
+        × (r ≤ at + 55) ⌝ }
+{
+    let code = code(kind, body);
+    let bytes = body.len() as u64;
+    match kind {
+        1 => line(out, at, number, b"serial", code, bytes),
+        2 => line(out, at, number, b"packet", code, bytes),
+        3 => line(out, at, number, b"distress", code, bytes),
+        4 => line(out, at, number, b"ais", code, bytes),
+        _ => line(out, at, number, b"unknown", code, bytes),
+    }
+}

@@ -1,2 +1,0 @@
--- What the proof of `keep` cites.
-mod Moved

@@ -1,3 +1,0 @@
--- What is proved of them.
-pub mod Records
-pub mod Answers
