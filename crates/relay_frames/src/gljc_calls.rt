@@ -1,5 +1,5 @@
 // The frame GLJC: writing and correcting.
-ghost use Rattle.frame_rows.specs.Gljc.{recordOf};
+ghost use Rattle.c_rows.specs.Gljc.{recordOf};
 ghost use Rattle.gljc.specs.Gljc.{gljcs, valuesOf};
 ghost use Rattle.format.specs.Promises.{Writes, Corrects};
 use gljc::Gljc;

@@ -1,5 +1,5 @@
 // The frame TXHZ: writing and correcting.
-ghost use Rattle.txhz_rows.specs.Txhz.{TxhzWrites};
+ghost use Rattle.c_rows.specs.Txhz.{TxhzWrites};
 ghost use Rattle.txhz.specs.Txhz.{txhzs};
 ghost use Rattle.format.specs.Promises.{Corrects};
 
@@ -14,7 +14,7 @@ pub extern "C" fn bellnewt_txhz_write(
 ) -> u8
     ensures { λ code. ⌜ TxhzWrites (now (buf .entry)) (now (receipts .entry)) address receiver count code (now (buf .exit)) ⌝ }
 {
-    txhz_rows::write(buf, receipts, address, receiver, count)
+    c_rows::txhzs::write(buf, receipts, address, receiver, count)
 }
 
 // Makes field number `field` of the frame be `value`, or leaves every byte.

@@ -1,5 +1,5 @@
 // The frame TXSQ: writing and correcting.
-ghost use Rattle.frame_rows.specs.Txsq.{recordOf};
+ghost use Rattle.c_rows.specs.Txsq.{recordOf};
 ghost use Rattle.txsq.specs.Txsq.{txsqs, valuesOf};
 ghost use Rattle.format.specs.Promises.{Writes, Corrects};
 use txsq::Txsq;

@@ -1,5 +1,5 @@
 // The frame TXXX: writing and correcting.
-ghost use Rattle.frame_rows.specs.Txxx.{recordOf};
+ghost use Rattle.c_rows.specs.Txxx.{recordOf};
 ghost use Rattle.txxx.specs.Txxx.{txxxs, valuesOf};
 ghost use Rattle.format.specs.Promises.{Writes, Corrects};
 use txxx::Txxx;

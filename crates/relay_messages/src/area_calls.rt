@@ -1,6 +1,6 @@
 // An area, message 6 with application 412/11: writing and correcting.
 ghost use Rattle.bits.specs.Bits.{fieldAt};
-ghost use Rattle.area_rows.specs.Area.{recordOf, circleOf, rectangleOf};
+ghost use Rattle.c_rows.specs.Area.{recordOf, circleOf, rectangleOf};
 ghost use Rattle.area.specs.Area.{areas, valuesOf};
 ghost use Rattle.area.specs.Changed.{fieldOf};
 ghost use Rattle.format.specs.Promises.{Writes, Corrects};

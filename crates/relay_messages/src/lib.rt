@@ -1,5 +1,5 @@
 // What C and Rust link of the AIS messages but their reading (`relay_reading`): calls over numbers and lent slices. Each one hands on what the family's own call promises.
-ghost use Rattle.slot_rows.specs.Slots.{SlotsTold};
+ghost use Rattle.c_rows.specs.Slots.{SlotsTold};
 
 pub mod area_calls;
 pub mod warning_calls;
@@ -9,5 +9,5 @@ pub mod warning_calls;
 pub extern "C" fn bellnewt_slots(message: u8, bytes: usize, slots: &mut u8) -> u8
     ensures { λ code. ⌜ SlotsTold message bytes (now (slots .entry)) code (now (slots .exit)) ⌝ }
 {
-    slot_rows::slots(message, bytes, slots)
+    c_rows::slots::slots(message, bytes, slots)
 }

@@ -1,6 +1,6 @@
 // A warning, message 8 with application 412/03: writing and correcting.
 ghost use Rattle.bits.specs.Bits.{fieldAt};
-ghost use Rattle.warning_rows.specs.Warning.{recordOf, cycloneOf, galeOf, wavesOf, fogOf, surgeOf};
+ghost use Rattle.c_rows.specs.Warning.{recordOf, cycloneOf, galeOf, wavesOf, fogOf, surgeOf};
 ghost use Rattle.format.specs.Promises.{Writes, Corrects};
 ghost use Rattle.warning.specs.Changed.{fieldOf};
 ghost use Rattle.warning.specs.Warning.{warnings, valuesOf};

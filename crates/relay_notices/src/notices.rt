@@ -1,6 +1,6 @@
 // The notice: writing and correcting. Language 0 is Chinese, 1 English; above that it is 4 before anything else.
-ghost use Rattle.notice_rows.specs.Notice.{recordOf};
-ghost use Rattle.notice_rows.specs.Making.{WritesIn, CorrectsIn};
+ghost use Rattle.c_rows.specs.Notice.{recordOf};
+ghost use Rattle.c_rows.specs.Making.{WritesIn, CorrectsIn};
 use notice::Notice;
 
 // Writes the notice of these numbers, areas and text into the front of a lent buffer.
@@ -31,7 +31,7 @@ pub extern "C" fn bellnewt_notice_write(
         expiry,
         count,
     };
-    notice_rows::write(buf, areas, text, language, r)
+    c_rows::notices::write(buf, areas, text, language, r)
 }
 
 // Makes field number `field` of the notice be `value`, or leaves every byte.
@@ -44,5 +44,5 @@ pub extern "C" fn bellnewt_notice_correct(
 ) -> u8
     ensures { λ code. ⌜ CorrectsIn language (now (s .entry)) field value code (now (s .exit)) ⌝ }
 {
-    notice_rows::correct(s, language, field, value)
+    c_rows::notices::correct(s, language, field, value)
 }

@@ -1,5 +1,5 @@
 // The outline of a notice.
-ghost use Rattle.outline_rows.specs.Told.{OutlineTold};
+ghost use Rattle.c_rows.specs.Told.{OutlineTold};
 
 // The points of a notice into the front of the row, latitude then longitude in hundredths of a minute, and how many they are into `points`. Language 0 is Chinese, 1 English.
 #[no_mangle]
@@ -11,5 +11,5 @@ pub extern "C" fn bellnewt_outline(
 ) -> u8
     ensures { λ code. ⌜ OutlineTold (now (s .entry)) language (now (row .entry)) (now (points .entry)) code (now (row .exit)) (now (points .exit)) ⌝ }
 {
-    outline_rows::outline(s, language, row, points)
+    c_rows::outlines::outline(s, language, row, points)
 }

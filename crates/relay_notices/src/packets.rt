@@ -1,7 +1,7 @@
 // The packet: writing and correcting; the splitter's calls.
 ghost use mathlib.Core.Path.{_≡_};
-ghost use Rattle.packet_rows.specs.Packet.{recordOf};
-ghost use Rattle.packet_rows.specs.Split.{SplitsIn};
+ghost use Rattle.c_rows.specs.Packet.{recordOf};
+ghost use Rattle.c_rows.specs.Split.{SplitsIn};
 ghost use Rattle.packet.specs.Packet.{packets, valuesOf};
 ghost use Rattle.packet.specs.Splitter.{nextNumber};
 ghost use Rattle.format.specs.Promises.{Writes, Corrects};
@@ -47,7 +47,7 @@ pub extern "C" fn bellnewt_split(
 ) -> u8
     ensures { λ code. ⌜ SplitsIn (now (buf .entry)) (now (content .entry)) language number packet code (now (buf .exit)) ⌝ }
 {
-    packet_rows::split(buf, content, language, number, packet)
+    c_rows::packets::split(buf, content, language, number, packet)
 }
 
 // The next message number: after 255 it is 0.

@@ -1,23 +1,23 @@
 // What C and Rust link of every family's reading, over numbers and lent slices. Each call hands on what the family's own
 // call promises. They stand apart from the others: where a message's fields are read by one call alone, the compiler makes
 // one function of it.
-ghost use Rattle.rows.specs.Row.{Fills};
-ghost use Rattle.report_rows.specs.Report.{numbersOf as Report·numbersOf};
-ghost use Rattle.frame_rows.specs.Gljc.{numbersOf as Gljc·numbersOf};
-ghost use Rattle.frame_rows.specs.Txsq.{numbersOf as Txsq·numbersOf};
-ghost use Rattle.frame_rows.specs.Txxx.{numbersOf as Txxx·numbersOf};
-ghost use Rattle.txhz_rows.specs.Txhz.{numbersOf as Txhz·numbersOf};
-ghost use Rattle.warning_rows.specs.Warning.{numbersOf as Warning·numbersOf};
-ghost use Rattle.area_rows.specs.Area.{numbersOf as Area·numbersOf};
-ghost use Rattle.packet_rows.specs.Packet.{numbersOf as Packet·numbersOf};
-ghost use Rattle.notice_rows.specs.Notice.{NoticeFills};
+ghost use Rattle.c_rows.specs.Row.{Fills};
+ghost use Rattle.c_rows.specs.Report.{numbersOf as Report·numbersOf};
+ghost use Rattle.c_rows.specs.Gljc.{numbersOf as Gljc·numbersOf};
+ghost use Rattle.c_rows.specs.Txsq.{numbersOf as Txsq·numbersOf};
+ghost use Rattle.c_rows.specs.Txxx.{numbersOf as Txxx·numbersOf};
+ghost use Rattle.c_rows.specs.Txhz.{numbersOf as Txhz·numbersOf};
+ghost use Rattle.c_rows.specs.Warning.{numbersOf as Warning·numbersOf};
+ghost use Rattle.c_rows.specs.Area.{numbersOf as Area·numbersOf};
+ghost use Rattle.c_rows.specs.Packet.{numbersOf as Packet·numbersOf};
+ghost use Rattle.c_rows.specs.Notice.{NoticeFills};
 
 // Reads the report into a row of 9: mmsi, longitude, latitude, day, hour, minute, speed, course, kind.
 #[no_mangle]
 pub extern "C" fn bellnewt_distress_read(s: &[u8], row: &mut [i64]) -> u8
     ensures { λ code. ⌜ Fills (Report·numbersOf (now (s .entry))) (now (row .entry)) code (now (row .exit)) ⌝ }
 {
-    report_rows::report::read(s, row)
+    c_rows::report::read(s, row)
 }
 
 // Reads the frame GLJC into a row of 2: address, minutes.
@@ -25,7 +25,7 @@ pub extern "C" fn bellnewt_distress_read(s: &[u8], row: &mut [i64]) -> u8
 pub extern "C" fn bellnewt_gljc_read(s: &[u8], row: &mut [i64]) -> u8
     ensures { λ code. ⌜ Fills (Gljc·numbersOf (now (s .entry))) (now (row .entry)) code (now (row .exit)) ⌝ }
 {
-    frame_rows::gljcs::read(s, row)
+    c_rows::gljcs::read(s, row)
 }
 
 // Reads the frame TXSQ into a row of 9: address, category, mode, password, receiver, size, answer, where the content begins and its bytes.
@@ -33,7 +33,7 @@ pub extern "C" fn bellnewt_gljc_read(s: &[u8], row: &mut [i64]) -> u8
 pub extern "C" fn bellnewt_txsq_read(s: &[u8], row: &mut [i64]) -> u8
     ensures { λ code. ⌜ Fills (Txsq·numbersOf (now (s .entry))) (now (row .entry)) code (now (row .exit)) ⌝ }
 {
-    frame_rows::txsqs::read(s, row)
+    c_rows::txsqs::read(s, row)
 }
 
 // Reads the frame TXXX into a row of 9: address, class, sender, hour, minute, size, mark, where the content begins and its bytes.
@@ -41,7 +41,7 @@ pub extern "C" fn bellnewt_txsq_read(s: &[u8], row: &mut [i64]) -> u8
 pub extern "C" fn bellnewt_txxx_read(s: &[u8], row: &mut [i64]) -> u8
     ensures { λ code. ⌜ Fills (Txxx·numbersOf (now (s .entry))) (now (row .entry)) code (now (row .exit)) ⌝ }
 {
-    frame_rows::txxxs::read(s, row)
+    c_rows::txxxs::read(s, row)
 }
 
 // Reads the frame TXHZ into a row of 23: address, receiver, count, then each receipt's sent hour, sent minute, receipt hour, receipt minute.
@@ -49,7 +49,7 @@ pub extern "C" fn bellnewt_txxx_read(s: &[u8], row: &mut [i64]) -> u8
 pub extern "C" fn bellnewt_txhz_read(s: &[u8], row: &mut [i64]) -> u8
     ensures { λ code. ⌜ Fills (Txhz·numbersOf (now (s .entry))) (now (row .entry)) code (now (row .exit)) ⌝ }
 {
-    txhz_rows::read(s, row)
+    c_rows::txhzs::read(s, row)
 }
 
 // Reads the warning into a row of 17: repeat, source, warning type, longitude, latitude, seven numbers of its body, month, day, hour, minute, hours.
@@ -57,7 +57,7 @@ pub extern "C" fn bellnewt_txhz_read(s: &[u8], row: &mut [i64]) -> u8
 pub extern "C" fn bellnewt_warning_read(s: &[u8], row: &mut [i64]) -> u8
     ensures { λ code. ⌜ Fills (Warning·numbersOf (now (s .entry))) (now (row .entry)) code (now (row .exit)) ⌝ }
 {
-    warning_rows::read(s, row)
+    c_rows::warnings::read(s, row)
 }
 
 // Reads the area into a row of 19: repeat, source, sequence, destination, resent, kind, shape, four numbers of its shape, month, day, hour, minute, second month, second day, second hour, advice.
@@ -65,7 +65,7 @@ pub extern "C" fn bellnewt_warning_read(s: &[u8], row: &mut [i64]) -> u8
 pub extern "C" fn bellnewt_area_read(s: &[u8], row: &mut [i64]) -> u8
     ensures { λ code. ⌜ Fills (Area·numbersOf (now (s .entry))) (now (row .entry)) code (now (row .exit)) ⌝ }
 {
-    area_rows::read(s, row)
+    c_rows::areas::read(s, row)
 }
 
 // Reads the packet into a row of 6: language, number, total, own, where the content begins and its bytes.
@@ -73,7 +73,7 @@ pub extern "C" fn bellnewt_area_read(s: &[u8], row: &mut [i64]) -> u8
 pub extern "C" fn bellnewt_packet_read(s: &[u8], row: &mut [i64]) -> u8
     ensures { λ code. ⌜ Fills (Packet·numbersOf (now (s .entry))) (now (row .entry)) code (now (row .exit)) ⌝ }
 {
-    packet_rows::read(s, row)
+    c_rows::packets::read(s, row)
 }
 
 // Reads the notice into a row of 10: source, station, serial, year, type, subtype, expiry, how many areas, how many numbers
@@ -88,5 +88,5 @@ pub extern "C" fn bellnewt_notice_read(
 ) -> u8
     ensures { λ code. ⌜ NoticeFills language (now (s .entry)) (now (row .entry)) (now (areas .entry)) (now (text .entry)) code (now (row .exit)) (now (areas .exit)) (now (text .exit)) ⌝ }
 {
-    notice_rows::read(s, language, row, areas, text)
+    c_rows::notices::read(s, language, row, areas, text)
 }

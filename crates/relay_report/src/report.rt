@@ -1,5 +1,5 @@
 // The distress report: writing and correcting.
-ghost use Rattle.report_rows.specs.Report.{recordOf};
+ghost use Rattle.c_rows.specs.Report.{recordOf};
 ghost use Rattle.distress.specs.Report.{reports, valuesOf};
 ghost use Rattle.format.specs.Promises.{Writes, Corrects};
 use distress::Report;

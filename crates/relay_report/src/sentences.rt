@@ -1,7 +1,7 @@
 // The distress sentence's calls.
-ghost use Rattle.rows.specs.Row.{Fills};
-ghost use Rattle.report_rows.specs.Report.{recordOf};
-ghost use Rattle.report_rows.specs.Sentence.{sentenceNumbers, SentenceWrites};
+ghost use Rattle.c_rows.specs.Row.{Fills};
+ghost use Rattle.c_rows.specs.Report.{recordOf};
+ghost use Rattle.c_rows.specs.Sentence.{sentenceNumbers, SentenceWrites};
 use distress::Report;
 
 // Reads the sentence into a row of 10: address, then the report's nine.
@@ -9,7 +9,7 @@ use distress::Report;
 pub extern "C" fn bellnewt_sentence_read(s: &[u8], row: &mut [i64]) -> u8
     ensures { λ code. ⌜ Fills (sentenceNumbers (now (s .entry))) (now (row .entry)) code (now (row .exit)) ⌝ }
 {
-    report_rows::sentences::read(s, row)
+    c_rows::sentences::read(s, row)
 }
 
 // Writes the sentence of these numbers into the front of a lent buffer, and how many bytes it has into `size`.
@@ -41,5 +41,5 @@ pub extern "C" fn bellnewt_sentence_write(
         course,
         kind,
     };
-    report_rows::sentences::write(buf, size, address, report)
+    c_rows::sentences::write(buf, size, address, report)
 }

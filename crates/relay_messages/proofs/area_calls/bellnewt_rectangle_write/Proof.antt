@@ -2,7 +2,7 @@
 use mathlib.Core.Path.{subst}
 use mir.Syntax.{w32}
 use mir.ValLaws.{toZ-ofZ}
-use Rattle.area_rows.specs.Area.{recordOf, rectangleOf}
+use Rattle.c_rows.specs.Area.{recordOf, rectangleOf}
 use Rattle.area.specs.Area.{areas, valuesOf}
 use Rattle.area.specs.declared.reading.Area.{Area}
 use Rattle.format.specs.Promises.{Writes}

@@ -3,8 +3,8 @@ use mathlib.Core.Path.{subst}
 use Rattle.distress.specs.Report.{reports, valuesOf}
 use Rattle.format.specs.Promises.{Writes}
 use Rattle.distress.specs.declared.reading.Report.{Report}
-use Rattle.report_rows.specs.Report.{recordOf}
-use Rattle.report_rows.specs.laws.Report.{kept}
+use Rattle.c_rows.specs.Report.{recordOf}
+use Rattle.c_rows.specs.laws.Report.{kept}
 use borrow.Author.Needs.{needs}
 use Rattle.relay_report.proofs.report.bellnewt_distress_write.Statement.{statement}
 use Rattle.relay_report.proofs.report.bellnewt_distress_write.Tie as tie

@@ -1,9 +1,9 @@
 -- `bellnewt_sentence_write` writes the sentence of the record of its numbers.
 use mathlib.Core.Path.{subst}
 use Rattle.distress.specs.declared.reading.Report.{Report}
-use Rattle.report_rows.specs.Report.{recordOf}
-use Rattle.report_rows.specs.Sentence.{SentenceWrites}
-use Rattle.report_rows.specs.laws.Report.{kept}
+use Rattle.c_rows.specs.Report.{recordOf}
+use Rattle.c_rows.specs.Sentence.{SentenceWrites}
+use Rattle.c_rows.specs.laws.Report.{kept}
 use borrow.Author.Needs.{needs}
 use Rattle.relay_report.proofs.sentences.bellnewt_sentence_write.Statement.{statement}
 use Rattle.relay_report.proofs.sentences.bellnewt_sentence_write.Tie as tie

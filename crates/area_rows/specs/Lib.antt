@@ -1,2 +1,0 @@
--- An area as numbers.
-pub mod Area

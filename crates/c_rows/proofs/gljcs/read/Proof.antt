@@ -1,0 +1,62 @@
+-- `read` is the frame's `read`, and its record's numbers in the row.
+use mathlib.Core.Path.{refl}
+use Rattle.format.specs.Promises.{readRecord}
+use Rattle.c_rows.specs.laws.Row.{fills-good, fills-refused}
+use Rattle.gljc.specs.Gljc.{gljcs, recordOf as framed, outOf}
+use Rattle.gljc.specs.declared.reading.Answer.the-variants.{Good, Refused}
+use Rattle.c_rows.specs.Gljc.{rowOf}
+use borrow.Author.Needs.{needs}
+use Rattle.c_rows.proofs.gljcs.read.Statement.{statement}
+use Rattle.c_rows.proofs.gljcs.read.Tie as tie
+
+read-requires : tie.Need-read-requires
+read-requires c κs = search needs
+
+enum-known-answer : tie.Need-enum-known-answer
+enum-known-answer c = search needs
+
+numbers-requires : tie.Need-numbers-requires
+numbers-requires c κs = search needs
+
+slice-aggregate-fill : tie.Need-slice-aggregate-fill
+slice-aggregate-fill c = search needs
+
+fill-requires : tie.Need-fill-requires
+fill-requires c κs = search needs
+
+enum-known-answer-2 : tie.Need-enum-known-answer-2
+enum-known-answer-2 c = search needs
+
+same-length : tie.Need-same-length
+same-length c = search needs
+
+returns : tie.Need-returns
+returns c =
+    let fill = c .before in
+    let numbers = fill .before .before .before in
+    let m = numbers .before .before in
+    let read = m .before .before in
+    let a = read .before .before .args in
+    fills-good (λ r. r) Good Refused rowOf outOf (λ q. refl) (λ c. refl) (readRecord gljcs framed (a .s .now)) (read .read .ensures) (a .row .now)
+    (m .answer .given .1) (numbers .numbers .ensures) (fill .fill .ensures)
+
+returns-2 : tie.Need-returns-2
+returns-2 c =
+    let m = c .before in
+    let read = m .before .before in
+    let a = read .before .before .args in
+    fills-refused (λ r. r) Good Refused rowOf outOf (λ q. refl) (λ c. refl) (readRecord gljcs framed (a .s .now)) (read .read .ensures) (a .row .now) (m .answer2 .given .1)
+
+pub read-spec : {M : Type 1} → statement M
+read-spec =
+    tie.close
+    (tie.spec
+    read-requires
+    enum-known-answer
+    numbers-requires
+    slice-aggregate-fill
+    fill-requires
+    enum-known-answer-2
+    same-length
+    returns
+    returns-2)

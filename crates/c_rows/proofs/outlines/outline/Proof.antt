@@ -1,0 +1,62 @@
+-- `outline` hands on the answer of `outline::outline`, in a language that there is.
+use mathlib.Core.Path.{refl, sym, _∙_}
+use lib.Dec.{eqb}
+use borrow.Author.Needs.{needs}
+use borrow.Author.Tests.{le-leb, lt-leb}
+use Rattle.format.specs.Message.{refuses, accepts}
+use Rattle.format.specs.laws.Answers.{good-read, bad-refuses}
+use Rattle.outline.specs.Promises.{counted, outOf}
+use Rattle.outline.specs.declared.Answer.the-variants.{Good, Refused}
+use Rattle.c_rows.proofs.outlines.outline.Statement.{statement}
+use Rattle.c_rows.proofs.outlines.outline.Tie as tie
+
+returns : tie.Need-returns
+returns c = rw (lt-leb (c .before .before .args .language) 1 (c .if1 .taken)) (refl, refl, refl)
+
+outline-requires : tie.Need-outline-requires
+outline-requires c κs = search needs
+
+enum-known-answer : tie.Need-enum-known-answer
+enum-known-answer c = search needs
+
+enum-known-answer-2 : tie.Need-enum-known-answer-2
+enum-known-answer-2 c = search needs
+
+same-length : tie.Need-same-length
+same-length c = search needs
+
+returns-2 : tie.Need-returns-2
+returns-2 c =
+    let w = c .before in
+    let d = w .before .before .before in
+    let i = d .before .before in
+    let a = i .before .before .args in
+    let e = d .outline .ensures in
+    let (code, points) = accepts (a .points .now) (good-read Good Refused outOf (λ q. refl) (λ c. refl) (counted (eqb (a .language) 1) (a .s .now) (a .row .now)) (sym (w .answer .given .1) ∙ e .0)) in
+    rw (le-leb (a .language) 1 (i .if1 .left)) (code, e .1, points)
+
+same-length-2 : tie.Need-same-length-2
+same-length-2 c = search needs
+
+returns-3 : tie.Need-returns-3
+returns-3 c =
+    let w = c .before in
+    let d = w .before .before .before in
+    let i = d .before .before in
+    let a = i .before .before .args in
+    let e = d .outline .ensures in
+    let (code, points) = refuses (bad-refuses Good Refused outOf (λ q. refl) (λ c. refl) (λ r. r) (counted (eqb (a .language) 1) (a .s .now) (a .row .now)) (sym (w .answer2 .given .1) ∙ e .0) .1) in
+    rw (le-leb (a .language) 1 (i .if1 .left)) (code, e .1, points)
+
+pub outline-spec : {M : Type 1} → statement M
+outline-spec =
+    tie.close
+    (tie.spec
+    returns
+    outline-requires
+    enum-known-answer
+    enum-known-answer-2
+    same-length
+    returns-2
+    same-length-2
+    returns-3)

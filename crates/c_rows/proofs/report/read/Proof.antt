@@ -1,0 +1,75 @@
+-- `read` is the report's `read`, and its record's numbers in the row.
+use mathlib.Core.Path.{sym, ap, subst, _∙_}
+use mathlib.Core.List.{List}
+use lib.IntN.{ℤ}
+use lib.ListN.{take, drop}
+use Rattle.format.specs.Fmt.{Out, accepted}
+use Rattle.c_rows.specs.Row.{Fills}
+use Rattle.c_rows.specs.Report.{rowOf}
+use Rattle.c_rows.specs.laws.Report.{good-numbers, refused-numbers}
+use borrow.Author.Needs.{needs}
+use Rattle.c_rows.proofs.report.read.Statement.{statement}
+use Rattle.c_rows.proofs.report.read.Tie as tie
+
+read-requires : tie.Need-read-requires
+read-requires c κs = search needs
+
+enum-known-answer : tie.Need-enum-known-answer
+enum-known-answer c = search needs
+
+numbers-requires : tie.Need-numbers-requires
+numbers-requires c κs = search needs
+
+sub-fill : tie.Need-sub-fill
+sub-fill c = search needs
+
+part-fill-start : tie.Need-part-fill-start
+part-fill-start c = search needs
+
+part-fill-end : tie.Need-part-fill-end
+part-fill-end c = search needs
+
+fill-requires : tie.Need-fill-requires
+fill-requires c κs = search needs
+
+enum-known-answer-2 : tie.Need-enum-known-answer-2
+enum-known-answer-2 c = search needs
+
+same-length : tie.Need-same-length
+same-length c = search needs
+
+returns : tie.Need-returns
+unfolding rowOf
+returns c =
+    let fill = c .before in
+    let numbers = fill .before .before .before .before in
+    let m = numbers .before .before in
+    let read = m .before .before in
+    let a = read .before .before .args in
+    let e = good-numbers (a .s .now) _ (sym (m .answer .given .1) ∙ read .read .ensures) in
+    subst (λ (o : Out (List ℤ)). Fills o (a .row .now) (fill .fill .result) (fill .fill .last .0))
+    (ap (λ (xs : List ℤ). accepted (take 9 (drop 1 xs))) (numbers .numbers .ensures) ∙ sym e)
+    (fill .fill .ensures)
+
+returns-2 : tie.Need-returns-2
+returns-2 c =
+    let m = c .before in
+    let read = m .before .before in
+    let a = read .before .before .args in
+    refused-numbers (a .s .now) (a .row .now) _ (sym (m .answer2 .given .1) ∙ read .read .ensures)
+
+pub read-spec : {M : Type 1} → statement M
+read-spec =
+    tie.close
+    (tie.spec
+    read-requires
+    enum-known-answer
+    numbers-requires
+    sub-fill
+    part-fill-start
+    part-fill-end
+    fill-requires
+    enum-known-answer-2
+    same-length
+    returns
+    returns-2)

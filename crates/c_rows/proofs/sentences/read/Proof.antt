@@ -1,0 +1,64 @@
+-- `read` is the sentence's `read`, and its numbers in the row.
+use mathlib.Core.Path.{sym, ap, subst, _∙_}
+use mathlib.Core.List.{List}
+use lib.IntN.{ℤ}
+use Rattle.format.specs.Fmt.{Out, accepted}
+use Rattle.c_rows.specs.Row.{Fills}
+use Rattle.c_rows.specs.laws.Sentence.{heard-numbers, refused-sentence}
+use borrow.Author.Needs.{needs}
+use Rattle.c_rows.proofs.sentences.read.Statement.{statement}
+use Rattle.c_rows.proofs.sentences.read.Tie as tie
+
+read-requires : tie.Need-read-requires
+read-requires c κs = search needs
+
+enum-known-heard : tie.Need-enum-known-heard
+enum-known-heard c = search needs
+
+numbers-requires : tie.Need-numbers-requires
+numbers-requires c κs = search needs
+
+slice-aggregate-fill : tie.Need-slice-aggregate-fill
+slice-aggregate-fill c = search needs
+
+fill-requires : tie.Need-fill-requires
+fill-requires c κs = search needs
+
+enum-known-heard-2 : tie.Need-enum-known-heard-2
+enum-known-heard-2 c = search needs
+
+same-length : tie.Need-same-length
+same-length c = search needs
+
+returns : tie.Need-returns
+returns c =
+    let fill = c .before in
+    let numbers = fill .before .before .before in
+    let m = numbers .before .before in
+    let read = m .before .before in
+    let a = read .before .before .args in
+    let e = heard-numbers (a .s .now) _ _ (sym (m .heard .given .1) ∙ read .read .ensures) in
+    subst (λ (o : Out (List ℤ)). Fills o (a .row .now) (fill .fill .result) (fill .fill .last .0))
+    (ap accepted (numbers .numbers .ensures) ∙ sym e)
+    (fill .fill .ensures)
+
+returns-2 : tie.Need-returns-2
+returns-2 c =
+    let m = c .before in
+    let read = m .before .before in
+    let a = read .before .before .args in
+    refused-sentence (a .s .now) (a .row .now) _ (sym (m .heard2 .given .1) ∙ read .read .ensures)
+
+pub read-spec : {M : Type 1} → statement M
+read-spec =
+    tie.close
+    (tie.spec
+    read-requires
+    enum-known-heard
+    numbers-requires
+    slice-aggregate-fill
+    fill-requires
+    enum-known-heard-2
+    same-length
+    returns
+    returns-2)

@@ -1,0 +1,38 @@
+-- `slots` hands on the answer of `slots::slots`.
+use mathlib.Core.Path.{refl, sym, _∙_}
+use Rattle.format.specs.Message.{refuses, accepts}
+use Rattle.format.specs.laws.Answers.{good-read, bad-refuses}
+use Rattle.ais.specs.Slots.{slotsFor, outOf}
+use Rattle.ais.specs.declared.slot_count.Needed.the-variants.{Slots, Refused}
+use borrow.Author.Needs.{needs}
+use Rattle.c_rows.proofs.slots.slots.Statement.{statement}
+use Rattle.c_rows.proofs.slots.slots.Tie as tie
+
+slots-requires : tie.Need-slots-requires
+slots-requires c κs = search needs
+
+enum-known-needed : tie.Need-enum-known-needed
+enum-known-needed c = search needs
+
+enum-known-needed-2 : tie.Need-enum-known-needed-2
+enum-known-needed-2 c = search needs
+
+returns : tie.Need-returns
+returns c =
+    let m = c .before in
+    let slots = m .before .before in
+    let st = slots .before in
+    let a = st .args in
+    accepts (a .slots .now) (good-read Slots Refused outOf (λ q. refl) (λ c. refl) (slotsFor (a .message) (a .bytes)) (sym (m .needed .given .1) ∙ slots .slots .ensures))
+
+returns-2 : tie.Need-returns-2
+returns-2 c =
+    let m = c .before in
+    let slots = m .before .before in
+    let st = slots .before in
+    let a = st .args in
+    refuses (bad-refuses Slots Refused outOf (λ q. refl) (λ c. refl) (λ r. r) (slotsFor (a .message) (a .bytes)) (sym (m .needed2 .given .1) ∙ slots .slots .ensures) .1)
+
+pub slots-spec : {M : Type 1} → statement M
+slots-spec =
+    tie.close (tie.spec slots-requires enum-known-needed enum-known-needed-2 returns returns-2)

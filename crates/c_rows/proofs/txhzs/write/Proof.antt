@@ -1,0 +1,64 @@
+-- `write` is the frame's `write` of the record of its numbers and receipts.
+use mathlib.Core.Path.{refl, subst}
+use lib.ListN.{length}
+use borrow.Author.Tests.{eq-eqb, ne-eqb}
+use Rattle.format.specs.Promises.{Writes}
+use Rattle.txhz.specs.Txhz.{txhzs, valuesOf}
+use Rattle.txhz.specs.declared.reading.Txhz.{Txhz}
+use borrow.Author.Needs.{needs}
+use Rattle.c_rows.proofs.txhzs.write.Statement.{statement}
+use Rattle.c_rows.proofs.txhzs.write.Tie as tie
+
+returns : tie.Need-returns
+returns c = let b = c .before .before .before .args .receipts .now in rw (ne-eqb (length b) 20 (c .if1 .taken)) (refl, refl)
+
+receipt-requires : tie.Need-receipt-requires
+receipt-requires c κs = search needs
+
+receipt-requires-2 : tie.Need-receipt-requires-2
+receipt-requires-2 c κs = search needs
+
+receipt-requires-3 : tie.Need-receipt-requires-3
+receipt-requires-3 c κs = search needs
+
+receipt-requires-4 : tie.Need-receipt-requires-4
+receipt-requires-4 c κs = search needs
+
+receipt-requires-5 : tie.Need-receipt-requires-5
+receipt-requires-5 c κs = search needs
+
+write-requires : tie.Need-write-requires
+write-requires c κs = search needs
+
+same-length : tie.Need-same-length
+same-length c = search needs
+
+returns-2 : tie.Need-returns-2
+returns-2 c =
+    let call = c .before .before in
+    let e = call .before .before in
+    let d = e .before in
+    let t = d .before in
+    let s = t .before in
+    let f = s .before in
+    let test = f .before in
+    let a = test .before .before .before .args in
+    let b = a .receipts .now in
+    rw (eq-eqb (length b) 20 (test .if1 .left))
+    (subst (λ (r : Txhz). Writes txhzs (a .buf .now) (call .write .result) (call .write .last .0) (valuesOf r))
+    (λ i. record { address = a .address; receiver = a .receiver; count = a .count; first = f .receipt .ensures i; second = s .receipt2 .ensures i; third = t .receipt3 .ensures i; fourth = d .receipt4 .ensures i; fifth = e .receipt5 .ensures i })
+    (call .write .ensures))
+
+pub write-spec : {M : Type 1} → statement M
+write-spec =
+    tie.close
+    (tie.spec
+    returns
+    receipt-requires
+    receipt-requires-2
+    receipt-requires-3
+    receipt-requires-4
+    receipt-requires-5
+    write-requires
+    same-length
+    returns-2)

@@ -1,0 +1,69 @@
+-- `numbers` gives the record's fields as they stand: each one fits 64 signed bits.
+use Prim.Native.Nat.{ℕ, _^_, _<_}
+use mathlib.Core.Path.{_≡_, ap, _∙_}
+use mathlib.Core.List.{[], _∷_}
+use native.Mathlib.Omega.{arith}
+use lib.Dec.{lit<}
+use lib.IntN.{pos}
+use mir.Syntax.{w64}
+use mir.Val.{toZ}
+use mir.ValLaws.{toZ-pos}
+use Rattle.frame.specs.Frame.{bytesFor}
+use Rattle.c_rows.specs.Txsq.{rowOf}
+use borrow.Author.Needs.{needs}
+use Rattle.c_rows.proofs.txsqs.numbers.Statement.{statement}
+use Rattle.c_rows.proofs.txsqs.numbers.Tie as tie
+
+cast-t2 : tie.Need-cast-t2
+cast-t2 c = search needs
+
+cast-t3 : tie.Need-cast-t3
+cast-t3 c = search needs
+
+cast-t4 : tie.Need-cast-t4
+cast-t4 c = search needs
+
+cast-t5 : tie.Need-cast-t5
+cast-t5 c = search needs
+
+cast-t6 : tie.Need-cast-t6
+cast-t6 c = search needs
+
+cast-t7 : tie.Need-cast-t7
+cast-t7 c = search needs
+
+cast-t8 : tie.Need-cast-t8
+cast-t8 c = search needs
+
+cast-t9 : tie.Need-cast-t9
+cast-t9 c = search needs
+
+whole-bytes-requires : tie.Need-whole-bytes-requires
+whole-bytes-requires c κs = search needs
+
+cast-t11 : tie.Need-cast-t11
+cast-t11 c = search needs
+
+returns : tie.Need-returns
+unfolding rowOf
+returns c =
+    let r = c .before .before .before .before .before .before .before .before .args .r in
+    let low : (n : ℕ) → n < 2 ^ 32 → toZ w64 n ≡ pos n = λ n h. toZ-pos w64 n (omega arith) in
+    let size = ap (toZ w64) (c .whole-bytes .ensures) ∙ low (bytesFor (r .size)) (omega arith) in
+    λ i. low (r .address) (omega arith) i ∷ low (r .category) (omega arith) i ∷ low (r .mode) (omega arith) i ∷ low (r .password) (omega arith) i ∷ low (r .receiver) (omega arith) i ∷ low (r .size) (omega arith) i ∷ low (r .answer) (omega arith) i ∷ low 17 (lit< tt) i ∷ size i ∷ []
+
+pub numbers-spec : {M : Type 1} → statement M
+numbers-spec =
+    tie.close
+    (tie.spec
+    cast-t2
+    cast-t3
+    cast-t4
+    cast-t5
+    cast-t6
+    cast-t7
+    cast-t8
+    cast-t9
+    whole-bytes-requires
+    cast-t11
+    returns)

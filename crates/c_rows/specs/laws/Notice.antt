@@ -1,0 +1,101 @@
+-- The four ways in which a notice is read as numbers: another language, a row too short, a good notice, a refused one. Each is the definition's by the answer's case. Assumes nothing.
+use mathlib.Core.Path.{_≡_, refl, ap, _∙_}
+use mathlib.Core.Bool.{Bool, true, false, _&&_}
+use mathlib.Core.List.{List, _++_}
+use Prim.Native.Nat.{ℕ, zero, suc, _≤_, _<_}
+use native.Mathlib.Omega.{arith}
+use lib.Dec.{leb, eqb}
+use lib.IntN.{ℤ}
+use lib.ListN.{length, drop}
+use borrow.Author.Tests.{le-leb, lt-leb, leb-true}
+use Rattle.format.specs.Fmt.{Out, accepted, refused, orBad, check, also}
+use Rattle.format.specs.Message.{codeOf, readMessage, ahead}
+use Rattle.format.specs.Promises.{readRecord, answered}
+use Rattle.format.specs.laws.Zero.{read-zero-message}
+use Rattle.c_rows.specs.Row.{Fills}
+use Rattle.c_rows.specs.laws.Row.{row-full, one-filling}
+use Rattle.notice.specs.Notice.{notices}
+use Rattle.notice.specs.Record.{Whole, recordOf as wholeOf}
+use Rattle.notice.specs.Promises.{housed, toldOf, answerOf, Reads}
+use Rattle.notice.specs.laws.Sound.{judged}
+use Rattle.notice.specs.declared.reading.Told.{Told}
+use Rattle.notice.specs.declared.reading.Answer.the-variants.{Good, Refused}
+use Rattle.c_rows.specs.Notice.{rowOf, roomy, unroomed, Lent, NoticeFills}
+
+-- a refusal leaves the row, the areas and the text as they were
+pub refused-lent : (o : Out Whole) (row : List ℤ) (areas text : List ℕ) (c : ℕ) (row′ : List ℤ) (areas′ text′ : List ℕ)
+    → Lent o row areas text c row′ areas′ text′ → (c ≡ 0 → ⊥) → (row′ ≡ row) × (areas′ ≡ areas) × (text′ ≡ text)
+refused-lent (accepted x) row areas text c row′ areas′ text′ l n = absurd (n (l .0))
+refused-lent (refused d p) row areas text c row′ areas′ text′ l n = (l .1, l .2, l .3)
+
+-- no notice is refused by 0
+named : (english : Bool) (s : List ℕ) (p : ℕ) → readMessage (notices english) s ≡ refused 0 p → ⊥
+unfolding notices
+named english s p = read-zero-message (notices english) s p (judged english)
+
+-- a good notice found room for its areas and its text
+pub good-rooms : (english : Bool) (s areas text : List ℕ) {r : Told} → Good r ≡ answerOf (housed (length areas) (length text) (readRecord (notices english) wholeOf s))
+    → (r .numbers ≤ length areas) × (r .text ≤ length text)
+good-rooms english s areas text {r} = go (readRecord (notices english) wholeOf s)
+  where
+    fits : (x : Whole) (m n : Bool) → leb (length (x .1 .0)) (length areas) ≡ m → leb (length (x .1 .1)) (length text) ≡ n
+        → Good r ≡ answerOf (check (orBad (m && n) 6) 0 (accepted x)) → (r .numbers ≤ length areas) × (r .text ≤ length text)
+    fits x true true m n e =
+        let is : r ≡ toldOf x = cc in
+        let a = leb-true (length (x .1 .0)) (length areas) m in
+        let t = leb-true (length (x .1 .1)) (length text) n in
+        (rw is a, rw is t)
+    fits x true false m n e = let z : _≡_ {A = ℕ} 0 1 = cc in absurd (omega arith)
+    fits x false n m k e = let z : _≡_ {A = ℕ} 0 1 = cc in absurd (omega arith)
+
+    go : (o : Out Whole) → Good r ≡ answerOf (housed (length areas) (length text) o) → (r .numbers ≤ length areas) × (r .text ≤ length text)
+    go (accepted x) e = fits x (leb (length (x .1 .0)) (length areas)) (leb (length (x .1 .1)) (length text)) refl refl e
+    go (refused c p) e = let z : _≡_ {A = ℕ} 0 1 = cc in absurd (omega arith)
+
+module _ (language : ℕ) (s : List ℕ) (row : List ℤ) (areas text : List ℕ) where
+  pub lent-not : 1 < language → NoticeFills language s row areas text 4 row areas text
+  lent-not h = rw (lt-leb language 1 h) (refl, refl, refl, refl)
+
+  module _ (either : language ≤ 1) where
+    abbrev found : Out (List ℕ)
+    found = readMessage (notices (eqb language 1)) s
+
+    abbrev housing : Out Whole → Out Whole
+    housing = housed (length areas) (length text)
+
+    -- what a reading in a language promises
+    shown : {c : ℕ} {row′ : List ℤ} {areas′ text′ : List ℕ} → Lent (roomy (length row) (housing (also wholeOf found))) row areas text c row′ areas′ text′ → NoticeFills language s row areas text c row′ areas′ text′
+    shown x = rw (le-leb language 1 either) x
+
+    pub lent-short : length row < 10 → NoticeFills language s row areas text (unroomed (codeOf found)) row areas text
+    lent-short few = shown (go found (named (eqb language 1) s))
+      where
+        go : (o : Out (List ℕ)) → ((p : ℕ) → o ≡ refused 0 p → ⊥) → Lent (roomy (length row) (housing (also wholeOf o))) row areas text (unroomed (codeOf o)) row areas text
+        go (refused zero p) n = absurd (n p refl)
+        go (refused (suc c) p) n = (refl, refl, refl, refl)
+        go (accepted vs) n = none (leb (length (wholeOf vs .1 .0)) (length areas) && leb (length (wholeOf vs .1 .1)) (length text))
+          where
+            none : (b : Bool) → Lent (roomy (length row) (check (orBad b 6) 0 (accepted (wholeOf vs)))) row areas text 6 row areas text
+            none true = rw (lt-leb 10 (length row) few) (refl, refl, refl, refl)
+            none false = (refl, refl, refl, refl)
+
+    module _ {areas′ text′ : List ℕ} (ten : 10 ≤ length row) where
+      pub lent-good : {r : Told} {c : ℕ} {row′ : List ℤ} → Reads (eqb language 1) s areas text (Good r) areas′ text′ → Fills (accepted (rowOf r)) row c row′ → NoticeFills language s row areas text c row′ areas′ text′
+      unfolding rowOf
+      lent-good {r} {c} {row′} (e, a, t) f = shown (go (housing (also wholeOf found)) e a t)
+        where
+          go : (o : Out Whole) → Good r ≡ answerOf o → areas′ ≡ answered (λ x. ahead (x .1 .0) areas) (λ c. areas) o → text′ ≡ answered (λ x. ahead (x .1 .1) text) (λ c. text) o
+              → Lent (roomy (length row) o) row areas text c row′ areas′ text′
+          go (refused d p) e a t = let z : _≡_ {A = ℕ} 0 1 = cc in absurd (omega arith)
+          go (accepted x) e a t =
+              let is : r ≡ toldOf x = cc in
+              let full = one-filling (accepted (rowOf r)) row c 0 row′ (rowOf r ++ drop 10 row) f (row-full {o = accepted (rowOf r)} row {xs = rowOf r} refl ten) in
+              rw (le-leb 10 (length row) ten) (full .0, full .1 ∙ ap (λ r. rowOf r ++ drop 10 row) is, a, t)
+
+      pub lent-bad : {d : ℕ} → Reads (eqb language 1) s areas text (Refused d) areas′ text′ → NoticeFills language s row areas text d row areas′ text′
+      lent-bad {d} (e, a, t) = shown (go (housing (also wholeOf found)) e a t)
+        where
+          go : (o : Out Whole) → Refused d ≡ answerOf o → areas′ ≡ answered (λ x. ahead (x .1 .0) areas) (λ c. areas) o → text′ ≡ answered (λ x. ahead (x .1 .1) text) (λ c. text) o
+              → Lent (roomy (length row) o) row areas text d row areas′ text′
+          go (refused c p) e a t = let k : d ≡ c = cc in (k, refl, a, t)
+          go (accepted x) e a t = let z : _≡_ {A = ℕ} 0 1 = cc in absurd (omega arith)

@@ -1,0 +1,98 @@
+// An area as numbers in a lent row. Each call hands on what the family's own call promises.
+ghost use mathlib.Core.Path.{_≡_};
+ghost use Rattle.c_rows.specs.Row.{Fills};
+ghost use Rattle.c_rows.specs.Area.{fourOf, rowOf, numbersOf};
+ghost use Rattle.area.specs.declared.reading.shapes.Shape.the-variants.{Circle as IsCircle, Rectangle as IsRectangle};
+use area::Answer;
+use area::Area;
+use area::Shape;
+
+// A shape's numbers in the paper's order: a circle has three, and 0 behind them.
+struct Four {
+    longitude: i64,
+    latitude: i64,
+    third: i64,
+    fourth: i64,
+}
+
+// Reads the area into a row of 19: repeat, source, sequence, destination, resent, kind, shape, four numbers of its shape, month, day, hour, minute, second month, second day, second hour, advice.
+pub fn read(s: &[u8], row: &mut [i64]) -> u8
+    ensures { λ code. ⌜ Fills (numbersOf (now (s .entry))) (now (row .entry)) code (now (row .exit)) ⌝ }
+{
+    let answer = area::read(s);
+    match answer {
+        Answer::Good(r) => {
+            let numbers = numbers(r);
+            crate::fill(row, &numbers)
+        },
+        Answer::Refused(code) => code,
+    }
+}
+
+fn numbers(r: Area) -> [i64; 19]
+    ensures { λ xs. ⌜ xs ≡ rowOf r ⌝ }
+{
+    let shape = r.shape;
+    let kind = shape.kind();
+    let n = of_shape(shape);
+    let time = r.time;
+    let second = r.second_time;
+    [
+        r.repeat as i64,
+        r.source as i64,
+        r.sequence as i64,
+        r.destination as i64,
+        r.resent as i64,
+        r.kind as i64,
+        kind as i64,
+        n.longitude,
+        n.latitude,
+        n.third,
+        n.fourth,
+        time.month as i64,
+        time.day as i64,
+        time.hour as i64,
+        time.minute as i64,
+        second.month as i64,
+        second.day as i64,
+        second.hour as i64,
+        r.advice as i64,
+    ]
+}
+
+fn of_shape(shape: Shape) -> Four
+    ensures { λ n. ⌜ n ≡ fourOf shape ⌝ }
+{
+    match shape {
+        Shape::Circle(b) => circle(b),
+        Shape::Rectangle(b) => rectangle(b),
+    }
+}
+
+fn circle(b: area::Circle) -> Four
+    ensures { λ n. ⌜ n ≡ fourOf (IsCircle b) ⌝ }
+{
+    let longitude = b.longitude;
+    let latitude = b.latitude;
+    Four {
+        longitude: longitude as i64,
+        latitude: latitude as i64,
+        third: b.radius as i64,
+        fourth: 0,
+    }
+}
+
+fn rectangle(b: area::Rectangle) -> Four
+    ensures { λ n. ⌜ n ≡ fourOf (IsRectangle b) ⌝ }
+{
+    let longitude = b.longitude;
+    let latitude = b.latitude;
+    let second_longitude = b.second_longitude;
+    let second_latitude = b.second_latitude;
+    Four {
+        longitude: longitude as i64,
+        latitude: latitude as i64,
+        third: second_longitude as i64,
+        fourth: second_latitude as i64,
+    }
+}

@@ -1,0 +1,26 @@
+// The frame GLJC as numbers.
+ghost use mathlib.Core.Path.{_≡_};
+ghost use Rattle.c_rows.specs.Row.{Fills};
+ghost use Rattle.c_rows.specs.Gljc.{rowOf, numbersOf};
+use gljc::Answer;
+use gljc::Gljc;
+
+// Reads the frame into a row of 2: address, minutes.
+pub fn read(s: &[u8], row: &mut [i64]) -> u8
+    ensures { λ code. ⌜ Fills (numbersOf (now (s .entry))) (now (row .entry)) code (now (row .exit)) ⌝ }
+{
+    let answer = gljc::read(s);
+    match answer {
+        Answer::Good(r) => {
+            let numbers = numbers(r);
+            crate::fill(row, &numbers)
+        },
+        Answer::Refused(code) => code,
+    }
+}
+
+fn numbers(r: Gljc) -> [i64; 2]
+    ensures { λ xs. ⌜ xs ≡ rowOf r ⌝ }
+{
+    [r.address as i64, r.minutes as i64]
+}

@@ -1,0 +1,50 @@
+// The packet as numbers in a lent row, and the splitter with its language as a number.
+ghost use mathlib.Core.Path.{_≡_};
+ghost use Prim.Native.Nat.{_≤_};
+ghost use Rattle.c_rows.specs.Row.{Fills};
+ghost use Rattle.packet.specs.Packet.{partBytes};
+ghost use Rattle.c_rows.specs.Packet.{rowOf, numbersOf};
+ghost use Rattle.c_rows.specs.Split.{SplitsIn};
+use packet::Answer;
+use packet::Packet;
+
+// The greatest number of a language.
+const ENGLISH: u8 = 1;
+
+// Reads the packet into a row of 6: language, number, total, own, where the content begins and its bytes.
+pub fn read(s: &[u8], row: &mut [i64]) -> u8
+    ensures { λ code. ⌜ Fills (numbersOf (now (s .entry))) (now (row .entry)) code (now (row .exit)) ⌝ }
+{
+    let answer = packet::read(s);
+    match answer {
+        Answer::Good(r) => {
+            let numbers = numbers(r, s.len() - Packet::CONTENT);
+            crate::fill(row, &numbers)
+        },
+        Answer::Refused(code) => code,
+    }
+}
+
+// Splits for a language that is 0 or 1; another is 4 before anything else.
+pub fn split(buf: &mut [u8], content: &[u8], language: u8, number: u8, packet: usize) -> u8
+    ensures { λ code. ⌜ SplitsIn (now (buf .entry)) (now (content .entry)) language number packet code (now (buf .exit)) ⌝ }
+{
+    if language > ENGLISH {
+        return format::RANGE;
+    }
+    packet::split(buf, content, language == ENGLISH, number, packet)
+}
+
+fn numbers(r: Packet, bytes: usize) -> [i64; 6]
+    requires { ⌜ bytes ≤ partBytes ⌝ }
+    ensures { λ xs. ⌜ xs ≡ rowOf r bytes ⌝ }
+{
+    [
+        r.language as i64,
+        r.number as i64,
+        r.total as i64,
+        r.own as i64,
+        Packet::CONTENT as i64,
+        bytes as i64,
+    ]
+}

@@ -1,0 +1,36 @@
+// The frame TXSQ as numbers.
+ghost use mathlib.Core.Path.{_≡_};
+ghost use Rattle.c_rows.specs.Row.{Fills};
+ghost use Rattle.c_rows.specs.Txsq.{rowOf, numbersOf};
+use txsq::Answer;
+use txsq::Txsq;
+
+// Reads the frame into a row of 9: address, category, mode, password, receiver, size, answer, where the content begins and its bytes.
+pub fn read(s: &[u8], row: &mut [i64]) -> u8
+    ensures { λ code. ⌜ Fills (numbersOf (now (s .entry))) (now (row .entry)) code (now (row .exit)) ⌝ }
+{
+    let answer = txsq::read(s);
+    match answer {
+        Answer::Good(r) => {
+            let numbers = numbers(r);
+            crate::fill(row, &numbers)
+        },
+        Answer::Refused(code) => code,
+    }
+}
+
+fn numbers(r: Txsq) -> [i64; 9]
+    ensures { λ xs. ⌜ xs ≡ rowOf r ⌝ }
+{
+    [
+        r.address as i64,
+        r.category as i64,
+        r.mode as i64,
+        r.password as i64,
+        r.receiver as i64,
+        r.size as i64,
+        r.answer as i64,
+        Txsq::CONTENT as i64,
+        crate::whole_bytes(r.size) as i64,
+    ]
+}

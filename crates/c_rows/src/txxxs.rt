@@ -1,0 +1,36 @@
+// The frame TXXX as numbers.
+ghost use mathlib.Core.Path.{_≡_};
+ghost use Rattle.c_rows.specs.Row.{Fills};
+ghost use Rattle.c_rows.specs.Txxx.{rowOf, numbersOf};
+use txxx::Answer;
+use txxx::Txxx;
+
+// Reads the frame into a row of 9: address, class, sender, hour, minute, size, mark, where the content begins and its bytes.
+pub fn read(s: &[u8], row: &mut [i64]) -> u8
+    ensures { λ code. ⌜ Fills (numbersOf (now (s .entry))) (now (row .entry)) code (now (row .exit)) ⌝ }
+{
+    let answer = txxx::read(s);
+    match answer {
+        Answer::Good(r) => {
+            let numbers = numbers(r);
+            crate::fill(row, &numbers)
+        },
+        Answer::Refused(code) => code,
+    }
+}
+
+fn numbers(r: Txxx) -> [i64; 9]
+    ensures { λ xs. ⌜ xs ≡ rowOf r ⌝ }
+{
+    [
+        r.address as i64,
+        r.class as i64,
+        r.sender as i64,
+        r.hour as i64,
+        r.minute as i64,
+        r.size as i64,
+        r.mark as i64,
+        Txxx::CONTENT as i64,
+        crate::whole_bytes(r.size) as i64,
+    ]
+}

@@ -1,2 +1,0 @@
--- The outline told in lent numbers.
-pub mod Told

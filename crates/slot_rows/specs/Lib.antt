@@ -1,2 +1,0 @@
--- The slots in a lent number.
-pub mod Slots

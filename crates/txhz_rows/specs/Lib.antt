@@ -1,2 +1,0 @@
--- The frame TXHZ as numbers.
-pub mod Txhz

@@ -1,2 +1,0 @@
--- A warning as numbers.
-pub mod Warning
