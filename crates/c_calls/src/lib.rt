@@ -1,7 +1,16 @@
-// What C and Rust link of the AIS messages but their reading (`relay_reading`): calls over numbers and lent slices. Each one hands on what the family's own call promises.
+// What C and Rust link of every family but its reading, and but the desk: calls over numbers and lent slices.
 ghost use Rattle.c_rows.specs.Slots.{SlotsTold};
 
 pub mod area_calls;
+pub mod gljc_calls;
+pub mod notices;
+pub mod outlines;
+pub mod packets;
+pub mod report;
+pub mod sentences;
+pub mod txhz_calls;
+pub mod txsq_calls;
+pub mod txxx_calls;
 pub mod warning_calls;
 
 // The slots that `message` needs for that many data bytes, into `slots`.

@@ -7,8 +7,8 @@ use Rattle.area.specs.Area.{areas, valuesOf}
 use Rattle.area.specs.declared.reading.Area.{Area}
 use Rattle.format.specs.Promises.{Writes}
 use borrow.Author.Needs.{needs}
-use Rattle.relay_messages.proofs.area_calls.bellnewt_rectangle_write.Statement.{statement}
-use Rattle.relay_messages.proofs.area_calls.bellnewt_rectangle_write.Tie as tie
+use Rattle.c_calls.proofs.area_calls.bellnewt_rectangle_write.Statement.{statement}
+use Rattle.c_calls.proofs.area_calls.bellnewt_rectangle_write.Tie as tie
 
 written-requires : tie.Need-written-requires
 written-requires c κs = search needs
