@@ -4,7 +4,7 @@ use mathlib.Core.Bool.{Bool, true, false, _&&_}
 use mathlib.Core.List.{List, [], _∷_}
 use Rattle.outline.specs.Angles.{northing, easting}
 use Rattle.places.specs.Desk.{alike}
-use Rattle.numbers.specs.Cases.{plus, minus, signs, sender, checked, position, longitudeRead, longitudeWritten, noticeBytes, noticeWritten, noticeRead, yearCorrected, packetHead, heldReplies, missing, slots, south, west, outlined}
+use Rattle.numbers_to_stand_by.specs.Cases.{plus, minus, signs, sender, checked, position, longitudeRead, longitudeWritten, noticeBytes, noticeWritten, noticeRead, yearCorrected, packetHead, heldReplies, missing, slots, south, west, outlined}
 
 -- a line's letter
 pub data Letter : Type 0 where

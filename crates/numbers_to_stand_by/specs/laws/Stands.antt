@@ -29,8 +29,8 @@ use Rattle.places.specs.laws.Alike.{alike-same}
 use Rattle.desk_runs.specs.Runs.{run, log}
 use Rattle.ais.specs.Slots.{firstOf, slotsIn, slotsFor}
 use Rattle.outline.specs.Outline.{pointsOf, outlineOf}
-use Rattle.numbers.specs.Cases.{signs, replies}
-use Rattle.numbers.specs.Table.{A, Row, says, table, standing}
+use Rattle.numbers_to_stand_by.specs.Cases.{signs, replies}
+use Rattle.numbers_to_stand_by.specs.Table.{A, Row, says, table, standing}
 
 pub all-stand : standing table ≡ true
 unfolding standing signs replies alike readMessage writeMessage correctMessage read readField write writeField sized spot walk wide orZero valueOf bit digits bitsOf bytesOf fieldAt putAt xorOf intOf spellOf inLanguage english chinese leads txsq txsqs txsqOf gljc gljcs report reports reportOf reportValues changed subtypes subtype points areas first areasLong notice notices headOf textOf noticeOf noticeValues packet packets packetOf packetValues everyBelow firstFrom goodPlace allApart goodPlaces openAt freeAt firstTests joins received accepting missingBelow answers asking run log firstOf slotsIn slotsFor pointsOf outlineOf
