@@ -25,15 +25,6 @@ returns : tie.Need-returns
 unfolding codeOf
 returns c = let s = c .before .before .args .s .now in rw (lt-leb 23 (length s) (c .if1 .taken)) refl
 
-get-requires : tie.Need-get-requires
-get-requires c κs = search needs
-
-read-requires : tie.Need-read-requires
-read-requires c κs = search needs
-
-refusal-requires : tie.Need-refusal-requires
-refusal-requires c κs = search needs
-
 returns-2 : tie.Need-returns-2
 unfolding codeOf
 returns-2 c =
@@ -47,12 +38,6 @@ returns-2 c =
     let long : 23 ≤ length s = omega (arith, f1 .if1 .left) in
     let e = get .get .ensures ∙ got-fits s 0 6 (lit≤ tt) (omega (arith, long)) in
     rw (le-leb 23 (length s) long, eq-eqb (fieldAt s 0 6) 6 (sym e ∙ f2 .if2 .taken)) (c .refusal .ensures ∙ ap areaNumber (read .read .ensures) ∙ numbered areaGood areaBad areaOf areaNumber (λ r. refl) (λ c. refl) (readMessage areas s))
-
-read-requires-2 : tie.Need-read-requires-2
-read-requires-2 c κs = search needs
-
-refusal-requires-2 : tie.Need-refusal-requires-2
-refusal-requires-2 c κs = search needs
 
 returns-3 : tie.Need-returns-3
 unfolding codeOf
@@ -87,11 +72,11 @@ code-spec =
     tie.close
     (tie.spec
     returns
-    get-requires
-    read-requires
-    refusal-requires
+    (λ c κs. search needs)
+    (λ c κs. search needs)
+    (λ c κs. search needs)
     returns-2
-    read-requires-2
-    refusal-requires-2
+    (λ c κs. search needs)
+    (λ c κs. search needs)
     returns-3
     returns-4)

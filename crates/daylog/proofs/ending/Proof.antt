@@ -28,15 +28,6 @@ returns-2 c =
     let out = c .before .before .before .args .out .now in
     rw (le-leb 55 (length out) (omega arith), c .if2 .taken) (none out)
 
-slice-aggregate-line : tie.Need-slice-aggregate-line
-slice-aggregate-line c = search needs
-
-line-requires : tie.Need-line-requires
-line-requires c κs = search needs
-
-same-length : tie.Need-same-length
-same-length c = search needs
-
 returns-3 : tie.Need-returns-3
 returns-3 c =
     let p = c .before .before in
@@ -49,4 +40,4 @@ returns-3 c =
 
 pub ending-spec : {M : Type 1} → statement M
 ending-spec =
-    tie.close (tie.spec returns returns-2 slice-aggregate-line line-requires same-length returns-3)
+    tie.close (tie.spec returns returns-2 (λ c. search needs) (λ c κs. search needs) (λ c. search needs) returns-3)

@@ -13,15 +13,6 @@ returns c =
     let out = c .before .before .args .out .now in
     rw (lt-leb 55 (length out) (c .if1 .taken)) (none out)
 
-slice-aggregate-text : tie.Need-slice-aggregate-text
-slice-aggregate-text c = search needs
-
-text-requires : tie.Need-text-requires
-text-requires c κs = search needs
-
-same-length : tie.Need-same-length
-same-length c = search needs
-
 returns-2 : tie.Need-returns-2
 returns-2 c =
     let p = c .before .before in
@@ -30,4 +21,4 @@ returns-2 c =
 
 pub heading-spec : {M : Type 1} → statement M
 heading-spec =
-    tie.close (tie.spec returns slice-aggregate-text text-requires same-length returns-2)
+    tie.close (tie.spec returns (λ c. search needs) (λ c κs. search needs) (λ c. search needs) returns-2)

@@ -8,47 +8,11 @@ use Rattle.desk_bytes.specs.laws.Changes.{fourIn, row-long, asks-in, ask
 use Rattle.desk_bytes.proofs.ask.Statement.{statement}
 use Rattle.desk_bytes.proofs.ask.Tie as tie
 
-mul-if1 : tie.Need-mul-if1
-mul-if1 c = search needs
-
 returns : tie.Need-returns
 returns c = let a = c .before .before .before .before .before .args in asks-few (a .places .now) (c .if1 .taken) (a .store .now) (a .number) (a .notice .now) (a .missing .now) (a .count .now) (a .language .now)
 
-place-requires : tie.Need-place-requires
-place-requires c κs = search needs
-
-place-requires-2 : tie.Need-place-requires-2
-place-requires-2 c κs = search needs
-
-place-requires-3 : tie.Need-place-requires-3
-place-requires-3 c κs = search needs
-
-place-requires-4 : tie.Need-place-requires-4
-place-requires-4 c κs = search needs
-
-ask-requires : tie.Need-ask-requires
-ask-requires c κs = search needs
-
-count-of-requires : tie.Need-count-of-requires
-count-of-requires c κs = search needs
-
-language-of-requires : tie.Need-language-of-requires
-language-of-requires c κs = search needs
-
 settle-requires : tie.Need-settle-requires
 settle-requires c κs = (c .before .before .before .before .before .before .before .before .before .ask .ensures .1, c .before .before .before .before .before .before .before .before .before .before .before .before .before .before .before .before .before .before .before .before .if1 .left)
-
-refusal-requires : tie.Need-refusal-requires
-refusal-requires c κs = search needs
-
-same-length : tie.Need-same-length
-same-length c = search needs
-
-same-length-2 : tie.Need-same-length-2
-same-length-2 c = search needs
-
-same-length-3 : tie.Need-same-length-3
-same-length-3 c = search needs
 
 returns-2 : tie.Need-returns-2
 returns-2 c =
@@ -63,18 +27,18 @@ pub ask-spec : {M : Type 1} → statement M
 ask-spec =
     tie.close
     (tie.spec
-    mul-if1
+    (λ c. search needs)
     returns
-    place-requires
-    place-requires-2
-    place-requires-3
-    place-requires-4
-    ask-requires
-    count-of-requires
-    language-of-requires
+    (λ c κs. search needs)
+    (λ c κs. search needs)
+    (λ c κs. search needs)
+    (λ c κs. search needs)
+    (λ c κs. search needs)
+    (λ c κs. search needs)
+    (λ c κs. search needs)
     settle-requires
-    refusal-requires
-    same-length
-    same-length-2
-    same-length-3
+    (λ c κs. search needs)
+    (λ c. search needs)
+    (λ c. search needs)
+    (λ c. search needs)
     returns-2)

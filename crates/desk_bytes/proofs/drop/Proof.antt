@@ -9,35 +9,8 @@ use Rattle.desk_bytes.specs.laws.Changes.{fourIn, row-long, drops-in, dr
 use Rattle.desk_bytes.proofs.drop.Statement.{statement}
 use Rattle.desk_bytes.proofs.drop.Tie as tie
 
-mul-if1 : tie.Need-mul-if1
-mul-if1 c = search needs
-
 returns : tie.Need-returns
 returns c = let a = c .before .before .before .args in drops-few (a .places .now) (c .if1 .taken) (a .store .now) (a .number)
-
-place-requires : tie.Need-place-requires
-place-requires c κs = search needs
-
-place-requires-2 : tie.Need-place-requires-2
-place-requires-2 c κs = search needs
-
-place-requires-3 : tie.Need-place-requires-3
-place-requires-3 c κs = search needs
-
-place-requires-4 : tie.Need-place-requires-4
-place-requires-4 c κs = search needs
-
-drop-requires : tie.Need-drop-requires
-drop-requires c κs = search needs
-
-settle-requires : tie.Need-settle-requires
-settle-requires c κs = search needs
-
-refusal-requires : tie.Need-refusal-requires
-refusal-requires c κs = search needs
-
-same-length : tie.Need-same-length
-same-length c = search needs
 
 returns-2 : tie.Need-returns-2
 returns-2 c =
@@ -51,14 +24,14 @@ pub drop-spec : {M : Type 1} → statement M
 drop-spec =
     tie.close
     (tie.spec
-    mul-if1
+    (λ c. search needs)
     returns
-    place-requires
-    place-requires-2
-    place-requires-3
-    place-requires-4
-    drop-requires
-    settle-requires
-    refusal-requires
-    same-length
+    (λ c κs. search needs)
+    (λ c κs. search needs)
+    (λ c κs. search needs)
+    (λ c κs. search needs)
+    (λ c κs. search needs)
+    (λ c κs. search needs)
+    (λ c κs. search needs)
+    (λ c. search needs)
     returns-2)

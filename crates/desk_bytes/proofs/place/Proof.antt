@@ -13,54 +13,6 @@ use Rattle.desk_bytes.proofs.Stored.{byte-there, sizes-there, copied-wh
 use Rattle.desk_bytes.proofs.place.Statement.{statement}
 use Rattle.desk_bytes.proofs.place.Tie as tie
 
-mul-at : tie.Need-mul-at
-mul-at c = search needs
-
-shared-slice-read-mark : tie.Need-shared-slice-read-mark
-shared-slice-read-mark c = search needs
-
-add-copy : tie.Need-add-copy
-add-copy c = search needs
-
-add-copy-2 : tie.Need-add-copy-2
-add-copy-2 c = search needs
-
-sub-copy : tie.Need-sub-copy
-sub-copy c = search needs
-
-part-copy-start : tie.Need-part-copy-start
-part-copy-start c = search needs
-
-part-copy-end : tie.Need-part-copy-end
-part-copy-end c = search needs
-
-slice-aggregate-copy : tie.Need-slice-aggregate-copy
-slice-aggregate-copy c = search needs
-
-copy-requires : tie.Need-copy-requires
-copy-requires c κs = search needs
-
-add-t8 : tie.Need-add-t8
-add-t8 c = search needs
-
-shared-slice-read-t7 : tie.Need-shared-slice-read-t7
-shared-slice-read-t7 c = search needs
-
-add-t10 : tie.Need-add-t10
-add-t10 c = search needs
-
-shared-slice-read-t20 : tie.Need-shared-slice-read-t20
-shared-slice-read-t20 c = search needs
-
-add-total-behind : tie.Need-add-total-behind
-add-total-behind c = search needs
-
-shared-slice-read-total-behind : tie.Need-shared-slice-read-total-behind
-shared-slice-read-total-behind c = search needs
-
-total-behind-requires : tie.Need-total-behind-requires
-total-behind-requires c κs = search needs
-
 returns : tie.Need-returns
 returns c =
     let k = c .before .before .before .before .before in
@@ -79,20 +31,20 @@ pub place-spec : {M : Type 1} → statement M
 place-spec =
     tie.close
     (tie.spec
-    mul-at
-    shared-slice-read-mark
-    add-copy
-    add-copy-2
-    sub-copy
-    part-copy-start
-    part-copy-end
-    slice-aggregate-copy
-    copy-requires
-    add-t8
-    shared-slice-read-t7
-    add-t10
-    shared-slice-read-t20
-    add-total-behind
-    shared-slice-read-total-behind
-    total-behind-requires
+    (λ c. search needs)
+    (λ c. search needs)
+    (λ c. search needs)
+    (λ c. search needs)
+    (λ c. search needs)
+    (λ c. search needs)
+    (λ c. search needs)
+    (λ c. search needs)
+    (λ c κs. search needs)
+    (λ c. search needs)
+    (λ c. search needs)
+    (λ c. search needs)
+    (λ c. search needs)
+    (λ c. search needs)
+    (λ c. search needs)
+    (λ c κs. search needs)
     returns)

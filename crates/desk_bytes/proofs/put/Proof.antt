@@ -13,41 +13,14 @@ use Rattle.desk_bytes.proofs.Stored.{laid-more, four-stored}
 use Rattle.desk_bytes.proofs.put.Statement.{statement}
 use Rattle.desk_bytes.proofs.put.Tie as tie
 
-mul-at : tie.Need-mul-at
-mul-at c = search needs
-
-mark-requires : tie.Need-mark-requires
-mark-requires c κs = search needs
-
-slice-write-s : tie.Need-slice-write-s
-slice-write-s c = search needs
-
-add-s : tie.Need-add-s
-add-s c = search needs
-
 slice-write-s-2 : tie.Need-slice-write-s-2
 slice-write-s-2 c = let a = c .before .before .before .args in omega (arith, length-set (a .s .now) (begins (a .i)) (c .mark .result))
-
-add-s-2 : tie.Need-add-s-2
-add-s-2 c = search needs
 
 slice-write-s-3 : tie.Need-slice-write-s-3
 slice-write-s-3 c = let a = c .before .before .before .args in omega (arith, length-set (a .s .now) (begins (a .i)) (c .mark .result), length-set (set (a .s .now) (begins (a .i)) (c .mark .result)) (begins (a .i) + 1) (a .p .number))
 
-add-s-3 : tie.Need-add-s-3
-add-s-3 c = search needs
-
 slice-write-s-4 : tie.Need-slice-write-s-4
 slice-write-s-4 c = let a = c .before .before .before .args in omega (arith, length-set (a .s .now) (begins (a .i)) (c .mark .result), length-set (set (a .s .now) (begins (a .i)) (c .mark .result)) (begins (a .i) + 1) (a .p .number), length-set (set (set (a .s .now) (begins (a .i)) (c .mark .result)) (begins (a .i) + 1) (a .p .number)) (begins (a .i) + 2) (a .p .language))
-
-add-lay : tie.Need-add-lay
-add-lay c = search needs
-
-slice-aggregate-lay : tie.Need-slice-aggregate-lay
-slice-aggregate-lay c = search needs
-
-lay-requires : tie.Need-lay-requires
-lay-requires c κs = search needs
 
 same-length : tie.Need-same-length
 same-length c =
@@ -72,17 +45,17 @@ pub put-spec : {M : Type 1} → statement M
 put-spec =
     tie.close
     (tie.spec
-    mul-at
-    mark-requires
-    slice-write-s
-    add-s
+    (λ c. search needs)
+    (λ c κs. search needs)
+    (λ c. search needs)
+    (λ c. search needs)
     slice-write-s-2
-    add-s-2
+    (λ c. search needs)
     slice-write-s-3
-    add-s-3
+    (λ c. search needs)
     slice-write-s-4
-    add-lay
-    slice-aggregate-lay
-    lay-requires
+    (λ c. search needs)
+    (λ c. search needs)
+    (λ c κs. search needs)
     same-length
     returns)

@@ -5,15 +5,6 @@ use borrow.Author.Needs.{needs}
 use Rattle.desk_bytes.proofs.settle.Statement.{statement}
 use Rattle.desk_bytes.proofs.settle.Tie as tie
 
-moves-requires : tie.Need-moves-requires
-moves-requires c κs = search needs
-
-put-requires : tie.Need-put-requires
-put-requires c κs = search needs
-
-same-length : tie.Need-same-length
-same-length c = search needs
-
 returns : tie.Need-returns
 returns c = c .before .before .put .ensures ∙ sym (rw (sym (c .before .before .before .before .before .moves .ensures) ∙ c .before .before .before .before .if1 .taken) refl)
 
@@ -21,4 +12,4 @@ returns-2 : tie.Need-returns-2
 returns-2 c = sym (rw (sym (c .before .moves .ensures) ∙ c .if1 .left) refl)
 
 pub settle-spec : {M : Type 1} → statement M
-settle-spec = tie.close (tie.spec moves-requires put-requires same-length returns returns-2)
+settle-spec = tie.close (tie.spec (λ c κs. search needs) (λ c κs. search needs) (λ c. search needs) returns returns-2)

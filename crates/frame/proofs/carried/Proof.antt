@@ -7,21 +7,12 @@ use borrow.Author.Needs.{needs}
 use Rattle.frame.proofs.carried.Statement.{statement}
 use Rattle.frame.proofs.carried.Tie as tie
 
-slice-aggregate-result : tie.Need-slice-aggregate-result
-slice-aggregate-result c = search needs
-
 returns : tie.Need-returns
 returns c =
     let test = c .before in
     let a = test .before .args in
     let none : 0 ≡ length (a .s .now) - a .behind - a .from = omega (arith, test .if1 .taken) in
     ap (λ k. take k (drop (a .from) (a .s .now))) none
-
-sub-end : tie.Need-sub-end
-sub-end c = search needs
-
-slice-aggregate-result-2 : tie.Need-slice-aggregate-result-2
-slice-aggregate-result-2 c = search needs
 
 returns-2 : tie.Need-returns-2
 returns-2 c =
@@ -30,14 +21,8 @@ returns-2 c =
     let none : 0 ≡ length (a .s .now) - a .behind - a .from = omega (arith, test .if2 .taken) in
     ap (λ k. take k (drop (a .from) (a .s .now))) none
 
-part-result-start : tie.Need-part-result-start
-part-result-start c = search needs
-
-part-result-end : tie.Need-part-result-end
-part-result-end c = search needs
-
 returns-3 : tie.Need-returns-3
 returns-3 c = search needs
 
 pub carried-spec : {M : Type 1} → statement M
-carried-spec = tie.close (tie.spec slice-aggregate-result returns sub-end slice-aggregate-result-2 returns-2 part-result-start part-result-end returns-3)
+carried-spec = tie.close (tie.spec (λ c. search needs) returns (λ c. search needs) (λ c. search needs) returns-2 (λ c. search needs) (λ c. search needs) returns-3)

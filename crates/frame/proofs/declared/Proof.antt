@@ -8,19 +8,13 @@ use borrow.Author.Needs.{needs}
 use Rattle.frame.proofs.declared.Statement.{statement}
 use Rattle.frame.proofs.declared.Tie as tie
 
-sub-if1 : tie.Need-sub-if1
-sub-if1 c = search needs
-
 returns : tie.Need-returns
 unfolding declared
 returns c = rw (le-ltb (c .before .args .fixed + c .before .args .content) 65_536 (omega arith)) refl
-
-add-result : tie.Need-add-result
-add-result c = search needs
 
 returns-2 : tie.Need-returns-2
 unfolding declared
 returns-2 c = rw (lt-ltb (c .before .args .fixed + c .before .args .content) 65_536 (omega arith)) refl
 
 pub declared-spec : {M : Type 1} → statement M
-declared-spec = tie.close (tie.spec sub-if1 returns add-result returns-2)
+declared-spec = tie.close (tie.spec (λ c. search needs) returns (λ c. search needs) returns-2)

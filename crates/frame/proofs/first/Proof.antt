@@ -6,16 +6,10 @@ use borrow.Author.Needs.{needs}
 use Rattle.frame.proofs.first.Statement.{statement}
 use Rattle.frame.proofs.first.Tie as tie
 
-lead-requires : tie.Need-lead-requires
-lead-requires c κs = search needs
-
-tested-requires : tie.Need-tested-requires
-tested-requires c κs = search needs
-
 returns : tie.Need-returns
 returns c =
     let s = c .before .before .before .args .s .now in
     c .tested .ensures ∙ ap (firstOf (sealFault true s)) (c .before .lead .ensures)
 
 pub first-spec : {M : Type 1} → statement M
-first-spec = tie.close (tie.spec lead-requires tested-requires returns)
+first-spec = tie.close (tie.spec (λ c κs. search needs) (λ c κs. search needs) returns)

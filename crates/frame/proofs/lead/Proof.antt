@@ -31,18 +31,12 @@ returns : tie.Need-returns
 unfolding leads
 returns c = rw (lt-leb 12 (length (c .before .before .args .s .now)) (c .if1 .taken)) refl
 
-get-requires : tie.Need-get-requires
-get-requires c κs = search needs
-
 returns-2 : tie.Need-returns-2
 unfolding leads
 returns-2 c =
     let g = c .before in
     let s = g .before .before .before .args .s .now in
     rw (le-leb 12 (length s) (omega arith), ne-eqb (fieldAt s 0 8) 0x24 (λ z. c .if2 .taken (there s 0 8 (lit≤ tt) (lit≤ tt) (g .get .ensures) (omega arith) ∙ z))) refl
-
-get-requires-2 : tie.Need-get-requires-2
-get-requires-2 c κs = search needs
 
 returns-3 : tie.Need-returns-3
 unfolding leads
@@ -71,9 +65,6 @@ returns-5 c =
     let s = a .s .now in
     sym (named s (a .letters) (a .least) (a .most) (l .get2 .ensures) (f3 .if3 .left) (d .get .ensures) (l .before .if2 .left) (omega arith)
     ∙ rw (lt-leb (length s) (a .most) (c .if5 .taken), and-false) refl)
-
-get-requires-3 : tie.Need-get-requires-3
-get-requires-3 c κs = search needs
 
 returns-6 : tie.Need-returns-6
 returns-6 c =
@@ -104,12 +95,12 @@ lead-spec =
     tie.close
     (tie.spec
     returns
-    get-requires
+    (λ c κs. search needs)
     returns-2
-    get-requires-2
+    (λ c κs. search needs)
     returns-3
     returns-4
     returns-5
-    get-requires-3
+    (λ c κs. search needs)
     returns-6
     returns-7)

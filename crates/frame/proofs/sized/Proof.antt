@@ -7,15 +7,6 @@ use borrow.Author.Needs.{needs}
 use Rattle.frame.proofs.sized.Statement.{statement}
 use Rattle.frame.proofs.sized.Tie as tie
 
-add-if1 : tie.Need-add-if1
-add-if1 c = search needs
-
-add-if1-2 : tie.Need-add-if1-2
-add-if1-2 c = search needs
-
-add-if1-3 : tie.Need-add-if1-3
-add-if1-3 c = search needs
-
 returns : tie.Need-returns
 returns c =
     let a = c .before .args in
@@ -27,4 +18,4 @@ returns-2 c =
     rw (ne-eqb (a .length) (a .fixed + (a .size + 7) / 8) (λ z. c .if1 .left (omega (arith, z)))) refl
 
 pub sized-spec : {M : Type 1} → statement M
-sized-spec = tie.close (tie.spec add-if1 add-if1-2 add-if1-3 returns returns-2)
+sized-spec = tie.close (tie.spec (λ c. search needs) (λ c. search needs) (λ c. search needs) returns returns-2)

@@ -6,31 +6,19 @@ use borrow.Author.Needs.{needs}
 use Rattle.listing.proofs.finish.Statement.{statement}
 use Rattle.listing.proofs.finish.Tie as tie
 
-ending-requires : tie.Need-ending-requires
-ending-requires c κs = search needs
-
 slice-reshare-prefix-put : tie.Need-slice-reshare-prefix-put
 slice-reshare-prefix-put c = let e = c .before .before in omega (arith, made-within (e .ending .ensures) (e .ending .kept .0), e .ending .kept .0)
 
 slice-aggregate-put : tie.Need-slice-aggregate-put
 slice-aggregate-put c = let e = c .before .before .before in simp length-take (omega (arith, made-within (e .ending .ensures) (e .ending .kept .0), e .ending .kept .0))
 
-put-requires : tie.Need-put-requires
-put-requires c κs = search needs
-
-same-length : tie.Need-same-length
-same-length c = search needs
-
-returns : tie.Need-returns
-returns c = search needs
-
 pub finish-spec : {M : Type 1} → statement M
 finish-spec =
     tie.close
     (tie.spec
-    ending-requires
+    (λ c κs. search needs)
     slice-reshare-prefix-put
     slice-aggregate-put
-    put-requires
-    same-length
-    returns)
+    (λ c κs. search needs)
+    (λ c. search needs)
+    (λ c. search needs))

@@ -18,17 +18,11 @@ use borrow.Author.Needs.{needs}
 use Rattle.outline.proofs.outline.Statement.{statement}
 use Rattle.outline.proofs.outline.Tie as tie
 
-fields-requires : tie.Need-fields-requires
-fields-requires c κs = search needs
-
 returns : tie.Need-returns
 returns c = let f = c .before .before in
     let a = f .before .before .args in
     let s = a .s .now in
     outlines-refused (a .english) s (a .row .now) (ap (also recordOf) (walked-bad (a .english) 0 s (f .fields .result) (f .fields .ensures) (c .if1 .taken)))
-
-measure-requires : tie.Need-measure-requires
-measure-requires c κs = search needs
 
 mul-if2 : tie.Need-mul-if2
 mul-if2 c = let f = c .before .before .before .before in
@@ -53,9 +47,6 @@ draw-requires c κs = let f = c .before .before .before .before .before .before 
     let points = ap (λ (e : Extent). e .points) (c .before .before .measure .ensures) in
     omega (arith, points, outline-at-long s (f .fields .result .notice .count) front, c .before .if2 .left)
 
-same-length : tie.Need-same-length
-same-length c = search needs
-
 returns-3 : tie.Need-returns-3
 returns-3 c = let f = c .before .before .before .before .before .before .before .before in
     let a = f .before .before .args in
@@ -72,11 +63,11 @@ pub outline-spec : {M : Type 1} → statement M
 outline-spec =
     tie.close
     (tie.spec
-    fields-requires
+    (λ c κs. search needs)
     returns
-    measure-requires
+    (λ c κs. search needs)
     mul-if2
     returns-2
     draw-requires
-    same-length
+    (λ c. search needs)
     returns-3)

@@ -11,9 +11,6 @@ returns : tie.Need-returns
 unfolding firstTests
 returns c = sym (rw (lt-leb _ _ (c .if1 .taken)) refl)
 
-sound-requires : tie.Need-sound-requires
-sound-requires c κs = search needs
-
 returns-2 : tie.Need-returns-2
 unfolding firstTests
 returns-2 c = sym (rw (le-leb _ _ (c .before .before .if1 .left), sym (c .before .sound .ensures) ∙ c .if2 .taken) refl)
@@ -23,4 +20,4 @@ unfolding firstTests
 returns-3 c = sym (rw (le-leb _ _ (c .before .before .if1 .left), sym (c .before .sound .ensures) ∙ c .if2 .left) refl)
 
 pub first-tests-spec : {M : Type 1} → statement M
-first-tests-spec = tie.close (tie.spec returns sound-requires returns-2 returns-3)
+first-tests-spec = tie.close (tie.spec returns (λ c κs. search needs) returns-2 returns-3)

@@ -25,29 +25,11 @@ returns c = let a = c .before .before .before .args in
     let part = a .part .now in
     sym (rw (lt-leb (a .at + length part) (length s) (omega (arith, c .if1 .taken))) refl)
 
-sub-if2 : tie.Need-sub-if2
-sub-if2 c = search needs
-
 returns-2 : tie.Need-returns-2
 returns-2 c = let a = c .before .before .before .before .args in
     let s = a .s .now in
     let part = a .part .now in
     sym (rw (lt-leb (a .at + length part) (length s) (omega (arith, c .if2 .taken, c .before .if1 .left))) refl)
-
-sub-copy : tie.Need-sub-copy
-sub-copy c = search needs
-
-part-copy-start : tie.Need-part-copy-start
-part-copy-start c = search needs
-
-part-copy-end : tie.Need-part-copy-end
-part-copy-end c = search needs
-
-copy-requires : tie.Need-copy-requires
-copy-requires c κs = search needs
-
-same-length : tie.Need-same-length
-same-length c = search needs
 
 returns-3 : tie.Need-returns-3
 returns-3 c = let k = c .before .before in
@@ -62,11 +44,11 @@ lay-spec =
     tie.close
     (tie.spec
     returns
-    sub-if2
+    (λ c. search needs)
     returns-2
-    sub-copy
-    part-copy-start
-    part-copy-end
-    copy-requires
-    same-length
+    (λ c. search needs)
+    (λ c. search needs)
+    (λ c. search needs)
+    (λ c κs. search needs)
+    (λ c. search needs)
     returns-3)

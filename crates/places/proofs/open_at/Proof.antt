@@ -7,26 +7,14 @@ use Rattle.places.specs.laws.Four.{open-four}
 use Rattle.places.proofs.open_at.Statement.{statement}
 use Rattle.places.proofs.open_at.Tie as tie
 
-serves-requires : tie.Need-serves-requires
-serves-requires c κs = search needs
-
 returns : tie.Need-returns
 returns c = let s = c .before .before .args in let a = s .a in let b = s .b in let d = s .c in let e = s .d in sym (open-four a b d e (s .number) ∙ rw (sym (c .before .serves .ensures) ∙ c .if1 .taken) refl)
-
-serves-requires-2 : tie.Need-serves-requires-2
-serves-requires-2 c κs = search needs
 
 returns-2 : tie.Need-returns-2
 returns-2 c = let s = c .before .before .before .before .args in let a = s .a in let b = s .b in let d = s .c in let e = s .d in sym (open-four a b d e (s .number) ∙ rw (sym (c .before .before .before .serves .ensures) ∙ c .before .before .if1 .left, sym (c .before .serves2 .ensures) ∙ c .if2 .taken) refl)
 
-serves-requires-3 : tie.Need-serves-requires-3
-serves-requires-3 c κs = search needs
-
 returns-3 : tie.Need-returns-3
 returns-3 c = let s = c .before .before .before .before .before .before .args in let a = s .a in let b = s .b in let d = s .c in let e = s .d in sym (open-four a b d e (s .number) ∙ rw (sym (c .before .before .before .before .before .serves .ensures) ∙ c .before .before .before .before .if1 .left, sym (c .before .before .before .serves2 .ensures) ∙ c .before .before .if2 .left, sym (c .before .serves3 .ensures) ∙ c .if3 .taken) refl)
-
-serves-requires-4 : tie.Need-serves-requires-4
-serves-requires-4 c κs = search needs
 
 returns-4 : tie.Need-returns-4
 returns-4 c = let s = c .before .before .before .before .before .before .before .before .args in let a = s .a in let b = s .b in let d = s .c in let e = s .d in sym (open-four a b d e (s .number) ∙ rw (sym (c .before .before .before .before .before .before .before .serves .ensures) ∙ c .before .before .before .before .before .before .if1 .left, sym (c .before .before .before .before .before .serves2 .ensures) ∙ c .before .before .before .before .if2 .left, sym (c .before .before .before .serves3 .ensures) ∙ c .before .before .if3 .left, sym (c .before .serves4 .ensures) ∙ c .if4 .taken) refl)
@@ -38,12 +26,12 @@ pub open-at-spec : {M : Type 1} → statement M
 open-at-spec =
     tie.close
     (tie.spec
-    serves-requires
+    (λ c κs. search needs)
     returns
-    serves-requires-2
+    (λ c κs. search needs)
     returns-2
-    serves-requires-3
+    (λ c κs. search needs)
     returns-3
-    serves-requires-4
+    (λ c κs. search needs)
     returns-4
     returns-5)

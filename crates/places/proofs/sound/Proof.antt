@@ -8,32 +8,17 @@ use Rattle.places.specs.laws.Four.{good-four}
 use Rattle.places.proofs.sound.Statement.{statement}
 use Rattle.places.proofs.sound.Tie as tie
 
-apart-requires : tie.Need-apart-requires
-apart-requires c κs = search needs
-
 returns : tie.Need-returns
 returns c = let s = c .before .before .args in let a = s .a in let b = s .b in let d = s .c in let e = s .d in sym (good-four a b d e ∙ rw (sym (c .before .apart .ensures) ∙ not-true _ (c .if1 .taken)) refl)
-
-passes-requires : tie.Need-passes-requires
-passes-requires c κs = search needs
 
 returns-2 : tie.Need-returns-2
 returns-2 c = let s = c .before .before .before .before .args in let a = s .a in let b = s .b in let d = s .c in let e = s .d in sym (good-four a b d e ∙ rw (sym (c .before .before .before .apart .ensures) ∙ not-false _ (c .before .before .if1 .left), sym (c .before .passes .ensures) ∙ not-true _ (c .if2 .taken)) refl)
 
-passes-requires-2 : tie.Need-passes-requires-2
-passes-requires-2 c κs = search needs
-
 returns-3 : tie.Need-returns-3
 returns-3 c = let s = c .before .before .before .before .before .before .args in let a = s .a in let b = s .b in let d = s .c in let e = s .d in sym (good-four a b d e ∙ rw (sym (c .before .before .before .before .before .apart .ensures) ∙ not-false _ (c .before .before .before .before .if1 .left), sym (c .before .before .before .passes .ensures) ∙ not-false _ (c .before .before .if2 .left), sym (c .before .passes2 .ensures) ∙ not-true _ (c .if3 .taken)) refl)
 
-passes-requires-3 : tie.Need-passes-requires-3
-passes-requires-3 c κs = search needs
-
 returns-4 : tie.Need-returns-4
 returns-4 c = let s = c .before .before .before .before .before .before .before .before .args in let a = s .a in let b = s .b in let d = s .c in let e = s .d in sym (good-four a b d e ∙ rw (sym (c .before .before .before .before .before .before .before .apart .ensures) ∙ not-false _ (c .before .before .before .before .before .before .if1 .left), sym (c .before .before .before .before .before .passes .ensures) ∙ not-false _ (c .before .before .before .before .if2 .left), sym (c .before .before .before .passes2 .ensures) ∙ not-false _ (c .before .before .if3 .left), sym (c .before .passes3 .ensures) ∙ not-true _ (c .if4 .taken)) refl)
-
-passes-requires-4 : tie.Need-passes-requires-4
-passes-requires-4 c κs = search needs
 
 returns-5 : tie.Need-returns-5
 returns-5 c = let s = c .before .before .before .before .before .before .before .before .before .args in let a = s .a in let b = s .b in let d = s .c in let e = s .d in sym (good-four a b d e ∙ rw (sym (c .before .before .before .before .before .before .before .before .apart .ensures) ∙ not-false _ (c .before .before .before .before .before .before .before .if1 .left), sym (c .before .before .before .before .before .before .passes .ensures) ∙ not-false _ (c .before .before .before .before .before .if2 .left), sym (c .before .before .before .before .passes2 .ensures) ∙ not-false _ (c .before .before .before .if3 .left), sym (c .before .before .passes3 .ensures) ∙ not-false _ (c .before .if4 .left), sym (c .passes4 .ensures)) refl)
@@ -42,13 +27,13 @@ pub sound-spec : {M : Type 1} → statement M
 sound-spec =
     tie.close
     (tie.spec
-    apart-requires
+    (λ c κs. search needs)
     returns
-    passes-requires
+    (λ c κs. search needs)
     returns-2
-    passes-requires-2
+    (λ c κs. search needs)
     returns-3
-    passes-requires-3
+    (λ c κs. search needs)
     returns-4
-    passes-requires-4
+    (λ c κs. search needs)
     returns-5)

@@ -28,18 +28,6 @@ unhexed-here c =
     let n = length-part (length s - 39) (length s - 5) s (omega arith) (omega arith) in
     c .unhex .ensures ∙ rw (eq-eqb (length (hexPart s)) 34 (n ∙ omega arith))
 
-accept-requires : tie.Need-accept-requires
-accept-requires c κs = search needs
-
-enum-known-outer : tie.Need-enum-known-outer
-enum-known-outer c = search needs
-
-enum-told : tie.Need-enum-told
-enum-told c = search needs
-
-refusal-requires : tie.Need-refusal-requires
-refusal-requires c κs = search needs
-
 returns : tie.Need-returns
 returns c =
     let t = c .before in
@@ -52,30 +40,6 @@ sub-unhex c = omega (arith, apart c .least)
 
 sub-unhex-2 : tie.Need-sub-unhex-2
 sub-unhex-2 c = omega (arith, apart c .least)
-
-sub-unhex-3 : tie.Need-sub-unhex-3
-sub-unhex-3 c = search needs
-
-part-unhex-start : tie.Need-part-unhex-start
-part-unhex-start c = search needs
-
-part-unhex-end : tie.Need-part-unhex-end
-part-unhex-end c = search needs
-
-unhex-requires : tie.Need-unhex-requires
-unhex-requires c κs = search needs
-
-slice-aggregate-read : tie.Need-slice-aggregate-read
-slice-aggregate-read c = search needs
-
-read-requires : tie.Need-read-requires
-read-requires c κs = search needs
-
-enum-known-r : tie.Need-enum-known-r
-enum-known-r c = search needs
-
-enum-known-code : tie.Need-enum-known-code
-enum-known-code c = search needs
 
 returns-2 : tie.Need-returns-2
 returns-2 c =
@@ -105,20 +69,20 @@ pub read-spec : {M : Type 1} → statement M
 read-spec =
     tie.close
     (tie.spec
-    accept-requires
-    enum-known-outer
-    enum-told
-    refusal-requires
+    (λ c κs. search needs)
+    (λ c. search needs)
+    (λ c. search needs)
+    (λ c κs. search needs)
     returns
     sub-unhex
     sub-unhex-2
-    sub-unhex-3
-    part-unhex-start
-    part-unhex-end
-    unhex-requires
-    slice-aggregate-read
-    read-requires
-    enum-known-r
-    enum-known-code
+    (λ c. search needs)
+    (λ c. search needs)
+    (λ c. search needs)
+    (λ c κs. search needs)
+    (λ c. search needs)
+    (λ c κs. search needs)
+    (λ c. search needs)
+    (λ c. search needs)
     returns-2
     returns-3)

@@ -46,23 +46,11 @@ returns-2 : tie.Need-returns-2
 returns-2 c = let a = c .before .before .before .args in
     bad-address (a .buf .now) (a .address) (a .r) (rw (lt-leb (a .address) 2_097_151 (c .if2 .taken), and-false (leb 1 (a .address))) refl)
 
-slice-aggregate-write : tie.Need-slice-aggregate-write
-slice-aggregate-write c = search needs
-
-write-requires : tie.Need-write-requires
-write-requires c κs = search needs
-
 returns-3 : tie.Need-returns-3
 returns-3 c = let w = c .before .before in
     let g = w .before .before in
     let a = g .before .before .before .args in
     bad-report (a .buf .now) (a .address) (a .r) (within g) (w .write .result) (c .if3 .taken) (report w .bad (c .if3 .taken))
-
-decimal-requires : tie.Need-decimal-requires
-decimal-requires c κs = search needs
-
-add-size : tie.Need-add-size
-add-size c = search needs
 
 sub-size : tie.Need-sub-size
 sub-size c = omega (arith, from-there (c .before))
@@ -73,15 +61,6 @@ sub-lay c = omega (arith, from-there (c .before .before))
 part-lay-start : tie.Need-part-lay-start
 part-lay-start c = omega (arith, from-there (c .before .before .before))
 
-part-lay-end : tie.Need-part-lay-end
-part-lay-end c = search needs
-
-lay-requires : tie.Need-lay-requires
-lay-requires c κs = search needs
-
-same-length : tie.Need-same-length
-same-length c = search needs
-
 returns-4 : tie.Need-returns-4
 returns-4 c =
     let y = c .before .before .before in
@@ -91,9 +70,6 @@ returns-4 c =
     let a = g .before .before .before .args in
     all-laid (a .buf .now) (a .address) (a .r) (within g) (w .write .last .0) (report w .good (d .before .if3 .left)) _ (y .lay .last .0) (y .lay .result) (digits d) (y .lay .ensures)
     (63 - d .decimal .result .from) (omega (arith, from-there d)) (c .if4 .taken)
-
-same-length-2 : tie.Need-same-length-2
-same-length-2 c = search needs
 
 returns-5 : tie.Need-returns-5
 returns-5 c =
@@ -111,17 +87,17 @@ write-spec =
     (tie.spec
     returns
     returns-2
-    slice-aggregate-write
-    write-requires
+    (λ c. search needs)
+    (λ c κs. search needs)
     returns-3
-    decimal-requires
-    add-size
+    (λ c κs. search needs)
+    (λ c. search needs)
     sub-size
     sub-lay
     part-lay-start
-    part-lay-end
-    lay-requires
-    same-length
+    (λ c. search needs)
+    (λ c κs. search needs)
+    (λ c. search needs)
     returns-4
-    same-length-2
+    (λ c. search needs)
     returns-5)

@@ -15,21 +15,12 @@ returns : tie.Need-returns
 unfolding codeOf
 returns c = rw (lt-leb 12 (length (c .before .before .args .s .now)) (c .if1 .taken)) refl
 
-get-requires : tie.Need-get-requires
-get-requires c κs = search needs
-
 returns-2 : tie.Need-returns-2
 unfolding codeOf
 returns-2 c =
     let g = c .before in
     let s = g .before .before .before .args .s .now in
     rw (le-leb 12 (length s) (omega arith), ne-eqb (fieldAt s 0 8) 0x24 (λ z. c .if2 .taken (g .get .ensures ∙ got-fits s 0 8 (lit≤ tt) (omega arith) ∙ z))) refl
-
-get-requires-2 : tie.Need-get-requires-2
-get-requires-2 c κs = search needs
-
-code-as-requires : tie.Need-code-as-requires
-code-as-requires c κs = search needs
 
 returns-3 : tie.Need-returns-3
 unfolding codeOf
@@ -42,4 +33,4 @@ returns-3 c =
 
 pub code-spec : {M : Type 1} → statement M
 code-spec =
-    tie.close (tie.spec returns get-requires returns-2 get-requires-2 code-as-requires returns-3)
+    tie.close (tie.spec returns (λ c κs. search needs) returns-2 (λ c κs. search needs) (λ c κs. search needs) returns-3)

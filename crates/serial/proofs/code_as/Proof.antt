@@ -22,23 +22,11 @@ use Rattle.txsq.proofs.reading.read.Reads as read-reads′′
 use Rattle.txxx.proofs.reading.Answer.refusal.Reads as Answer-refusal-reads′′′
 use Rattle.txxx.proofs.reading.read.Reads as read-reads′′′
 
-read-requires : tie.Need-read-requires
-read-requires c κs = search needs
-
-refusal-requires : tie.Need-refusal-requires
-refusal-requires c κs = search needs
-
 returns : tie.Need-returns
 unfolding codeAs
 returns c =
     let s = c .before .before .before .before .args .s .now in
     rw (eq-eqb _ GLJC (c .before .before .if1 .taken)) (c .refusal .ensures ∙ ap gljcNumber (c .before .read .ensures) ∙ numbered gljcGood gljcBad gljcOf gljcNumber (λ r. refl) (λ c. refl) (readMessage gljcs s))
-
-read-requires-2 : tie.Need-read-requires-2
-read-requires-2 c κs = search needs
-
-refusal-requires-2 : tie.Need-refusal-requires-2
-refusal-requires-2 c κs = search needs
 
 returns-2 : tie.Need-returns-2
 unfolding codeAs
@@ -46,23 +34,11 @@ returns-2 c =
     let s = c .before .before .before .before .before .args .s .now in
     rw (ne-eqb _ GLJC (c .before .before .before .if1 .left), eq-eqb _ TXSQ (c .before .before .if2 .taken)) (c .refusal2 .ensures ∙ ap txsqNumber (c .before .read2 .ensures) ∙ numbered (λ r. txsqGood (r .0)) txsqBad txsqOf txsqNumber (λ r. refl) (λ c. refl) (readMessage txsqs s))
 
-read-requires-3 : tie.Need-read-requires-3
-read-requires-3 c κs = search needs
-
-refusal-requires-3 : tie.Need-refusal-requires-3
-refusal-requires-3 c κs = search needs
-
 returns-3 : tie.Need-returns-3
 unfolding codeAs
 returns-3 c =
     let s = c .before .before .before .before .before .before .args .s .now in
     rw (ne-eqb _ GLJC (c .before .before .before .before .if1 .left), ne-eqb _ TXSQ (c .before .before .before .if2 .left), eq-eqb _ TXXX (c .before .before .if3 .taken)) (c .refusal3 .ensures ∙ ap txxxNumber (c .before .read3 .ensures) ∙ numbered (λ r. txxxGood (r .0)) txxxBad txxxOf txxxNumber (λ r. refl) (λ c. refl) (readMessage txxxs s))
-
-read-requires-4 : tie.Need-read-requires-4
-read-requires-4 c κs = search needs
-
-refusal-requires-4 : tie.Need-refusal-requires-4
-refusal-requires-4 c κs = search needs
 
 returns-4 : tie.Need-returns-4
 unfolding codeAs
@@ -78,16 +54,16 @@ pub code-as-spec : {M : Type 1} → statement M
 code-as-spec =
     tie.close
     (tie.spec
-    read-requires
-    refusal-requires
+    (λ c κs. search needs)
+    (λ c κs. search needs)
     returns
-    read-requires-2
-    refusal-requires-2
+    (λ c κs. search needs)
+    (λ c κs. search needs)
     returns-2
-    read-requires-3
-    refusal-requires-3
+    (λ c κs. search needs)
+    (λ c κs. search needs)
     returns-3
-    read-requires-4
-    refusal-requires-4
+    (λ c κs. search needs)
+    (λ c κs. search needs)
     returns-4
     returns-5)

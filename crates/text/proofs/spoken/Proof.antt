@@ -9,9 +9,6 @@ use Rattle.text.specs.Text.{inLanguage}
 use Rattle.text.proofs.spoken.Statement.{statement}
 use Rattle.text.proofs.spoken.Tie as tie
 
-spans-requires : tie.Need-spans-requires
-spans-requires c κs = search needs
-
 lies : (c : tie.After-spans) → c .spans .result ≡ true → let a = c .before .before .args in a .at + a .n * 8 ≤ length (a .s .now) * 8
 lies c e = let a = c .before .before .args in leb-true (a .at + a .n * 8) (length (a .s .now) * 8) (sym (c .spans .ensures) ∙ e)
 
@@ -39,4 +36,4 @@ returns-3 c = rw (sym (c .before .spans .ensures) ∙ c .if1 .left)
 pub spoken-spec : {M : Type 1} → statement M
 spoken-spec =
     tie.close
-    (tie.spec spans-requires is-english-requires returns is-chinese-requires returns-2 returns-3)
+    (tie.spec (λ c κs. search needs) is-english-requires returns is-chinese-requires returns-2 returns-3)

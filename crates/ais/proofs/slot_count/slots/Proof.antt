@@ -7,9 +7,6 @@ use borrow.Author.Needs.{needs}
 use Rattle.ais.proofs.slot_count.slots.Statement.{statement}
 use Rattle.ais.proofs.slot_count.slots.Tie as tie
 
-slice-aggregate-slots-in : tie.Need-slice-aggregate-slots-in
-slice-aggregate-slots-in c = search needs
-
 slots-in-requires : tie.Need-slots-in-requires
 slots-in-requires c κs = lit< tt
 
@@ -19,9 +16,6 @@ returns c =
     let f1 = c .before .before in
     let st = f1 .before in
     rw (eq-eqb (st .args .message) 6 (f1 .if1 .taken)) (c .slots-in .ensures)
-
-slice-aggregate-slots-in-2 : tie.Need-slice-aggregate-slots-in-2
-slice-aggregate-slots-in-2 c = search needs
 
 slots-in-requires-2 : tie.Need-slots-in-requires-2
 slots-in-requires-2 c κs = lit< tt
@@ -45,10 +39,10 @@ pub slots-spec : {M : Type 1} → statement M
 slots-spec =
     tie.close
     (tie.spec
-    slice-aggregate-slots-in
+    (λ c. search needs)
     slots-in-requires
     returns
-    slice-aggregate-slots-in-2
+    (λ c. search needs)
     slots-in-requires-2
     returns-2
     returns-3)

@@ -7,18 +7,6 @@ use borrow.Author.Needs.{needs}
 use Rattle.ais_common.proofs.time.judged.Statement.{statement}
 use Rattle.ais_common.proofs.time.judged.Tie as tie
 
-of-requires : tie.Need-of-requires
-of-requires c κs = search needs
-
-judged-date-requires : tie.Need-judged-date-requires
-judged-date-requires c κs = search needs
-
-piece-requires : tie.Need-piece-requires
-piece-requires c κs = search needs
-
-group-value-requires : tie.Need-group-value-requires
-group-value-requires c κs = search needs
-
 returns : tie.Need-returns
 returns c =
     let p = c .before in
@@ -30,4 +18,4 @@ returns c =
 pub judged-spec : {M : Type 1} → statement M
 judged-spec =
     tie.close
-    (tie.spec of-requires judged-date-requires piece-requires group-value-requires returns)
+    (tie.spec (λ c κs. search needs) (λ c κs. search needs) (λ c κs. search needs) (λ c κs. search needs) returns)

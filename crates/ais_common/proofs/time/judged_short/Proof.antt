@@ -6,15 +6,6 @@ use borrow.Author.Needs.{needs}
 use Rattle.ais_common.proofs.time.judged_short.Statement.{statement}
 use Rattle.ais_common.proofs.time.judged_short.Tie as tie
 
-of-requires : tie.Need-of-requires
-of-requires c κs = search needs
-
-judged-date-requires : tie.Need-judged-date-requires
-judged-date-requires c κs = search needs
-
-group-value-requires : tie.Need-group-value-requires
-group-value-requires c κs = search needs
-
 returns : tie.Need-returns
 returns c =
     let d = c .before in
@@ -24,4 +15,4 @@ returns c =
 
 pub judged-short-spec : {M : Type 1} → statement M
 judged-short-spec =
-    tie.close (tie.spec of-requires judged-date-requires group-value-requires returns)
+    tie.close (tie.spec (λ c κs. search needs) (λ c κs. search needs) (λ c κs. search needs) returns)

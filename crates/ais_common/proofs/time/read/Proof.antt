@@ -8,12 +8,6 @@ use borrow.Author.Needs.{needs}
 use Rattle.ais_common.proofs.time.read.Statement.{statement}
 use Rattle.ais_common.proofs.time.read.Tie as tie
 
-get-requires : tie.Need-get-requires
-get-requires c κs = search needs
-
-judged-requires : tie.Need-judged-requires
-judged-requires c κs = search needs
-
 returns : tie.Need-returns
 unfolding pieced onward
 returns c =
@@ -24,4 +18,4 @@ returns c =
     (e, got-lt (a .s .now) (a .w .at) 20 (ap (λ r. r .v) e))
 
 pub read-spec : {M : Type 1} → statement M
-read-spec = tie.close (tie.spec get-requires judged-requires returns)
+read-spec = tie.close (tie.spec (λ c κs. search needs) (λ c κs. search needs) returns)

@@ -8,12 +8,6 @@ use borrow.Author.Needs.{needs}
 use Rattle.ais_common.proofs.time.read_short.Statement.{statement}
 use Rattle.ais_common.proofs.time.read_short.Tie as tie
 
-get-requires : tie.Need-get-requires
-get-requires c κs = search needs
-
-judged-short-requires : tie.Need-judged-short-requires
-judged-short-requires c κs = search needs
-
 returns : tie.Need-returns
 unfolding pieced onward
 returns c =
@@ -24,4 +18,4 @@ returns c =
     (e, got-lt (a .s .now) (a .w .at) 14 (ap (λ r. r .v) e))
 
 pub read-short-spec : {M : Type 1} → statement M
-read-short-spec = tie.close (tie.spec get-requires judged-short-requires returns)
+read-short-spec = tie.close (tie.spec (λ c κs. search needs) (λ c κs. search needs) returns)

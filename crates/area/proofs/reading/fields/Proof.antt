@@ -22,102 +22,12 @@ use Rattle.area.proofs.reading.fields.Tie as tie
 use Rattle.ais_common.proofs.time.ShortTime.of.Reads as ShortTime-of-reads
 use Rattle.ais_common.proofs.time.Time.of.Reads as Time-of-reads
 
-none-requires : tie.Need-none-requires
-none-requires c κs = search needs
-
-choose-requires : tie.Need-choose-requires
-choose-requires c κs = search needs
-
 returns : tie.Need-returns
 returns c =
     let test = c .before .before in
     let a = test .before .before .args in
     ap Refused (c .choose .ensures ∙ ap (λ x. cond x 1 (a .lead)) (c .before .none .ensures))
     ∙ sym (ap (λ o. answerOf (also recordOf o)) (other-size area 31 31 (a .lead) (a .s .now) (λ l u. test .if1 .taken (omega (arith, l, u)))))
-
-begin-requires : tie.Need-begin-requires
-begin-requires c κs = search needs
-
-code-requires : tie.Need-code-requires
-code-requires c κs = search needs
-
-num-requires : tie.Need-num-requires
-num-requires c κs = search needs
-
-cast-repeat : tie.Need-cast-repeat
-cast-repeat c = search needs
-
-num-requires-2 : tie.Need-num-requires-2
-num-requires-2 c κs = search needs
-
-cast-source : tie.Need-cast-source
-cast-source c = search needs
-
-num-requires-3 : tie.Need-num-requires-3
-num-requires-3 c κs = search needs
-
-cast-sequence : tie.Need-cast-sequence
-cast-sequence c = search needs
-
-num-requires-4 : tie.Need-num-requires-4
-num-requires-4 c κs = search needs
-
-cast-destination : tie.Need-cast-destination
-cast-destination c = search needs
-
-num-requires-5 : tie.Need-num-requires-5
-num-requires-5 c κs = search needs
-
-cast-resent : tie.Need-cast-resent
-cast-resent c = search needs
-
-fill-requires : tie.Need-fill-requires
-fill-requires c κs = search needs
-
-code-requires-2 : tie.Need-code-requires-2
-code-requires-2 c κs = search needs
-
-code-requires-3 : tie.Need-code-requires-3
-code-requires-3 c κs = search needs
-
-num-requires-6 : tie.Need-num-requires-6
-num-requires-6 c κs = search needs
-
-cast-kind : tie.Need-cast-kind
-cast-kind c = search needs
-
-number-requires : tie.Need-number-requires
-number-requires c κs = search needs
-
-read-requires : tie.Need-read-requires
-read-requires c κs = search needs
-
-read-requires-2 : tie.Need-read-requires-2
-read-requires-2 c κs = search needs
-
-of-requires : tie.Need-of-requires
-of-requires c κs = search needs
-
-read-short-requires : tie.Need-read-short-requires
-read-short-requires c κs = search needs
-
-of-requires-2 : tie.Need-of-requires-2
-of-requires-2 c κs = search needs
-
-num-requires-7 : tie.Need-num-requires-7
-num-requires-7 c κs = search needs
-
-cast-advice : tie.Need-cast-advice
-cast-advice c = search needs
-
-fill-requires-2 : tie.Need-fill-requires-2
-fill-requires-2 c κs = search needs
-
-end-requires : tie.Need-end-requires
-end-requires c κs = search needs
-
-told-requires : tie.Need-told-requires
-told-requires c κs = search needs
 
 returns-2 : tie.Need-returns-2
 unfolding area
@@ -193,35 +103,35 @@ pub fields-spec : {M : Type 1} → statement M
 fields-spec =
     tie.close
     (tie.spec
-    none-requires
-    choose-requires
+    (λ c κs. search needs)
+    (λ c κs. search needs)
     returns
-    begin-requires
-    code-requires
-    num-requires
-    cast-repeat
-    num-requires-2
-    cast-source
-    num-requires-3
-    cast-sequence
-    num-requires-4
-    cast-destination
-    num-requires-5
-    cast-resent
-    fill-requires
-    code-requires-2
-    code-requires-3
-    num-requires-6
-    cast-kind
-    number-requires
-    read-requires
-    read-requires-2
-    of-requires
-    read-short-requires
-    of-requires-2
-    num-requires-7
-    cast-advice
-    fill-requires-2
-    end-requires
-    told-requires
+    (λ c κs. search needs)
+    (λ c κs. search needs)
+    (λ c κs. search needs)
+    (λ c. search needs)
+    (λ c κs. search needs)
+    (λ c. search needs)
+    (λ c κs. search needs)
+    (λ c. search needs)
+    (λ c κs. search needs)
+    (λ c. search needs)
+    (λ c κs. search needs)
+    (λ c. search needs)
+    (λ c κs. search needs)
+    (λ c κs. search needs)
+    (λ c κs. search needs)
+    (λ c κs. search needs)
+    (λ c. search needs)
+    (λ c κs. search needs)
+    (λ c κs. search needs)
+    (λ c κs. search needs)
+    (λ c κs. search needs)
+    (λ c κs. search needs)
+    (λ c κs. search needs)
+    (λ c κs. search needs)
+    (λ c. search needs)
+    (λ c κs. search needs)
+    (λ c κs. search needs)
+    (λ c κs. search needs)
     returns-2)

@@ -7,18 +7,6 @@ use borrow.Author.Needs.{needs}
 use Rattle.area.proofs.reading.lead.Statement.{statement}
 use Rattle.area.proofs.reading.lead.Tie as tie
 
-get-requires : tie.Need-get-requires
-get-requires c κs = search needs
-
-get-requires-2 : tie.Need-get-requires-2
-get-requires-2 c κs = search needs
-
-get-requires-3 : tie.Need-get-requires-3
-get-requires-3 c κs = search needs
-
-lead-requires : tie.Need-lead-requires
-lead-requires c κs = search needs
-
 returns : tie.Need-returns
 unfolding areas
 returns c =
@@ -29,4 +17,4 @@ returns c =
     c .lead .ensures ∙ got-lead asked 72 92 2 s _ (message .get .ensures) (application .get2 .ensures) (choice .get3 .ensures) (lit≤ tt) (lit≤ tt) (lit≤ tt)
 
 pub lead-spec : {M : Type 1} → statement M
-lead-spec = tie.close (tie.spec get-requires get-requires-2 get-requires-3 lead-requires returns)
+lead-spec = tie.close (tie.spec (λ c κs. search needs) (λ c κs. search needs) (λ c κs. search needs) (λ c κs. search needs) returns)

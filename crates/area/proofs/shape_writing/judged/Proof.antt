@@ -3,18 +3,6 @@ use borrow.Author.Needs.{needs}
 use Rattle.area.proofs.shape_writing.judged.Statement.{statement}
 use Rattle.area.proofs.shape_writing.judged.Tie as tie
 
-enum-known-shape : tie.Need-enum-known-shape
-enum-known-shape c = search needs
-
-judged-circle-requires : tie.Need-judged-circle-requires
-judged-circle-requires c κs = search needs
-
-enum-known-shape-2 : tie.Need-enum-known-shape-2
-enum-known-shape-2 c = search needs
-
-judged-rectangle-requires : tie.Need-judged-rectangle-requires
-judged-rectangle-requires c κs = search needs
-
 returns : tie.Need-returns
 returns c = rw (c .before .before .shape .given .1) (c .judged-circle .ensures)
 
@@ -25,9 +13,9 @@ pub judged-spec : {M : Type 1} → statement M
 judged-spec =
     tie.close
     (tie.spec
-    enum-known-shape
-    judged-circle-requires
-    enum-known-shape-2
-    judged-rectangle-requires
+    (λ c. search needs)
+    (λ c κs. search needs)
+    (λ c. search needs)
+    (λ c κs. search needs)
     returns
     returns-2)

@@ -10,18 +10,6 @@ use borrow.Author.Needs.{needs}
 use Rattle.area.proofs.shape_writing.judged_circle.Statement.{statement}
 use Rattle.area.proofs.shape_writing.judged_circle.Tie as tie
 
-judged-point-requires : tie.Need-judged-point-requires
-judged-point-requires c κs = search needs
-
-cast-value : tie.Need-cast-value
-cast-value c = search needs
-
-value-requires : tie.Need-value-requires
-value-requires c κs = search needs
-
-fixed-requires : tie.Need-fixed-requires
-fixed-requires c κs = search needs
-
 returns : tie.Need-returns
 returns c =
     let n1 = c .before in
@@ -37,4 +25,4 @@ returns c =
 
 pub judged-circle-spec : {M : Type 1} → statement M
 judged-circle-spec =
-    tie.close (tie.spec judged-point-requires cast-value value-requires fixed-requires returns)
+    tie.close (tie.spec (λ c κs. search needs) (λ c. search needs) (λ c κs. search needs) (λ c κs. search needs) returns)

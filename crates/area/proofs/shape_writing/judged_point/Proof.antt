@@ -9,18 +9,6 @@ use borrow.Author.Needs.{needs}
 use Rattle.area.proofs.shape_writing.judged_point.Statement.{statement}
 use Rattle.area.proofs.shape_writing.judged_point.Tie as tie
 
-spelled-requires : tie.Need-spelled-requires
-spelled-requires c κs = search needs
-
-spelled-requires-2 : tie.Need-spelled-requires-2
-spelled-requires-2 c κs = search needs
-
-signed-value-requires : tie.Need-signed-value-requires
-signed-value-requires c κs = search needs
-
-signed-value-requires-2 : tie.Need-signed-value-requires-2
-signed-value-requires-2 c κs = search needs
-
 returns : tie.Need-returns
 returns c =
     let n1 = c .before in
@@ -37,8 +25,8 @@ pub judged-point-spec : {M : Type 1} → statement M
 judged-point-spec =
     tie.close
     (tie.spec
-    spelled-requires
-    spelled-requires-2
-    signed-value-requires
-    signed-value-requires-2
+    (λ c κs. search needs)
+    (λ c κs. search needs)
+    (λ c κs. search needs)
+    (λ c κs. search needs)
     returns)

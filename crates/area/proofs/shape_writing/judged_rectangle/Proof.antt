@@ -7,12 +7,6 @@ use borrow.Author.Needs.{needs}
 use Rattle.area.proofs.shape_writing.judged_rectangle.Statement.{statement}
 use Rattle.area.proofs.shape_writing.judged_rectangle.Tie as tie
 
-judged-point-requires : tie.Need-judged-point-requires
-judged-point-requires c κs = search needs
-
-judged-point-requires-2 : tie.Need-judged-point-requires-2
-judged-point-requires-2 c κs = search needs
-
 returns : tie.Need-returns
 returns c =
     let p = c .before in
@@ -28,4 +22,4 @@ returns c =
     c .judged-point2 .ensures ∙ (λ i. pointJudged (east2 i) (north2 i) (e0 i))
 
 pub judged-rectangle-spec : {M : Type 1} → statement M
-judged-rectangle-spec = tie.close (tie.spec judged-point-requires judged-point-requires-2 returns)
+judged-rectangle-spec = tie.close (tie.spec (λ c κs. search needs) (λ c κs. search needs) returns)

@@ -8,33 +8,6 @@ use borrow.Author.Needs.{needs}
 use Rattle.area.proofs.shape_writing.put_circle.Statement.{statement}
 use Rattle.area.proofs.shape_writing.put_circle.Tie as tie
 
-spelled-requires : tie.Need-spelled-requires
-spelled-requires c κs = search needs
-
-spelled-requires-2 : tie.Need-spelled-requires-2
-spelled-requires-2 c κs = search needs
-
-put-requires : tie.Need-put-requires
-put-requires c κs = search needs
-
-put-requires-2 : tie.Need-put-requires-2
-put-requires-2 c κs = search needs
-
-cast-put : tie.Need-cast-put
-cast-put c = search needs
-
-put-requires-3 : tie.Need-put-requires-3
-put-requires-3 c κs = search needs
-
-put-requires-4 : tie.Need-put-requires-4
-put-requires-4 c κs = search needs
-
-put-requires-5 : tie.Need-put-requires-5
-put-requires-5 c κs = search needs
-
-same-length : tie.Need-same-length
-same-length c = search needs
-
 returns : tie.Need-returns
 returns c =
     let p5 = c .before .before in
@@ -61,13 +34,13 @@ pub put-circle-spec : {M : Type 1} → statement M
 put-circle-spec =
     tie.close
     (tie.spec
-    spelled-requires
-    spelled-requires-2
-    put-requires
-    put-requires-2
-    cast-put
-    put-requires-3
-    put-requires-4
-    put-requires-5
-    same-length
+    (λ c κs. search needs)
+    (λ c κs. search needs)
+    (λ c κs. search needs)
+    (λ c κs. search needs)
+    (λ c. search needs)
+    (λ c κs. search needs)
+    (λ c κs. search needs)
+    (λ c κs. search needs)
+    (λ c. search needs)
     returns)

@@ -8,33 +8,6 @@ use borrow.Author.Needs.{needs}
 use Rattle.area.proofs.shape_writing.put_rectangle.Statement.{statement}
 use Rattle.area.proofs.shape_writing.put_rectangle.Tie as tie
 
-spelled-requires : tie.Need-spelled-requires
-spelled-requires c κs = search needs
-
-spelled-requires-2 : tie.Need-spelled-requires-2
-spelled-requires-2 c κs = search needs
-
-spelled-requires-3 : tie.Need-spelled-requires-3
-spelled-requires-3 c κs = search needs
-
-spelled-requires-4 : tie.Need-spelled-requires-4
-spelled-requires-4 c κs = search needs
-
-put-requires : tie.Need-put-requires
-put-requires c κs = search needs
-
-put-requires-2 : tie.Need-put-requires-2
-put-requires-2 c κs = search needs
-
-put-requires-3 : tie.Need-put-requires-3
-put-requires-3 c κs = search needs
-
-put-requires-4 : tie.Need-put-requires-4
-put-requires-4 c κs = search needs
-
-same-length : tie.Need-same-length
-same-length c = search needs
-
 returns : tie.Need-returns
 returns c =
     let p4 = c .before .before in
@@ -63,13 +36,13 @@ pub put-rectangle-spec : {M : Type 1} → statement M
 put-rectangle-spec =
     tie.close
     (tie.spec
-    spelled-requires
-    spelled-requires-2
-    spelled-requires-3
-    spelled-requires-4
-    put-requires
-    put-requires-2
-    put-requires-3
-    put-requires-4
-    same-length
+    (λ c κs. search needs)
+    (λ c κs. search needs)
+    (λ c κs. search needs)
+    (λ c κs. search needs)
+    (λ c κs. search needs)
+    (λ c κs. search needs)
+    (λ c κs. search needs)
+    (λ c κs. search needs)
+    (λ c. search needs)
     returns)

@@ -9,18 +9,6 @@ use Rattle.area.proofs.writing.write.Tie as tie
 use Rattle.ais_common.proofs.time.ShortTime.spelled.Reads as ShortTime-spelled-reads
 use Rattle.ais_common.proofs.time.Time.spelled.Reads as Time-spelled-reads
 
-spelled-requires : tie.Need-spelled-requires
-spelled-requires c κs = search needs
-
-spelled-requires-2 : tie.Need-spelled-requires-2
-spelled-requires-2 c κs = search needs
-
-judged-requires : tie.Need-judged-requires
-judged-requires c κs = search needs
-
-closes-requires : tie.Need-closes-requires
-closes-requires c κs = search needs
-
 returns : tie.Need-returns
 unfolding areas
 returns c =
@@ -32,12 +20,6 @@ returns c =
     let a = st .args in
     subst (Writes areas (a .buf .now) _ (a .buf .now)) (ap₂ (valuesAs (a .r)) (x .spelled .ensures) (y .spelled2 .ensures))
     (write-refused areas _ (a .buf .now) (j .judged .ensures) (closes .closes .ensures) (c .if1 .taken))
-
-put-requires : tie.Need-put-requires
-put-requires c κs = search needs
-
-same-length : tie.Need-same-length
-same-length c = search needs
 
 returns-2 : tie.Need-returns-2
 unfolding areas
@@ -57,11 +39,11 @@ pub write-spec : {M : Type 1} → statement M
 write-spec =
     tie.close
     (tie.spec
-    spelled-requires
-    spelled-requires-2
-    judged-requires
-    closes-requires
+    (λ c κs. search needs)
+    (λ c κs. search needs)
+    (λ c κs. search needs)
+    (λ c κs. search needs)
     returns
-    put-requires
-    same-length
+    (λ c κs. search needs)
+    (λ c. search needs)
     returns-2)

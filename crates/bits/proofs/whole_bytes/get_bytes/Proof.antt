@@ -10,17 +10,11 @@ use borrow.Author.Needs.{needs}
 use Rattle.bits.proofs.whole_bytes.get_bytes.Statement.{statement}
 use Rattle.bits.proofs.whole_bytes.get_bytes.Tie as tie
 
-spans-requires : tie.Need-spans-requires
-spans-requires c κs = search needs
-
 slide-requires : tie.Need-slide-requires
 slide-requires c κs =
     let p = c .before .before .before in
     let a = p .before .before .before .args in
     (leb-true (a .at + a .n * 8) (length (a .s .now) * 8) (sym (p .spans .ensures) ∙ c .before .before .if1 .taken), omega arith)
-
-same-length : tie.Need-same-length
-same-length c = search needs
 
 returns : tie.Need-returns
 returns c =
@@ -39,4 +33,4 @@ returns-3 c = (sym (rw (sym (c .before .spans .ensures) ∙ c .if1 .left)), refl
 
 pub get-bytes-spec : {M : Type 1} → statement M
 get-bytes-spec =
-    tie.close (tie.spec spans-requires slide-requires same-length returns returns-2 returns-3)
+    tie.close (tie.spec (λ c κs. search needs) slide-requires (λ c. search needs) returns returns-2 returns-3)

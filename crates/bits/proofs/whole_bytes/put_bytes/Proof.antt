@@ -9,17 +9,11 @@ use Rattle.bits.proofs.Pouring.{poured-none}
 use Rattle.bits.proofs.whole_bytes.put_bytes.Statement.{statement}
 use Rattle.bits.proofs.whole_bytes.put_bytes.Tie as tie
 
-spans-requires : tie.Need-spans-requires
-spans-requires c κs = search needs
-
 pour-requires : tie.Need-pour-requires
 pour-requires c κs =
     let p = c .before .before .before in
     let a = p .before .before .before .args in
     (omega arith, leb-true (a .at + length (a .t .now) * 8) (length (a .buf .now) * 8) (sym (p .spans .ensures) ∙ c .before .before .if1 .taken))
-
-same-length : tie.Need-same-length
-same-length c = search needs
 
 returns : tie.Need-returns
 returns c =
@@ -38,4 +32,4 @@ returns-3 c = (sym (c .if1 .left) ∙ c .before .spans .ensures, refl)
 
 pub put-bytes-spec : {M : Type 1} → statement M
 put-bytes-spec =
-    tie.close (tie.spec spans-requires pour-requires same-length returns returns-2 returns-3)
+    tie.close (tie.spec (λ c κs. search needs) pour-requires (λ c. search needs) returns returns-2 returns-3)

@@ -10,12 +10,6 @@ use borrow.Author.Needs.{needs}
 use Rattle.c_calls.proofs.area_calls.bellnewt_circle_write.Statement.{statement}
 use Rattle.c_calls.proofs.area_calls.bellnewt_circle_write.Tie as tie
 
-written-requires : tie.Need-written-requires
-written-requires c κs = search needs
-
-same-length : tie.Need-same-length
-same-length c = search needs
-
 returns : tie.Need-returns
 returns c =
     let call = c .before .before in
@@ -26,4 +20,4 @@ returns c =
     subst (λ (r : Area). Writes areas (a .buf .now) (call .written .result) (call .written .last .0) (valuesOf r)) (λ i. recordOf (a .repeat) (a .source) (a .sequence) (a .destination) (a .resent) (a .kind) (circleOf (longitude i) (latitude i) (a .radius)) (a .month) (a .day) (a .hour) (a .minute) (a .second-month) (a .second-day) (a .second-hour) (a .advice)) (call .written .ensures)
 
 pub bellnewt-circle-write-spec : {M : Type 1} → statement M
-bellnewt-circle-write-spec = tie.close (tie.spec written-requires same-length returns)
+bellnewt-circle-write-spec = tie.close (tie.spec (λ c κs. search needs) (λ c. search needs) returns)

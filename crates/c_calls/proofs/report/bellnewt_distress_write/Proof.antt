@@ -9,12 +9,6 @@ use borrow.Author.Needs.{needs}
 use Rattle.c_calls.proofs.report.bellnewt_distress_write.Statement.{statement}
 use Rattle.c_calls.proofs.report.bellnewt_distress_write.Tie as tie
 
-write-requires : tie.Need-write-requires
-write-requires c κs = search needs
-
-same-length : tie.Need-same-length
-same-length c = search needs
-
 returns : tie.Need-returns
 returns c =
     let call = c .before .before in
@@ -27,4 +21,4 @@ returns c =
 
 pub bellnewt-distress-write-spec : {M : Type 1} → statement M
 bellnewt-distress-write-spec =
-    tie.close (tie.spec write-requires same-length returns)
+    tie.close (tie.spec (λ c κs. search needs) (λ c. search needs) returns)

@@ -8,12 +8,6 @@ use borrow.Author.Needs.{needs}
 use Rattle.c_calls.proofs.sentences.bellnewt_sentence_write.Statement.{statement}
 use Rattle.c_calls.proofs.sentences.bellnewt_sentence_write.Tie as tie
 
-write-requires : tie.Need-write-requires
-write-requires c κs = search needs
-
-same-length : tie.Need-same-length
-same-length c = search needs
-
 returns : tie.Need-returns
 returns c =
     let call = c .before .before in
@@ -25,4 +19,4 @@ returns c =
     (call .write .ensures)
 
 pub bellnewt-sentence-write-spec : {M : Type 1} → statement M
-bellnewt-sentence-write-spec = tie.close (tie.spec write-requires same-length returns)
+bellnewt-sentence-write-spec = tie.close (tie.spec (λ c κs. search needs) (λ c. search needs) returns)

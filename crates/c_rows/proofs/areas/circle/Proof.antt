@@ -20,9 +20,6 @@ cast-t5 c =
     let st = told .before in
     widens {w = w32} {z = st .args .b .latitude} tt (record { sfits = told .struct-told .given .1 .0 .1 })
 
-cast-t6 : tie.Need-cast-t6
-cast-t6 c = search needs
-
 returns : tie.Need-returns
 returns c =
     let told = c .before .before in
@@ -34,4 +31,4 @@ returns c =
     λ i. record { longitude = longitude i; latitude = latitude i; third = radius i; fourth = pos 0 }
 
 pub circle-spec : {M : Type 1} → statement M
-circle-spec = tie.close (tie.spec cast-t4 cast-t5 cast-t6 returns)
+circle-spec = tie.close (tie.spec cast-t4 cast-t5 (λ c. search needs) returns)

@@ -5,18 +5,6 @@ use borrow.Author.Needs.{needs}
 use Rattle.c_rows.proofs.areas.of_shape.Statement.{statement}
 use Rattle.c_rows.proofs.areas.of_shape.Tie as tie
 
-enum-known-shape : tie.Need-enum-known-shape
-enum-known-shape c = search needs
-
-circle-requires : tie.Need-circle-requires
-circle-requires c κs = search needs
-
-enum-known-shape-2 : tie.Need-enum-known-shape-2
-enum-known-shape-2 c = search needs
-
-rectangle-requires : tie.Need-rectangle-requires
-rectangle-requires c κs = search needs
-
 returns : tie.Need-returns
 returns c =
     let m = c .before .before in
@@ -31,9 +19,9 @@ pub of-shape-spec : {M : Type 1} → statement M
 of-shape-spec =
     tie.close
     (tie.spec
-    enum-known-shape
-    circle-requires
-    enum-known-shape-2
-    rectangle-requires
+    (λ c. search needs)
+    (λ c κs. search needs)
+    (λ c. search needs)
+    (λ c κs. search needs)
     returns
     returns-2)

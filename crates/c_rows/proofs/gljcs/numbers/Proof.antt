@@ -12,12 +12,6 @@ use borrow.Author.Needs.{needs}
 use Rattle.c_rows.proofs.gljcs.numbers.Statement.{statement}
 use Rattle.c_rows.proofs.gljcs.numbers.Tie as tie
 
-cast-t2 : tie.Need-cast-t2
-cast-t2 c = search needs
-
-cast-t3 : tie.Need-cast-t3
-cast-t3 c = search needs
-
 returns : tie.Need-returns
 unfolding rowOf
 returns c =
@@ -26,4 +20,4 @@ returns c =
     λ i. low (r .address) (omega arith) i ∷ low (r .minutes) (omega arith) i ∷ []
 
 pub numbers-spec : {M : Type 1} → statement M
-numbers-spec = tie.close (tie.spec cast-t2 cast-t3 returns)
+numbers-spec = tie.close (tie.spec (λ c. search needs) (λ c. search needs) returns)

@@ -10,12 +10,6 @@ returns : tie.Need-returns
 returns c =
     rw (lt-leb (c .before .before .args .language) 1 (omega (arith, c .if1 .taken))) (refl, refl)
 
-correct-requires : tie.Need-correct-requires
-correct-requires c κs = search needs
-
-same-length : tie.Need-same-length
-same-length c = search needs
-
 returns-2 : tie.Need-returns-2
 returns-2 c =
     let correct = c .before .before in
@@ -23,4 +17,4 @@ returns-2 c =
     rw (le-leb (test .before .before .args .language) 1 (omega (arith, test .if1 .left))) (correct .correct .ensures)
 
 pub correct-spec : {M : Type 1} → statement M
-correct-spec = tie.close (tie.spec returns correct-requires same-length returns-2)
+correct-spec = tie.close (tie.spec returns (λ c κs. search needs) (λ c. search needs) returns-2)

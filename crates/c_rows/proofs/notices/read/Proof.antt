@@ -16,12 +16,6 @@ returns c =
     let a = c .before .before .before .before .args in
     lent-not (a .language) (a .s .now) (a .row .now) (a .areas .now) (a .text .now) (omega (arith, c .if1 .taken))
 
-refusal-requires : tie.Need-refusal-requires
-refusal-requires c κs = search needs
-
-unroomed-requires : tie.Need-unroomed-requires
-unroomed-requires c κs = search needs
-
 returns-2 : tie.Need-returns-2
 returns-2 c =
     let f = c .before in
@@ -31,12 +25,6 @@ returns-2 c =
     subst (λ d. NoticeFills (a .language) (a .s .now) (a .row .now) (a .areas .now) (a .text .now) d (a .row .now) (a .areas .now) (a .text .now)) (sym (c .unroomed .ensures ∙ ap unroomed (f .refusal .ensures)))
     (lent-short (a .language) (a .s .now) (a .row .now) (a .areas .now) (a .text .now) (omega (arith, test .if1 .left)) (omega (arith, short .if2 .taken)))
 
-read-requires : tie.Need-read-requires
-read-requires c κs = search needs
-
-enum-known-answer : tie.Need-enum-known-answer
-enum-known-answer c = search needs
-
 numbers-requires : tie.Need-numbers-requires
 numbers-requires c κs =
     let m = c .before in
@@ -45,24 +33,6 @@ numbers-requires c κs =
     let a = st .args in
     let (numbers, text) = good-rooms (eqb (a .language) 1) (a .s .now) (a .areas .now) (a .text .now) (sym (m .answer .given .1) ∙ read .read .ensures .0) in
     (omega (arith, numbers, st .good .1 .1 .1 .0 .1), omega (arith, text, st .good .1 .1 .1 .1 .0 .1))
-
-slice-aggregate-fill : tie.Need-slice-aggregate-fill
-slice-aggregate-fill c = search needs
-
-fill-requires : tie.Need-fill-requires
-fill-requires c κs = search needs
-
-enum-known-answer-2 : tie.Need-enum-known-answer-2
-enum-known-answer-2 c = search needs
-
-same-length : tie.Need-same-length
-same-length c = search needs
-
-same-length-2 : tie.Need-same-length-2
-same-length-2 c = search needs
-
-same-length-3 : tie.Need-same-length-3
-same-length-3 c = search needs
 
 returns-3 : tie.Need-returns-3
 returns-3 c =
@@ -76,12 +46,6 @@ returns-3 c =
     let known = subst (λ x. Reads (eqb (a .language) 1) (a .s .now) (a .areas .now) (a .text .now) x (read .read .last .1 .1 .0) (read .read .last .1 .1 .1 .0)) (m .answer .given .1) (read .read .ensures) in
     let stored = subst (λ xs. Fills (accepted xs) (a .row .now) (fill .fill .result) (fill .fill .last .0)) (numbers .numbers .ensures) (fill .fill .ensures) in
     lent-good (a .language) (a .s .now) (a .row .now) (a .areas .now) (a .text .now) (omega (arith, test .if1 .left)) (omega (arith, wide .if2 .left)) known stored
-
-same-length-4 : tie.Need-same-length-4
-same-length-4 c = search needs
-
-same-length-5 : tie.Need-same-length-5
-same-length-5 c = search needs
 
 returns-4 : tie.Need-returns-4
 returns-4 c =
@@ -98,19 +62,19 @@ read-spec =
     tie.close
     (tie.spec
     returns
-    refusal-requires
-    unroomed-requires
+    (λ c κs. search needs)
+    (λ c κs. search needs)
     returns-2
-    read-requires
-    enum-known-answer
+    (λ c κs. search needs)
+    (λ c. search needs)
     numbers-requires
-    slice-aggregate-fill
-    fill-requires
-    enum-known-answer-2
-    same-length
-    same-length-2
-    same-length-3
+    (λ c. search needs)
+    (λ c κs. search needs)
+    (λ c. search needs)
+    (λ c. search needs)
+    (λ c. search needs)
+    (λ c. search needs)
     returns-3
-    same-length-4
-    same-length-5
+    (λ c. search needs)
+    (λ c. search needs)
     returns-4)

@@ -21,12 +21,6 @@ returns c =
     let a = c .before .before .before .before .args in
     rw (lt-leb (a .language) 1 (omega (arith, c .if1 .taken))) (untouched (enough (a .r) (a .areas .now)) (a .buf .now))
 
-write-requires : tie.Need-write-requires
-write-requires c κs = search needs
-
-same-length : tie.Need-same-length
-same-length c = search needs
-
 returns-2 : tie.Need-returns-2
 returns-2 c =
     let write = c .before .before in
@@ -35,4 +29,4 @@ returns-2 c =
     rw (le-leb (a .language) 1 (omega (arith, test .if1 .left))) (write .write .ensures)
 
 pub write-spec : {M : Type 1} → statement M
-write-spec = tie.close (tie.spec returns write-requires same-length returns-2)
+write-spec = tie.close (tie.spec returns (λ c κs. search needs) (λ c. search needs) returns-2)

@@ -13,18 +13,6 @@ use Rattle.c_rows.proofs.outlines.outline.Tie as tie
 returns : tie.Need-returns
 returns c = rw (lt-leb (c .before .before .args .language) 1 (c .if1 .taken)) (refl, refl, refl)
 
-outline-requires : tie.Need-outline-requires
-outline-requires c κs = search needs
-
-enum-known-answer : tie.Need-enum-known-answer
-enum-known-answer c = search needs
-
-enum-known-answer-2 : tie.Need-enum-known-answer-2
-enum-known-answer-2 c = search needs
-
-same-length : tie.Need-same-length
-same-length c = search needs
-
 returns-2 : tie.Need-returns-2
 returns-2 c =
     let w = c .before in
@@ -34,9 +22,6 @@ returns-2 c =
     let e = d .outline .ensures in
     let (code, points) = accepts (a .points .now) (good-read Good Refused outOf (λ q. refl) (λ c. refl) (counted (eqb (a .language) 1) (a .s .now) (a .row .now)) (sym (w .answer .given .1) ∙ e .0)) in
     rw (le-leb (a .language) 1 (i .if1 .left)) (code, e .1, points)
-
-same-length-2 : tie.Need-same-length-2
-same-length-2 c = search needs
 
 returns-3 : tie.Need-returns-3
 returns-3 c =
@@ -53,10 +38,10 @@ outline-spec =
     tie.close
     (tie.spec
     returns
-    outline-requires
-    enum-known-answer
-    enum-known-answer-2
-    same-length
+    (λ c κs. search needs)
+    (λ c. search needs)
+    (λ c. search needs)
+    (λ c. search needs)
     returns-2
-    same-length-2
+    (λ c. search needs)
     returns-3)

@@ -12,24 +12,6 @@ use borrow.Author.Needs.{needs}
 use Rattle.c_rows.proofs.packets.numbers.Statement.{statement}
 use Rattle.c_rows.proofs.packets.numbers.Tie as tie
 
-cast-t3 : tie.Need-cast-t3
-cast-t3 c = search needs
-
-cast-t4 : tie.Need-cast-t4
-cast-t4 c = search needs
-
-cast-t5 : tie.Need-cast-t5
-cast-t5 c = search needs
-
-cast-t6 : tie.Need-cast-t6
-cast-t6 c = search needs
-
-cast-t7 : tie.Need-cast-t7
-cast-t7 c = search needs
-
-cast-t8 : tie.Need-cast-t8
-cast-t8 c = search needs
-
 returns : tie.Need-returns
 unfolding rowOf
 returns c =
@@ -39,4 +21,4 @@ returns c =
     λ i. low (r .language) (omega arith) i ∷ low (r .number) (omega arith) i ∷ low (r .total) (omega arith) i ∷ low (r .own) (omega arith) i ∷ pos 4 ∷ low (a .bytes) (omega arith) i ∷ []
 
 pub numbers-spec : {M : Type 1} → statement M
-numbers-spec = tie.close (tie.spec cast-t3 cast-t4 cast-t5 cast-t6 cast-t7 cast-t8 returns)
+numbers-spec = tie.close (tie.spec (λ c. search needs) (λ c. search needs) (λ c. search needs) (λ c. search needs) (λ c. search needs) (λ c. search needs) returns)

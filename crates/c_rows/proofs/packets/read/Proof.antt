@@ -8,12 +8,6 @@ use borrow.Author.Needs.{needs}
 use Rattle.c_rows.proofs.packets.read.Statement.{statement}
 use Rattle.c_rows.proofs.packets.read.Tie as tie
 
-read-requires : tie.Need-read-requires
-read-requires c κs = search needs
-
-enum-known-answer : tie.Need-enum-known-answer
-enum-known-answer c = search needs
-
 sub-numbers : tie.Need-sub-numbers
 sub-numbers c =
     let m = c .before in
@@ -29,18 +23,6 @@ numbers-requires c κs =
     let i = read .before .before in
     let (least, most) = good-size (i .args .s .now) (m .answer .given .0 .0) (sym (m .answer .given .1) ∙ read .read .ensures) in
     omega (arith, most)
-
-slice-aggregate-fill : tie.Need-slice-aggregate-fill
-slice-aggregate-fill c = search needs
-
-fill-requires : tie.Need-fill-requires
-fill-requires c κs = search needs
-
-enum-known-answer-2 : tie.Need-enum-known-answer-2
-enum-known-answer-2 c = search needs
-
-same-length : tie.Need-same-length
-same-length c = search needs
 
 returns : tie.Need-returns
 returns c =
@@ -65,13 +47,13 @@ pub read-spec : {M : Type 1} → statement M
 read-spec =
     tie.close
     (tie.spec
-    read-requires
-    enum-known-answer
+    (λ c κs. search needs)
+    (λ c. search needs)
     sub-numbers
     numbers-requires
-    slice-aggregate-fill
-    fill-requires
-    enum-known-answer-2
-    same-length
+    (λ c. search needs)
+    (λ c κs. search needs)
+    (λ c. search needs)
+    (λ c. search needs)
     returns
     returns-2)

@@ -16,12 +16,6 @@ returns c =
     let m : splittingIn (a .buf .now) (a .content .now) (a .language) (a .number) (a .packet) ≡ refused 4 0 = rw (lt-leb (a .language) 1 (c .if1 .taken)) refl in
     refuses m
 
-split-requires : tie.Need-split-requires
-split-requires c κs = search needs
-
-same-length : tie.Need-same-length
-same-length c = search needs
-
 returns-2 : tie.Need-returns-2
 returns-2 c =
     let split = c .before .before in
@@ -31,4 +25,4 @@ returns-2 c =
     rw (le-leb (a .language) 1 (omega (arith, test .if1 .left))) (split .split .ensures)
 
 pub split-spec : {M : Type 1} → statement M
-split-spec = tie.close (tie.spec returns split-requires same-length returns-2)
+split-spec = tie.close (tie.spec returns (λ c κs. search needs) (λ c. search needs) returns-2)

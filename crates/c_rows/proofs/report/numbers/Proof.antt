@@ -13,35 +13,11 @@ use borrow.Author.Needs.{needs}
 use Rattle.c_rows.proofs.report.numbers.Statement.{statement}
 use Rattle.c_rows.proofs.report.numbers.Tie as tie
 
-cast-t5 : tie.Need-cast-t5
-cast-t5 c = search needs
-
-cast-t6 : tie.Need-cast-t6
-cast-t6 c = search needs
-
 cast-t7 : tie.Need-cast-t7
 cast-t7 c = widens {w = w32} {z = c .before .before .before .args .r .longitude} tt (record { sfits = c .before .before .struct-told .given .1 .0 .1 })
 
 cast-t8 : tie.Need-cast-t8
 cast-t8 c = widens {w = w32} {z = c .before .before .before .args .r .latitude} tt (record { sfits = c .before .before .struct-told .given .1 .1 .0 .1 })
-
-cast-t9 : tie.Need-cast-t9
-cast-t9 c = search needs
-
-cast-t10 : tie.Need-cast-t10
-cast-t10 c = search needs
-
-cast-t11 : tie.Need-cast-t11
-cast-t11 c = search needs
-
-cast-t12 : tie.Need-cast-t12
-cast-t12 c = search needs
-
-cast-t13 : tie.Need-cast-t13
-cast-t13 c = search needs
-
-cast-t14 : tie.Need-cast-t14
-cast-t14 c = search needs
 
 returns : tie.Need-returns
 unfolding rowOf
@@ -66,14 +42,14 @@ pub numbers-spec : {M : Type 1} → statement M
 numbers-spec =
     tie.close
     (tie.spec
-    cast-t5
-    cast-t6
+    (λ c. search needs)
+    (λ c. search needs)
     cast-t7
     cast-t8
-    cast-t9
-    cast-t10
-    cast-t11
-    cast-t12
-    cast-t13
-    cast-t14
+    (λ c. search needs)
+    (λ c. search needs)
+    (λ c. search needs)
+    (λ c. search needs)
+    (λ c. search needs)
+    (λ c. search needs)
     returns)

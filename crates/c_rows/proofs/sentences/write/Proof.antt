@@ -5,27 +5,12 @@ use borrow.Author.Needs.{needs}
 use Rattle.c_rows.proofs.sentences.write.Statement.{statement}
 use Rattle.c_rows.proofs.sentences.write.Tie as tie
 
-write-requires : tie.Need-write-requires
-write-requires c κs = search needs
-
-enum-known-sent : tie.Need-enum-known-sent
-enum-known-sent c = search needs
-
-enum-known-sent-2 : tie.Need-enum-known-sent-2
-enum-known-sent-2 c = search needs
-
-same-length : tie.Need-same-length
-same-length c = search needs
-
 returns : tie.Need-returns
 returns c =
     let m = c .before in
     let call = m .before .before .before .before in
     let a = call .before .before .before .args in
     sent-bytes (a .buf .now) (a .size .now) (a .address) refl (call .write .ensures) _ (m .sent .given .1)
-
-same-length-2 : tie.Need-same-length-2
-same-length-2 c = search needs
 
 returns-2 : tie.Need-returns-2
 returns-2 c =
@@ -38,10 +23,10 @@ pub write-spec : {M : Type 1} → statement M
 write-spec =
     tie.close
     (tie.spec
-    write-requires
-    enum-known-sent
-    enum-known-sent-2
-    same-length
+    (λ c κs. search needs)
+    (λ c. search needs)
+    (λ c. search needs)
+    (λ c. search needs)
     returns
-    same-length-2
+    (λ c. search needs)
     returns-2)

@@ -8,15 +8,6 @@ use borrow.Author.Needs.{needs}
 use Rattle.c_rows.proofs.slots.slots.Statement.{statement}
 use Rattle.c_rows.proofs.slots.slots.Tie as tie
 
-slots-requires : tie.Need-slots-requires
-slots-requires c κs = search needs
-
-enum-known-needed : tie.Need-enum-known-needed
-enum-known-needed c = search needs
-
-enum-known-needed-2 : tie.Need-enum-known-needed-2
-enum-known-needed-2 c = search needs
-
 returns : tie.Need-returns
 returns c =
     let m = c .before in
@@ -35,4 +26,4 @@ returns-2 c =
 
 pub slots-spec : {M : Type 1} → statement M
 slots-spec =
-    tie.close (tie.spec slots-requires enum-known-needed enum-known-needed-2 returns returns-2)
+    tie.close (tie.spec (λ c κs. search needs) (λ c. search needs) (λ c. search needs) returns returns-2)

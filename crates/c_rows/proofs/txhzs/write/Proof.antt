@@ -12,27 +12,6 @@ use Rattle.c_rows.proofs.txhzs.write.Tie as tie
 returns : tie.Need-returns
 returns c = let b = c .before .before .before .args .receipts .now in rw (ne-eqb (length b) 20 (c .if1 .taken)) (refl, refl)
 
-receipt-requires : tie.Need-receipt-requires
-receipt-requires c κs = search needs
-
-receipt-requires-2 : tie.Need-receipt-requires-2
-receipt-requires-2 c κs = search needs
-
-receipt-requires-3 : tie.Need-receipt-requires-3
-receipt-requires-3 c κs = search needs
-
-receipt-requires-4 : tie.Need-receipt-requires-4
-receipt-requires-4 c κs = search needs
-
-receipt-requires-5 : tie.Need-receipt-requires-5
-receipt-requires-5 c κs = search needs
-
-write-requires : tie.Need-write-requires
-write-requires c κs = search needs
-
-same-length : tie.Need-same-length
-same-length c = search needs
-
 returns-2 : tie.Need-returns-2
 returns-2 c =
     let call = c .before .before in
@@ -54,11 +33,11 @@ write-spec =
     tie.close
     (tie.spec
     returns
-    receipt-requires
-    receipt-requires-2
-    receipt-requires-3
-    receipt-requires-4
-    receipt-requires-5
-    write-requires
-    same-length
+    (λ c κs. search needs)
+    (λ c κs. search needs)
+    (λ c κs. search needs)
+    (λ c κs. search needs)
+    (λ c κs. search needs)
+    (λ c κs. search needs)
+    (λ c. search needs)
     returns-2)

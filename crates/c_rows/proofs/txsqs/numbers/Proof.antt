@@ -14,36 +14,6 @@ use borrow.Author.Needs.{needs}
 use Rattle.c_rows.proofs.txsqs.numbers.Statement.{statement}
 use Rattle.c_rows.proofs.txsqs.numbers.Tie as tie
 
-cast-t2 : tie.Need-cast-t2
-cast-t2 c = search needs
-
-cast-t3 : tie.Need-cast-t3
-cast-t3 c = search needs
-
-cast-t4 : tie.Need-cast-t4
-cast-t4 c = search needs
-
-cast-t5 : tie.Need-cast-t5
-cast-t5 c = search needs
-
-cast-t6 : tie.Need-cast-t6
-cast-t6 c = search needs
-
-cast-t7 : tie.Need-cast-t7
-cast-t7 c = search needs
-
-cast-t8 : tie.Need-cast-t8
-cast-t8 c = search needs
-
-cast-t9 : tie.Need-cast-t9
-cast-t9 c = search needs
-
-whole-bytes-requires : tie.Need-whole-bytes-requires
-whole-bytes-requires c κs = search needs
-
-cast-t11 : tie.Need-cast-t11
-cast-t11 c = search needs
-
 returns : tie.Need-returns
 unfolding rowOf
 returns c =
@@ -56,14 +26,14 @@ pub numbers-spec : {M : Type 1} → statement M
 numbers-spec =
     tie.close
     (tie.spec
-    cast-t2
-    cast-t3
-    cast-t4
-    cast-t5
-    cast-t6
-    cast-t7
-    cast-t8
-    cast-t9
-    whole-bytes-requires
-    cast-t11
+    (λ c. search needs)
+    (λ c. search needs)
+    (λ c. search needs)
+    (λ c. search needs)
+    (λ c. search needs)
+    (λ c. search needs)
+    (λ c. search needs)
+    (λ c. search needs)
+    (λ c κs. search needs)
+    (λ c. search needs)
     returns)

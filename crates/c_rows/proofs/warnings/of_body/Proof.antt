@@ -5,63 +5,6 @@ use borrow.Author.Needs.{needs}
 use Rattle.c_rows.proofs.warnings.of_body.Statement.{statement}
 use Rattle.c_rows.proofs.warnings.of_body.Tie as tie
 
-enum-known-body : tie.Need-enum-known-body
-enum-known-body c = search needs
-
-cast-t8 : tie.Need-cast-t8
-cast-t8 c = search needs
-
-cast-t9 : tie.Need-cast-t9
-cast-t9 c = search needs
-
-cast-t10 : tie.Need-cast-t10
-cast-t10 c = search needs
-
-enum-known-body-2 : tie.Need-enum-known-body-2
-enum-known-body-2 c = search needs
-
-cast-four : tie.Need-cast-four
-cast-four c = search needs
-
-cast-four-2 : tie.Need-cast-four-2
-cast-four-2 c = search needs
-
-cast-four-3 : tie.Need-cast-four-3
-cast-four-3 c = search needs
-
-cast-four-4 : tie.Need-cast-four-4
-cast-four-4 c = search needs
-
-four-requires : tie.Need-four-requires
-four-requires c κs = search needs
-
-enum-known-body-3 : tie.Need-enum-known-body-3
-enum-known-body-3 c = search needs
-
-cast-four-5 : tie.Need-cast-four-5
-cast-four-5 c = search needs
-
-cast-four-6 : tie.Need-cast-four-6
-cast-four-6 c = search needs
-
-four-requires-2 : tie.Need-four-requires-2
-four-requires-2 c κs = search needs
-
-enum-known-body-4 : tie.Need-enum-known-body-4
-enum-known-body-4 c = search needs
-
-cast-four-7 : tie.Need-cast-four-7
-cast-four-7 c = search needs
-
-four-requires-3 : tie.Need-four-requires-3
-four-requires-3 c κs = search needs
-
-enum-known-body-5 : tie.Need-enum-known-body-5
-enum-known-body-5 c = search needs
-
-four-requires-4 : tie.Need-four-requires-4
-four-requires-4 c κs = search needs
-
 returns : tie.Need-returns
 returns c =
     let m = c .before .before .before .before in
@@ -91,25 +34,25 @@ pub of-body-spec : {M : Type 1} → statement M
 of-body-spec =
     tie.close
     (tie.spec
-    enum-known-body
-    cast-t8
-    cast-t9
-    cast-t10
-    enum-known-body-2
-    cast-four
-    cast-four-2
-    cast-four-3
-    cast-four-4
-    four-requires
-    enum-known-body-3
-    cast-four-5
-    cast-four-6
-    four-requires-2
-    enum-known-body-4
-    cast-four-7
-    four-requires-3
-    enum-known-body-5
-    four-requires-4
+    (λ c. search needs)
+    (λ c. search needs)
+    (λ c. search needs)
+    (λ c. search needs)
+    (λ c. search needs)
+    (λ c. search needs)
+    (λ c. search needs)
+    (λ c. search needs)
+    (λ c. search needs)
+    (λ c κs. search needs)
+    (λ c. search needs)
+    (λ c. search needs)
+    (λ c. search needs)
+    (λ c κs. search needs)
+    (λ c. search needs)
+    (λ c. search needs)
+    (λ c κs. search needs)
+    (λ c. search needs)
+    (λ c κs. search needs)
     returns
     returns-2
     returns-3

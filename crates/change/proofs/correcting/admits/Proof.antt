@@ -14,9 +14,6 @@ returns c = rw (ne-eqb _ 0 (c .if1 .taken))
 returns-2 : tie.Need-returns-2
 returns-2 c = rw (eq-eqb _ 0 (c .before .if1 .left), eq-eqb _ 0 (c .if2 .taken))
 
-shr-if4 : tie.Need-shr-if4
-shr-if4 c = search needs
-
 returns-3 : tie.Need-returns-3
 returns-3 c =
     let a = c .before .before .before .before .args in
@@ -34,4 +31,4 @@ returns-5 c =
     rw (eq-eqb _ 0 (c .before .before .if1 .left), ne-eqb _ 0 (c .before .if2 .left), lt-ltb (a .v) (2 ^ a .width) l)
 
 pub admits-spec : {M : Type 1} → statement M
-admits-spec = tie.close (tie.spec returns returns-2 shr-if4 returns-3 returns-4 returns-5)
+admits-spec = tie.close (tie.spec returns returns-2 (λ c. search needs) returns-3 returns-4 returns-5)

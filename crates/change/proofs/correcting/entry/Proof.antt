@@ -5,17 +5,8 @@ use borrow.Author.Needs.{needs}
 use Rattle.change.proofs.correcting.entry.Statement.{statement}
 use Rattle.change.proofs.correcting.entry.Tie as tie
 
-mul-result : tie.Need-mul-result
-mul-result c = search needs
-
-shared-slice-read-result : tie.Need-shared-slice-read-result
-shared-slice-read-result c = search needs
-
-returns : tie.Need-returns
-returns c = search needs
-
 returns-2 : tie.Need-returns-2
 returns-2 c = let a = c .before .args in sym (List·getD-eq-default (a .table .now) 0 {n = a .i} (c .if1 .left))
 
 pub entry-spec : {M : Type 1} → statement M
-entry-spec = tie.close (tie.spec mul-result shared-slice-read-result returns returns-2)
+entry-spec = tie.close (tie.spec (λ c. search needs) (λ c. search needs) (λ c. search needs) returns-2)

@@ -5,18 +5,6 @@ use borrow.Author.Needs.{needs}
 use Rattle.change.proofs.correcting.look_up_of.Statement.{statement}
 use Rattle.change.proofs.correcting.look_up_of.Tie as tie
 
-entry-requires : tie.Need-entry-requires
-entry-requires c κs = search needs
-
-entry-requires-2 : tie.Need-entry-requires-2
-entry-requires-2 c κs = search needs
-
-entry-requires-3 : tie.Need-entry-requires-3
-entry-requires-3 c κs = search needs
-
-held-requires : tie.Need-held-requires
-held-requires c κs = search needs
-
 returns : tie.Need-returns
 returns c =
     let of = c .before in
@@ -28,4 +16,4 @@ returns c =
 
 pub look-up-of-spec : {M : Type 1} → statement M
 look-up-of-spec =
-    tie.close (tie.spec entry-requires entry-requires-2 entry-requires-3 held-requires returns)
+    tie.close (tie.spec (λ c κs. search needs) (λ c κs. search needs) (λ c κs. search needs) (λ c κs. search needs) returns)

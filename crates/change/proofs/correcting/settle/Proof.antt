@@ -6,12 +6,6 @@ use borrow.Author.Needs.{needs}
 use Rattle.change.proofs.correcting.settle.Statement.{statement}
 use Rattle.change.proofs.correcting.settle.Tie as tie
 
-put-requires : tie.Need-put-requires
-put-requires c κs = search needs
-
-same-length : tie.Need-same-length
-same-length c = search needs
-
 returns : tie.Need-returns
 returns c =
     let p = c .before .before in
@@ -22,4 +16,4 @@ returns-2 : tie.Need-returns-2
 returns-2 c = (sym (c .if1 .left), rw (eq-eqb (c .before .before .args .code) 0 (c .if1 .left)))
 
 pub settle-spec : {M : Type 1} → statement M
-settle-spec = tie.close (tie.spec put-requires same-length returns returns-2)
+settle-spec = tie.close (tie.spec (λ c κs. search needs) (λ c. search needs) returns returns-2)

@@ -4,15 +4,6 @@ use borrow.Author.Needs.{needs}
 use Rattle.change.proofs.correcting.swap.Statement.{statement}
 use Rattle.change.proofs.correcting.swap.Tie as tie
 
-get-requires : tie.Need-get-requires
-get-requires c κs = search needs
-
-put-requires : tie.Need-put-requires
-put-requires c κs = search needs
-
-same-length : tie.Need-same-length
-same-length c = search needs
-
 returns : tie.Need-returns
 returns c =
     let p = c .before .before in
@@ -20,4 +11,4 @@ returns c =
     (p .before .before .get .ensures, put-in (a .buf .now) (a .at) (a .width) (a .v) (p .put .ensures))
 
 pub swap-spec : {M : Type 1} → statement M
-swap-spec = tie.close (tie.spec get-requires put-requires same-length returns)
+swap-spec = tie.close (tie.spec (λ c κs. search needs) (λ c κs. search needs) (λ c. search needs) returns)

@@ -8,9 +8,6 @@ use borrow.Author.Needs.{needs}
 use Rattle.change.proofs.sealing.inner.Statement.{statement}
 use Rattle.change.proofs.sealing.inner.Tie as tie
 
-less-requires : tie.Need-less-requires
-less-requires c κs = search needs
-
 slice-aggregate-result : tie.Need-slice-aggregate-result
 slice-aggregate-result c = let s = c .before .before .before .args .s .now in sym (length-take-le (c .before .less .result) s (omega arith))
 
@@ -18,4 +15,4 @@ returns : tie.Need-returns
 returns c = let s = c .before .before .before .args .s .now in ap (λ n. take n s) (c .before .less .ensures)
 
 pub inner-spec : {M : Type 1} → statement M
-inner-spec = tie.close (tie.spec less-requires slice-aggregate-result returns)
+inner-spec = tie.close (tie.spec (λ c κs. search needs) slice-aggregate-result returns)

@@ -6,15 +6,6 @@ use borrow.Author.Needs.{needs}
 use Rattle.change.proofs.sealing.seal.Statement.{statement}
 use Rattle.change.proofs.sealing.seal.Tie as tie
 
-less-requires : tie.Need-less-requires
-less-requires c κs = search needs
-
-stamp-requires : tie.Need-stamp-requires
-stamp-requires c κs = search needs
-
-same-length : tie.Need-same-length
-same-length c = search needs
-
 returns : tie.Need-returns
 returns c =
     let p = c .before .before in
@@ -23,4 +14,4 @@ returns c =
     p .stamp .ensures ∙ ap (λ n. stamped n (a .buf .now)) (n .less .ensures) ∙ stamp-last (a .buf .now)
 
 pub seal-spec : {M : Type 1} → statement M
-seal-spec = tie.close (tie.spec less-requires stamp-requires same-length returns)
+seal-spec = tie.close (tie.spec (λ c κs. search needs) (λ c κs. search needs) (λ c. search needs) returns)

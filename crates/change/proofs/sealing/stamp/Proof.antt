@@ -7,20 +7,8 @@ use borrow.Author.Needs.{needs}
 use Rattle.change.proofs.sealing.stamp.Statement.{statement}
 use Rattle.change.proofs.sealing.stamp.Tie as tie
 
-slice-reshare-prefix-xor : tie.Need-slice-reshare-prefix-xor
-slice-reshare-prefix-xor c = search needs
-
 slice-aggregate-xor : tie.Need-slice-aggregate-xor
 slice-aggregate-xor c = let a = c .before .before .before .args in sym (length-take-le (a .n) (a .buf .now) (omega arith))
-
-xor-requires : tie.Need-xor-requires
-xor-requires c κs = search needs
-
-slice-write-buf : tie.Need-slice-write-buf
-slice-write-buf c = search needs
-
-same-length : tie.Need-same-length
-same-length c = search needs
 
 returns : tie.Need-returns
 returns c =
@@ -34,10 +22,10 @@ pub stamp-spec : {M : Type 1} → statement M
 stamp-spec =
     tie.close
     (tie.spec
-    slice-reshare-prefix-xor
+    (λ c. search needs)
     slice-aggregate-xor
-    xor-requires
-    slice-write-buf
-    same-length
+    (λ c κs. search needs)
+    (λ c. search needs)
+    (λ c. search needs)
     returns
     returns-2)

@@ -18,17 +18,8 @@ returns c = let a = c .before .before .args in first-past (sealFault true (a .s 
 returns-2 : tie.Need-returns-2
 returns-2 c = let a = c .before .before .before .args in stamp-none (a .s .now) (a .code) (c .before .if1 .left) (c .if2 .taken)
 
-sub-n : tie.Need-sub-n
-sub-n c = search needs
-
 slice-aggregate-xor : tie.Need-slice-aggregate-xor
 slice-aggregate-xor c = let s = c .before .before .before .before .args .s .now in sym (length-take-le (length s - 1) s (omega arith))
-
-xor-requires : tie.Need-xor-requires
-xor-requires c κs = search needs
-
-shared-slice-read-if3 : tie.Need-shared-slice-read-if3
-shared-slice-read-if3 c = search needs
 
 returns-3 : tie.Need-returns-3
 returns-3 c =
@@ -50,9 +41,9 @@ tested-spec =
     (tie.spec
     returns
     returns-2
-    sub-n
+    (λ c. search needs)
     slice-aggregate-xor
-    xor-requires
-    shared-slice-read-if3
+    (λ c κs. search needs)
+    (λ c. search needs)
     returns-3
     returns-4)

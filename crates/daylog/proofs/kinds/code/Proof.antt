@@ -6,18 +6,6 @@ use borrow.Author.Needs.{needs}
 use Rattle.daylog.proofs.kinds.code.Statement.{statement}
 use Rattle.daylog.proofs.kinds.code.Tie as tie
 
-code-requires : tie.Need-code-requires
-code-requires c κs = search needs
-
-packet-requires : tie.Need-packet-requires
-packet-requires c κs = search needs
-
-report-requires : tie.Need-report-requires
-report-requires c κs = search needs
-
-code-requires-2 : tie.Need-code-requires-2
-code-requires-2 c κs = search needs
-
 returns : tie.Need-returns
 unfolding codeOf
 returns c = rw (c .before .match .keys1) (c .code .ensures)
@@ -41,4 +29,4 @@ returns-5 c = rw (ne-eqb _ 1 (c .match .rest .0 .0 .0 .1), ne-eqb _ 2 (c .match 
 pub code-spec : {M : Type 1} → statement M
 code-spec =
     tie.close
-    (tie.spec code-requires packet-requires report-requires code-requires-2 returns returns-2 returns-3 returns-4 returns-5)
+    (tie.spec (λ c κs. search needs) (λ c κs. search needs) (λ c κs. search needs) (λ c κs. search needs) returns returns-2 returns-3 returns-4 returns-5)

@@ -49,42 +49,6 @@ module _ (n k : ℕ) (body w : List ℕ) (code : ℕ) (small : n < 2 ^ 64) (shor
     omega (arith, s .ends, placed-most (length w + 47) out at (line n w code (length body)), line-most n w code (length body) small byte few),
   )
 
-code-requires : tie.Need-code-requires
-code-requires c κs = search needs
-
-slice-aggregate-line : tie.Need-slice-aggregate-line
-slice-aggregate-line c = search needs
-
-line-requires : tie.Need-line-requires
-line-requires c κs = search needs
-
-slice-aggregate-line-2 : tie.Need-slice-aggregate-line-2
-slice-aggregate-line-2 c = search needs
-
-line-requires-2 : tie.Need-line-requires-2
-line-requires-2 c κs = search needs
-
-slice-aggregate-line-3 : tie.Need-slice-aggregate-line-3
-slice-aggregate-line-3 c = search needs
-
-line-requires-3 : tie.Need-line-requires-3
-line-requires-3 c κs = search needs
-
-slice-aggregate-line-4 : tie.Need-slice-aggregate-line-4
-slice-aggregate-line-4 c = search needs
-
-line-requires-4 : tie.Need-line-requires-4
-line-requires-4 c κs = search needs
-
-slice-aggregate-line-5 : tie.Need-slice-aggregate-line-5
-slice-aggregate-line-5 c = search needs
-
-line-requires-5 : tie.Need-line-requires-5
-line-requires-5 c κs = search needs
-
-same-length : tie.Need-same-length
-same-length c = search needs
-
 returns : tie.Need-returns
 returns c =
     let l = c .before .before in
@@ -93,9 +57,6 @@ returns c =
     let s = p .before .before .before in
     let a = s .args in
     stored (a .number) (a .kind) (a .body .now) serial (p .code .result) (s .fits .number .fits) (lit≤ tt) (omega arith) (omega arith) (serial-word (a .kind) (m .match .keys1)) (p .code .ensures) (l .line .ensures)
-
-same-length-2 : tie.Need-same-length-2
-same-length-2 c = search needs
 
 returns-2 : tie.Need-returns-2
 returns-2 c =
@@ -106,9 +67,6 @@ returns-2 c =
     let a = s .args in
     stored (a .number) (a .kind) (a .body .now) packet (p .code .result) (s .fits .number .fits) (lit≤ tt) (omega arith) (omega arith) (packet-word (a .kind) (m .match .keys2)) (p .code .ensures) (l .line2 .ensures)
 
-same-length-3 : tie.Need-same-length-3
-same-length-3 c = search needs
-
 returns-3 : tie.Need-returns-3
 returns-3 c =
     let l = c .before .before in
@@ -118,9 +76,6 @@ returns-3 c =
     let a = s .args in
     stored (a .number) (a .kind) (a .body .now) distress (p .code .result) (s .fits .number .fits) (lit≤ tt) (omega arith) (omega arith) (distress-word (a .kind) (m .match .keys3)) (p .code .ensures) (l .line3 .ensures)
 
-same-length-4 : tie.Need-same-length-4
-same-length-4 c = search needs
-
 returns-4 : tie.Need-returns-4
 returns-4 c =
     let l = c .before .before in
@@ -129,9 +84,6 @@ returns-4 c =
     let s = p .before .before .before in
     let a = s .args in
     stored (a .number) (a .kind) (a .body .now) ais (p .code .result) (s .fits .number .fits) (lit≤ tt) (omega arith) (omega arith) (ais-word (a .kind) (m .match .keys4)) (p .code .ensures) (l .line4 .ensures)
-
-same-length-5 : tie.Need-same-length-5
-same-length-5 c = search needs
 
 returns-5 : tie.Need-returns-5
 returns-5 c =
@@ -146,24 +98,24 @@ pub entry-spec : {M : Type 1} → statement M
 entry-spec =
     tie.close
     (tie.spec
-    code-requires
-    slice-aggregate-line
-    line-requires
-    slice-aggregate-line-2
-    line-requires-2
-    slice-aggregate-line-3
-    line-requires-3
-    slice-aggregate-line-4
-    line-requires-4
-    slice-aggregate-line-5
-    line-requires-5
-    same-length
+    (λ c κs. search needs)
+    (λ c. search needs)
+    (λ c κs. search needs)
+    (λ c. search needs)
+    (λ c κs. search needs)
+    (λ c. search needs)
+    (λ c κs. search needs)
+    (λ c. search needs)
+    (λ c κs. search needs)
+    (λ c. search needs)
+    (λ c κs. search needs)
+    (λ c. search needs)
     returns
-    same-length-2
+    (λ c. search needs)
     returns-2
-    same-length-3
+    (λ c. search needs)
     returns-3
-    same-length-4
+    (λ c. search needs)
     returns-4
-    same-length-5
+    (λ c. search needs)
     returns-5)

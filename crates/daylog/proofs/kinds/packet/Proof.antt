@@ -8,16 +8,10 @@ use borrow.Author.Needs.{needs}
 use Rattle.daylog.proofs.kinds.packet.Statement.{statement}
 use Rattle.daylog.proofs.kinds.packet.Tie as tie
 
-read-requires : tie.Need-read-requires
-read-requires c κs = search needs
-
-refusal-requires : tie.Need-refusal-requires
-refusal-requires c κs = search needs
-
 returns : tie.Need-returns
 returns c =
     let r = c .before in
     c .refusal .ensures ∙ ap numberOf (r .read .ensures) ∙ numbered (λ r. Good (r .0)) Refused recordOf numberOf (λ r. refl) (λ c. refl) (readMessage packets (r .before .before .args .body .now))
 
 pub packet-spec : {M : Type 1} → statement M
-packet-spec = tie.close (tie.spec read-requires refusal-requires returns)
+packet-spec = tie.close (tie.spec (λ c κs. search needs) (λ c κs. search needs) returns)

@@ -8,16 +8,10 @@ use borrow.Author.Needs.{needs}
 use Rattle.daylog.proofs.kinds.report.Statement.{statement}
 use Rattle.daylog.proofs.kinds.report.Tie as tie
 
-read-requires : tie.Need-read-requires
-read-requires c κs = search needs
-
-refusal-requires : tie.Need-refusal-requires
-refusal-requires c κs = search needs
-
 returns : tie.Need-returns
 returns c =
     let r = c .before in
     c .refusal .ensures ∙ ap numberOf (r .read .ensures) ∙ numbered Good Refused reportOf numberOf (λ r. refl) (λ c. refl) (readMessage reports (r .before .before .args .body .now))
 
 pub report-spec : {M : Type 1} → statement M
-report-spec = tie.close (tie.spec read-requires refusal-requires returns)
+report-spec = tie.close (tie.spec (λ c κs. search needs) (λ c κs. search needs) returns)

@@ -47,9 +47,6 @@ mark-requires-4 c κs =
     let a = c .before .before .before .before .before .before .before .before .before .before .before .before .before .before .before .before .before .before .before .before .before .before .before .before .before .before .before .before .before .before .before .args in
     omega (arith, line-length (a .number) (a .word .now) (a .code) (a .bytes))
 
-same-length : tie.Need-same-length
-same-length c = search needs
-
 returns : tie.Need-returns
 unfolding line
 returns c =
@@ -81,5 +78,5 @@ columns-spec =
     mark-requires-3
     decimal-requires-3
     mark-requires-4
-    same-length
+    (λ c. search needs)
     returns)

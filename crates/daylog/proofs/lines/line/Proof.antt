@@ -15,20 +15,11 @@ use Rattle.daylog.proofs.lines.line.Tie as tie
 room : (c : tie.After-has-room) → c .has-room .result ≡ true → let a = c .before .before .before .args in a .at + (length (a .word .now) + 47) ≤ length (a .out .now)
 room c e = let a = c .before .before .before .args in leb-true (a .at + (length (a .word .now) + 47)) (length (a .out .now)) (sym (c .has-room .ensures) ∙ e)
 
-add-has-room : tie.Need-add-has-room
-add-has-room c = search needs
-
-has-room-requires : tie.Need-has-room-requires
-has-room-requires c κs = search needs
-
 columns-requires : tie.Need-columns-requires
 columns-requires c κs = let h = c .before .before in
     let s = h .before .before .before in
     let a = s .args in
     omega (arith, room h (c .before .if1 .taken), line-most (a .number) (a .word .now) (a .code) (a .bytes) (s .fits .number .fits) (s .fits .code .fits) (s .fits .bytes .fits))
-
-same-length : tie.Need-same-length
-same-length c = search needs
 
 returns : tie.Need-returns
 returns c = let p = c .before .before in
@@ -44,4 +35,4 @@ returns-2 c = let h = c .before in
 pub line-spec : {M : Type 1} → statement M
 line-spec =
     tie.close
-    (tie.spec add-has-room has-room-requires columns-requires same-length returns returns-2)
+    (tie.spec (λ c. search needs) (λ c κs. search needs) columns-requires (λ c. search needs) returns returns-2)

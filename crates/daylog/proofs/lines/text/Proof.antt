@@ -12,14 +12,8 @@ use Rattle.daylog.proofs.lines.text.Tie as tie
 room : (c : tie.After-has-room) → c .has-room .result ≡ true → let a = c .before .before .before .args in a .at + length (a .bytes .now) ≤ length (a .out .now)
 room c e = let a = c .before .before .before .args in leb-true (a .at + length (a .bytes .now)) (length (a .out .now)) (sym (c .has-room .ensures) ∙ e)
 
-has-room-requires : tie.Need-has-room-requires
-has-room-requires c κs = search needs
-
 put-requires : tie.Need-put-requires
 put-requires c κs = room (c .before .before) (c .before .if1 .taken)
-
-same-length : tie.Need-same-length
-same-length c = search needs
 
 returns : tie.Need-returns
 returns c = let p = c .before .before in
@@ -33,4 +27,4 @@ returns-2 c = let h = c .before in
     nowhere (length (a .bytes .now)) (a .out .now) (a .at) (a .bytes .now) (sym (h .has-room .ensures) ∙ c .if1 .left)
 
 pub text-spec : {M : Type 1} → statement M
-text-spec = tie.close (tie.spec has-room-requires put-requires same-length returns returns-2)
+text-spec = tie.close (tie.spec (λ c κs. search needs) put-requires (λ c. search needs) returns returns-2)

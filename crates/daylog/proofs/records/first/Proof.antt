@@ -15,18 +15,6 @@ returns c =
     let few : length s < 4 = omega arith in
     rw (lt-leb 4 (length s) few)
 
-shared-slice-read-pair : tie.Need-shared-slice-read-pair
-shared-slice-read-pair c = search needs
-
-shared-slice-read-pair-2 : tie.Need-shared-slice-read-pair-2
-shared-slice-read-pair-2 c = search needs
-
-pair-requires : tie.Need-pair-requires
-pair-requires c κs = search needs
-
-cast-whole : tie.Need-cast-whole
-cast-whole c = search needs
-
 returns-2 : tie.Need-returns-2
 unfolding front
 returns-2 c =
@@ -54,15 +42,6 @@ returns-4 c =
     let cut : length s < pairAt s 0 = omega arith in
     rw (le-leb 4 (length s) some, le-leb 4 (pairAt s 0) low, le-leb (pairAt s 0) 256 high, lt-leb (pairAt s 0) (length s) cut)
 
-shared-slice-read-pair-3 : tie.Need-shared-slice-read-pair-3
-shared-slice-read-pair-3 c = search needs
-
-shared-slice-read-pair-4 : tie.Need-shared-slice-read-pair-4
-shared-slice-read-pair-4 c = search needs
-
-pair-requires-2 : tie.Need-pair-requires-2
-pair-requires-2 c κs = search needs
-
 returns-5 : tie.Need-returns-5
 unfolding front
 returns-5 c =
@@ -78,14 +57,14 @@ first-spec =
     tie.close
     (tie.spec
     returns
-    shared-slice-read-pair
-    shared-slice-read-pair-2
-    pair-requires
-    cast-whole
+    (λ c. search needs)
+    (λ c. search needs)
+    (λ c κs. search needs)
+    (λ c. search needs)
     returns-2
     returns-3
     returns-4
-    shared-slice-read-pair-3
-    shared-slice-read-pair-4
-    pair-requires-2
+    (λ c. search needs)
+    (λ c. search needs)
+    (λ c κs. search needs)
     returns-5)

@@ -38,21 +38,6 @@ passed k = sym (k .before .before .first-tests .ensures) ∙ k .before .if1 .lef
 
 -- ---- the needs
 
-read-requires : tie.Need-read-requires
-read-requires c κs = search needs
-
-enum-known-answer : tie.Need-enum-known-answer
-enum-known-answer c = search needs
-
-first-tests-requires : tie.Need-first-tests-requires
-first-tests-requires c κs = search needs
-
-staying-requires : tie.Need-staying-requires
-staying-requires c κs = search needs
-
-same-length : tie.Need-same-length
-same-length c = search needs
-
 returns : tie.Need-returns
 returns c =
     let m = c .before .before .before .before .before in
@@ -66,18 +51,6 @@ sub-content c = omega (arith, good (c .before .before .before .before) .0)
 
 part-content-start : tie.Need-part-content-start
 part-content-start c = omega (arith, good (c .before .before .before .before) .0)
-
-part-content-end : tie.Need-part-content-end
-part-content-end c = search needs
-
-open-at-requires : tie.Need-open-at-requires
-open-at-requires c κs = search needs
-
-free-at-requires : tie.Need-free-at-requires
-free-at-requires c κs = search needs
-
-pick-requires : tie.Need-pick-requires
-pick-requires c κs = search needs
 
 join-requires : tie.Need-join-requires
 join-requires c κs =
@@ -94,9 +67,6 @@ join-requires c κs =
     let own = fit .own in
     let total = fit .total in
     (low, deep, subst (λ p. held p (r .own) ≤ partBytes) (sym there) (sized .small (r .own) (omega arith)), omega arith, fit .few)
-
-same-length-2 : tie.Need-same-length-2
-same-length-2 c = search needs
 
 returns-2 : tie.Need-returns-2
 returns-2 c =
@@ -122,15 +92,6 @@ begin-requires c κs =
     let total = fit .total in
     (deep, omega arith, fit .few)
 
-enum-known-answer-2 : tie.Need-enum-known-answer-2
-enum-known-answer-2 c = search needs
-
-staying-requires-2 : tie.Need-staying-requires-2
-staying-requires-2 c κs = search needs
-
-same-length-3 : tie.Need-same-length-3
-same-length-3 c = search needs
-
 returns-3 : tie.Need-returns-3
 returns-3 c =
     let m = c .before .before .before .before .before .before .before .before .before .before .before .before in
@@ -154,24 +115,24 @@ pub accept-spec : {M : Type 1} → statement M
 accept-spec =
     tie.close
     (tie.spec
-    read-requires
-    enum-known-answer
-    first-tests-requires
-    staying-requires
-    same-length
+    (λ c κs. search needs)
+    (λ c. search needs)
+    (λ c κs. search needs)
+    (λ c κs. search needs)
+    (λ c. search needs)
     returns
     sub-content
     part-content-start
-    part-content-end
-    open-at-requires
-    free-at-requires
-    pick-requires
+    (λ c. search needs)
+    (λ c κs. search needs)
+    (λ c κs. search needs)
+    (λ c κs. search needs)
     join-requires
-    same-length-2
+    (λ c. search needs)
     returns-2
     begin-requires
-    enum-known-answer-2
-    staying-requires-2
-    same-length-3
+    (λ c. search needs)
+    (λ c κs. search needs)
+    (λ c. search needs)
     returns-3
     returns-4)

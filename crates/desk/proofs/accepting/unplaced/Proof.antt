@@ -6,15 +6,6 @@ use Rattle.desk.proofs.Ways.{too-few-good, too-few-refused}
 use Rattle.desk.proofs.accepting.unplaced.Statement.{statement}
 use Rattle.desk.proofs.accepting.unplaced.Tie as tie
 
-read-requires : tie.Need-read-requires
-read-requires c κs = search needs
-
-enum-told : tie.Need-enum-told
-enum-told c = search needs
-
-enum-known-answer : tie.Need-enum-known-answer
-enum-known-answer c = search needs
-
 returns : tie.Need-returns
 returns c = let read = c .before .before in too-few-good (read .before .before .args .packet .now) _ (sym (c .enum-told .given .1) ∙ read .read .ensures)
 
@@ -22,4 +13,4 @@ returns-2 : tie.Need-returns-2
 returns-2 c = let m = c .before in let read = m .before .before in too-few-refused (read .before .before .args .packet .now) _ (sym (m .answer .given .1) ∙ read .read .ensures)
 
 pub unplaced-spec : {M : Type 1} → statement M
-unplaced-spec = tie.close (tie.spec read-requires enum-told enum-known-answer returns returns-2)
+unplaced-spec = tie.close (tie.spec (λ c κs. search needs) (λ c. search needs) (λ c. search needs) returns returns-2)

@@ -22,12 +22,6 @@ here k =
     found (a .a) (a .b) (a .c) (a .d) (a .store .now) (a .number) (o .open-at .result) (k .pick .result)
     (sym (t .first-tests .ensures) ∙ o .before .if1 .left) (o .open-at .ensures) (omega (arith, k .before .if2 .left)) (k .pick .ensures)
 
-first-tests-requires : tie.Need-first-tests-requires
-first-tests-requires c κs = search needs
-
-staying-requires : tie.Need-staying-requires
-staying-requires c κs = search needs
-
 returns : tie.Need-returns
 returns c =
     let t = c .before .before in
@@ -40,12 +34,6 @@ returns c =
     let again = c .staying .ensures ∙ ap (λ k. turnOf (a .a ∷ []) (Refused k) stays) e in
     asked (a .a) (a .b) (a .c) (a .d) s (a .number) b w b w _ (c .staying .result) (asking-refused ps s (a .number) b w (λ z. c .before .if1 .taken (e ∙ z)))
     (again, first-again (c .staying .result) (a .a) _ again, refl, refl)
-
-open-at-requires : tie.Need-open-at-requires
-open-at-requires c κs = search needs
-
-staying-requires-2 : tie.Need-staying-requires-2
-staying-requires-2 c κs = search needs
 
 returns-2 : tie.Need-returns-2
 returns-2 c =
@@ -62,17 +50,8 @@ returns-2 c =
     asked (a .a) (a .b) (a .c) (a .d) s (a .number) b w b w _ (c .staying2 .result) (asking-unknown ps s (a .number) b w z none)
     (again, first-again (c .staying2 .result) (a .a) _ again, refl, refl)
 
-pick-requires : tie.Need-pick-requires
-pick-requires c κs = search needs
-
 answer-requires : tie.Need-answer-requires
 answer-requires c κs = let f = here (c .before .before) in (f .sized, f .within, f .deep)
-
-same-length : tie.Need-same-length
-same-length c = search needs
-
-same-length-2 : tie.Need-same-length-2
-same-length-2 c = search needs
 
 returns-3 : tie.Need-returns-3
 returns-3 c =
@@ -88,14 +67,14 @@ pub ask-spec : {M : Type 1} → statement M
 ask-spec =
     tie.close
     (tie.spec
-    first-tests-requires
-    staying-requires
+    (λ c κs. search needs)
+    (λ c κs. search needs)
     returns
-    open-at-requires
-    staying-requires-2
+    (λ c κs. search needs)
+    (λ c κs. search needs)
     returns-2
-    pick-requires
+    (λ c κs. search needs)
     answer-requires
-    same-length
-    same-length-2
+    (λ c. search needs)
+    (λ c. search needs)
     returns-3)

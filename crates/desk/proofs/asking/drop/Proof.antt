@@ -14,12 +14,6 @@ use Rattle.desk.proofs.AskingWays.{found, drops, dropped}
 use Rattle.desk.proofs.asking.drop.Statement.{statement}
 use Rattle.desk.proofs.asking.drop.Tie as tie
 
-first-tests-requires : tie.Need-first-tests-requires
-first-tests-requires c κs = search needs
-
-staying-requires : tie.Need-staying-requires
-staying-requires c κs = search needs
-
 returns : tie.Need-returns
 returns c =
     let t = c .before .before in
@@ -30,12 +24,6 @@ returns c =
     let again = c .staying .ensures ∙ ap (λ k. turnOf ps (Refused k) stays) e in
     dropped ps s (a .number) (c .staying .result) _ (dropping-refused ps s (a .number) (λ z. c .before .if1 .taken (e ∙ z))) again
     (first-again (c .staying .result) (a .a) _ again)
-
-open-at-requires : tie.Need-open-at-requires
-open-at-requires c κs = search needs
-
-staying-requires-2 : tie.Need-staying-requires-2
-staying-requires-2 c κs = search needs
 
 returns-2 : tie.Need-returns-2
 returns-2 c =
@@ -48,12 +36,6 @@ returns-2 c =
     let none : fourPlaces ≤ openAt ps (a .number) = omega (arith, o .open-at .ensures, c .before .if2 .taken) in
     dropped ps s (a .number) (c .staying2 .result) _ (dropping-unknown ps s (a .number) z none) (c .staying2 .ensures)
     (first-again (c .staying2 .result) (a .a) _ (c .staying2 .ensures))
-
-pick-requires : tie.Need-pick-requires
-pick-requires c κs = search needs
-
-freed-requires : tie.Need-freed-requires
-freed-requires c κs = search needs
 
 returns-3 : tie.Need-returns-3
 returns-3 c =
@@ -75,12 +57,12 @@ pub drop-spec : {M : Type 1} → statement M
 drop-spec =
     tie.close
     (tie.spec
-    first-tests-requires
-    staying-requires
+    (λ c κs. search needs)
+    (λ c κs. search needs)
     returns
-    open-at-requires
-    staying-requires-2
+    (λ c κs. search needs)
+    (λ c κs. search needs)
     returns-2
-    pick-requires
-    freed-requires
+    (λ c κs. search needs)
+    (λ c κs. search needs)
     returns-3)

@@ -20,87 +20,12 @@ use borrow.Author.Needs.{needs}
 use Rattle.distress.proofs.reading.fields.Statement.{statement}
 use Rattle.distress.proofs.reading.fields.Tie as tie
 
-none-requires : tie.Need-none-requires
-none-requires c κs = search needs
-
-choose-requires : tie.Need-choose-requires
-choose-requires c κs = search needs
-
 returns : tie.Need-returns
 returns c =
     let test = c .before .before in
     let a = test .before .before .args in
     ap Refused (c .choose .ensures ∙ ap (λ x. cond x 1 (a .lead)) (c .before .none .ensures))
     ∙ sym (ap (λ o. answerOf (also reportOf o)) (other-size report 17 17 (a .lead) (a .s .now) (λ l u. test .if1 .taken (omega (arith, l, u)))))
-
-begin-requires : tie.Need-begin-requires
-begin-requires c κs = search needs
-
-code-requires : tie.Need-code-requires
-code-requires c κs = search needs
-
-num-requires : tie.Need-num-requires
-num-requires c κs = search needs
-
-cast-mmsi : tie.Need-cast-mmsi
-cast-mmsi c = search needs
-
-signed-requires : tie.Need-signed-requires
-signed-requires c κs = search needs
-
-int-requires : tie.Need-int-requires
-int-requires c κs = search needs
-
-signed-requires-2 : tie.Need-signed-requires-2
-signed-requires-2 c κs = search needs
-
-int-requires-2 : tie.Need-int-requires-2
-int-requires-2 c κs = search needs
-
-num-requires-2 : tie.Need-num-requires-2
-num-requires-2 c κs = search needs
-
-cast-day : tie.Need-cast-day
-cast-day c = search needs
-
-num-requires-3 : tie.Need-num-requires-3
-num-requires-3 c κs = search needs
-
-cast-hour : tie.Need-cast-hour
-cast-hour c = search needs
-
-num-requires-4 : tie.Need-num-requires-4
-num-requires-4 c κs = search needs
-
-cast-minute : tie.Need-cast-minute
-cast-minute c = search needs
-
-num-requires-5 : tie.Need-num-requires-5
-num-requires-5 c κs = search needs
-
-cast-speed : tie.Need-cast-speed
-cast-speed c = search needs
-
-num-requires-6 : tie.Need-num-requires-6
-num-requires-6 c κs = search needs
-
-cast-course : tie.Need-cast-course
-cast-course c = search needs
-
-num-requires-7 : tie.Need-num-requires-7
-num-requires-7 c κs = search needs
-
-cast-kind : tie.Need-cast-kind
-cast-kind c = search needs
-
-fill-requires : tie.Need-fill-requires
-fill-requires c κs = search needs
-
-end-requires : tie.Need-end-requires
-end-requires c κs = search needs
-
-told-requires : tie.Need-told-requires
-told-requires c κs = search needs
 
 returns-2 : tie.Need-returns-2
 unfolding report valuesOf
@@ -146,30 +71,30 @@ pub fields-spec : {M : Type 1} → statement M
 fields-spec =
     tie.close
     (tie.spec
-    none-requires
-    choose-requires
+    (λ c κs. search needs)
+    (λ c κs. search needs)
     returns
-    begin-requires
-    code-requires
-    num-requires
-    cast-mmsi
-    signed-requires
-    int-requires
-    signed-requires-2
-    int-requires-2
-    num-requires-2
-    cast-day
-    num-requires-3
-    cast-hour
-    num-requires-4
-    cast-minute
-    num-requires-5
-    cast-speed
-    num-requires-6
-    cast-course
-    num-requires-7
-    cast-kind
-    fill-requires
-    end-requires
-    told-requires
+    (λ c κs. search needs)
+    (λ c κs. search needs)
+    (λ c κs. search needs)
+    (λ c. search needs)
+    (λ c κs. search needs)
+    (λ c κs. search needs)
+    (λ c κs. search needs)
+    (λ c κs. search needs)
+    (λ c κs. search needs)
+    (λ c. search needs)
+    (λ c κs. search needs)
+    (λ c. search needs)
+    (λ c κs. search needs)
+    (λ c. search needs)
+    (λ c κs. search needs)
+    (λ c. search needs)
+    (λ c κs. search needs)
+    (λ c. search needs)
+    (λ c κs. search needs)
+    (λ c. search needs)
+    (λ c κs. search needs)
+    (λ c κs. search needs)
+    (λ c κs. search needs)
     returns-2)

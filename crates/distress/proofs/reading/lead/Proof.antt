@@ -15,9 +15,6 @@ returns : tie.Need-returns
 unfolding reports
 returns c = rw (lt-leb 17 (length (c .before .before .args .s .now)) (c .if1 .taken))
 
-get-requires : tie.Need-get-requires
-get-requires c κs = search needs
-
 returns-2 : tie.Need-returns-2
 unfolding reports
 returns-2 c =
@@ -40,4 +37,4 @@ returns-4 c =
     rw (le-leb 17 (length s) (omega arith), eq-eqb (fieldAt s 0 16) 0xBDC1 (sym e ∙ c .before .if2 .left), le-leb (length s) 17 (omega arith))
 
 pub lead-spec : {M : Type 1} → statement M
-lead-spec = tie.close (tie.spec returns get-requires returns-2 returns-3 returns-4)
+lead-spec = tie.close (tie.spec returns (λ c κs. search needs) returns-2 returns-3 returns-4)

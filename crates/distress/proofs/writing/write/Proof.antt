@@ -7,12 +7,6 @@ use borrow.Author.Needs.{needs}
 use Rattle.distress.proofs.writing.write.Statement.{statement}
 use Rattle.distress.proofs.writing.write.Tie as tie
 
-spelled-requires : tie.Need-spelled-requires
-spelled-requires c κs = search needs
-
-judged-requires : tie.Need-judged-requires
-judged-requires c κs = search needs
-
 returns : tie.Need-returns
 unfolding reports
 returns c =
@@ -29,12 +23,6 @@ returns-2 c =
     let s = v .before .before .args .buf .now in
     subst (Writes reports s _ s) (v .spelled .ensures) (write-cramped reports plain s _ (w .judged .ensures) (c .before .if1 .left) (c .if2 .taken))
 
-put-requires : tie.Need-put-requires
-put-requires c κs = search needs
-
-same-length : tie.Need-same-length
-same-length c = search needs
-
 returns-3 : tie.Need-returns-3
 unfolding reports
 returns-3 c =
@@ -49,10 +37,10 @@ pub write-spec : {M : Type 1} → statement M
 write-spec =
     tie.close
     (tie.spec
-    spelled-requires
-    judged-requires
+    (λ c κs. search needs)
+    (λ c κs. search needs)
     returns
     returns-2
-    put-requires
-    same-length
+    (λ c κs. search needs)
+    (λ c. search needs)
     returns-3)

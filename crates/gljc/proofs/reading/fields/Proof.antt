@@ -15,36 +15,12 @@ use borrow.Author.Needs.{needs}
 use Rattle.gljc.proofs.reading.fields.Statement.{statement}
 use Rattle.gljc.proofs.reading.fields.Tie as tie
 
-none-requires : tie.Need-none-requires
-none-requires c κs = search needs
-
-choose-requires : tie.Need-choose-requires
-choose-requires c κs = search needs
-
 returns : tie.Need-returns
 returns c =
     let test = c .before .before in
     let a = test .before .before .args in
     ap Refused (c .choose .ensures ∙ ap (λ x. cond x 1 (a .code)) (c .before .none .ensures))
     ∙ sym (ap (λ o. answerOf (also recordOf o)) (other-size gljc 11 11 (a .code) (a .s .now) (λ l u. test .if1 .taken (omega (arith, l, u)))))
-
-head-requires : tie.Need-head-requires
-head-requires c κs = search needs
-
-cast-address : tie.Need-cast-address
-cast-address c = search needs
-
-num-requires : tie.Need-num-requires
-num-requires c κs = search needs
-
-cast-minutes : tie.Need-cast-minutes
-cast-minutes c = search needs
-
-end-requires : tie.Need-end-requires
-end-requires c κs = search needs
-
-told-requires : tie.Need-told-requires
-told-requires c κs = search needs
 
 returns-2 : tie.Need-returns-2
 unfolding gljc recordOf
@@ -65,13 +41,13 @@ pub fields-spec : {M : Type 1} → statement M
 fields-spec =
     tie.close
     (tie.spec
-    none-requires
-    choose-requires
+    (λ c κs. search needs)
+    (λ c κs. search needs)
     returns
-    head-requires
-    cast-address
-    num-requires
-    cast-minutes
-    end-requires
-    told-requires
+    (λ c κs. search needs)
+    (λ c. search needs)
+    (λ c κs. search needs)
+    (λ c. search needs)
+    (λ c κs. search needs)
+    (λ c κs. search needs)
     returns-2)

@@ -8,18 +8,6 @@ use borrow.Author.Needs.{needs}
 use Rattle.gljc.proofs.writing.judged.Statement.{statement}
 use Rattle.gljc.proofs.writing.judged.Tie as tie
 
-cast-judged : tie.Need-cast-judged
-cast-judged c = search needs
-
-judged-requires : tie.Need-judged-requires
-judged-requires c κs = search needs
-
-cast-value : tie.Need-cast-value
-cast-value c = search needs
-
-value-requires : tie.Need-value-requires
-value-requires c κs = search needs
-
 returns : tie.Need-returns
 unfolding gljc valuesOf
 returns c =
@@ -29,4 +17,4 @@ returns c =
     judge-end (judge-num 8 (lit< tt) 0 255 (lit< tt) r0 (c .value .ensures))
 
 pub judged-spec : {M : Type 1} → statement M
-judged-spec = tie.close (tie.spec cast-judged judged-requires cast-value value-requires returns)
+judged-spec = tie.close (tie.spec (λ c. search needs) (λ c κs. search needs) (λ c. search needs) (λ c κs. search needs) returns)

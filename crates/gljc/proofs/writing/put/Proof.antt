@@ -10,21 +10,6 @@ use Rattle.gljc.proofs.writing.put.Statement.{statement}
 use Rattle.gljc.proofs.writing.put.Tie as tie
 use Rattle.frame.proofs.put.Reads as put-reads′
 
-cast-put : tie.Need-cast-put
-cast-put c = search needs
-
-put-requires : tie.Need-put-requires
-put-requires c κs = search needs
-
-cast-put-2 : tie.Need-cast-put-2
-cast-put-2 c = search needs
-
-put-requires-2 : tie.Need-put-requires-2
-put-requires-2 c κs = search needs
-
-same-length : tie.Need-same-length
-same-length c = search needs
-
 returns : tie.Need-returns
 unfolding gljc valuesOf
 returns c b e l =
@@ -37,4 +22,4 @@ returns c b e l =
     put-end fine refl (put-step 8 (lit≤ tt) r0 (p2 .put2 .ensures))
 
 pub put-spec : {M : Type 1} → statement M
-put-spec = tie.close (tie.spec cast-put put-requires cast-put-2 put-requires-2 same-length returns)
+put-spec = tie.close (tie.spec (λ c. search needs) (λ c κs. search needs) (λ c. search needs) (λ c κs. search needs) (λ c. search needs) returns)

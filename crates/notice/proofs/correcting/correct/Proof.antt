@@ -11,15 +11,6 @@ use borrow.Author.Needs.{needs}
 use Rattle.notice.proofs.correcting.correct.Statement.{statement}
 use Rattle.notice.proofs.correcting.correct.Tie as tie
 
-fields-requires : tie.Need-fields-requires
-fields-requires c κs = search needs
-
-admits-requires : tie.Need-admits-requires
-admits-requires c κs = search needs
-
-same-length : tie.Need-same-length
-same-length c = search needs
-
 returns : tie.Need-returns
 unfolding notices
 returns c = let ad = c .before in
@@ -30,18 +21,6 @@ returns c = let ad = c .before in
     let w = r .walk in
     let x = f .fields .ensures in
     correct-early (notices (a .english)) (sound (a .english)) (numbered (a .english)) s (a .field) (a .value) (w .spot) (w .width) (walked-code (a .english) (a .field) s r x) (stands (a .english) (a .field) s r x) (fields-are (a .english) (a .field) s x .walked .slim) (ad .admits .ensures) (c .if1 .taken)
-
-swap-requires : tie.Need-swap-requires
-swap-requires c κs = search needs
-
-fields-requires-2 : tie.Need-fields-requires-2
-fields-requires-2 c κs = search needs
-
-settle-requires : tie.Need-settle-requires
-settle-requires c κs = search needs
-
-same-length-2 : tie.Need-same-length-2
-same-length-2 c = search needs
 
 returns-2 : tie.Need-returns-2
 unfolding notices
@@ -65,12 +44,12 @@ pub correct-spec : {M : Type 1} → statement M
 correct-spec =
     tie.close
     (tie.spec
-    fields-requires
-    admits-requires
-    same-length
+    (λ c κs. search needs)
+    (λ c κs. search needs)
+    (λ c. search needs)
     returns
-    swap-requires
-    fields-requires-2
-    settle-requires
-    same-length-2
+    (λ c κs. search needs)
+    (λ c κs. search needs)
+    (λ c κs. search needs)
+    (λ c. search needs)
     returns-2)

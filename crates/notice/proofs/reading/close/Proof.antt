@@ -20,27 +20,12 @@ returns c =
     let a = c .before .before .before .args in
     sym (ending-refused (a .english) (a .s .now) (a .w) (c .if1 .taken))
 
-rest-requires : tie.Need-rest-requires
-rest-requires c κs = search needs
-
-spoken-requires : tie.Need-spoken-requires
-spoken-requires c κs = search needs
-
-choose-requires : tie.Need-choose-requires
-choose-requires c κs = search needs
-
 mul-wide : tie.Need-mul-wide
 unfolding onward
 mul-wide c =
     let r = c .before .before in
     let a = r .before .before .before .before .args in
     omega (arith, ap (λ r. r .v) (r .rest .ensures))
-
-wide-requires : tie.Need-wide-requires
-wide-requires c κs = search needs
-
-end-requires : tie.Need-end-requires
-end-requires c κs = search needs
 
 returns-2 : tie.Need-returns-2
 unfolding onward
@@ -63,10 +48,10 @@ close-spec =
     tie.close
     (tie.spec
     returns
-    rest-requires
-    spoken-requires
-    choose-requires
+    (λ c κs. search needs)
+    (λ c κs. search needs)
+    (λ c κs. search needs)
     mul-wide
-    wide-requires
-    end-requires
+    (λ c κs. search needs)
+    (λ c κs. search needs)
     returns-2)

@@ -9,23 +9,11 @@ use Rattle.notice.specs.laws.Told.{sizes-small}
 use Rattle.notice.proofs.reading.fields.Statement.{statement}
 use Rattle.notice.proofs.reading.fields.Tie as tie
 
-lead-requires : tie.Need-lead-requires
-lead-requires c κs = search needs
-
-unread-requires : tie.Need-unread-requires
-unread-requires c κs = search needs
-
 returns : tie.Need-returns
 unfolding courseOf
 returns c = let i = c .before in
     let l = i .before in
     rw (ne-eqb (sizes (l .before .before .args .s .now)) 0 (λ z. i .if1 .taken (l .lead .ensures ∙ z))) (c .unread .ensures ∙ ap unreadBy (l .lead .ensures))
-
-head-requires : tie.Need-head-requires
-head-requires c κs = search needs
-
-walk-requires : tie.Need-walk-requires
-walk-requires c κs = search needs
 
 close-requires : tie.Need-close-requires
 close-requires c κs = let i = c .before .before .before .before in
@@ -49,10 +37,10 @@ pub fields-spec : {M : Type 1} → statement M
 fields-spec =
     tie.close
     (tie.spec
-    lead-requires
-    unread-requires
+    (λ c κs. search needs)
+    (λ c κs. search needs)
     returns
-    head-requires
-    walk-requires
+    (λ c κs. search needs)
+    (λ c κs. search needs)
     close-requires
     returns-2)

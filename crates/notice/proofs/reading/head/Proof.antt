@@ -10,63 +10,6 @@ use Rattle.notice.specs.Steps.{openingOf}
 use Rattle.notice.proofs.reading.head.Statement.{statement}
 use Rattle.notice.proofs.reading.head.Tie as tie
 
-begin-requires : tie.Need-begin-requires
-begin-requires c κs = search needs
-
-num-requires : tie.Need-num-requires
-num-requires c κs = search needs
-
-cast-source : tie.Need-cast-source
-cast-source c = search needs
-
-num-requires-2 : tie.Need-num-requires-2
-num-requires-2 c κs = search needs
-
-cast-station : tie.Need-cast-station
-cast-station c = search needs
-
-num-requires-3 : tie.Need-num-requires-3
-num-requires-3 c κs = search needs
-
-cast-serial : tie.Need-cast-serial
-cast-serial c = search needs
-
-num-requires-4 : tie.Need-num-requires-4
-num-requires-4 c κs = search needs
-
-cast-year : tie.Need-cast-year
-cast-year c = search needs
-
-num-requires-5 : tie.Need-num-requires-5
-num-requires-5 c κs = search needs
-
-least-subtype-requires : tie.Need-least-subtype-requires
-least-subtype-requires c κs = search needs
-
-most-subtype-requires : tie.Need-most-subtype-requires
-most-subtype-requires c κs = search needs
-
-num-requires-6 : tie.Need-num-requires-6
-num-requires-6 c κs = search needs
-
-cast-subtype : tie.Need-cast-subtype
-cast-subtype c = search needs
-
-expiry-requires : tie.Need-expiry-requires
-expiry-requires c κs = search needs
-
-cast-expiry : tie.Need-cast-expiry
-cast-expiry c = search needs
-
-decide-requires : tie.Need-decide-requires
-decide-requires c κs = search needs
-
-cast-count : tie.Need-cast-count
-cast-count c = search needs
-
-cast-t23 : tie.Need-cast-t23
-cast-t23 c = search needs
-
 returns : tie.Need-returns
 unfolding openingOf
 returns c =
@@ -99,23 +42,23 @@ pub head-spec : {M : Type 1} → statement M
 head-spec =
     tie.close
     (tie.spec
-    begin-requires
-    num-requires
-    cast-source
-    num-requires-2
-    cast-station
-    num-requires-3
-    cast-serial
-    num-requires-4
-    cast-year
-    num-requires-5
-    least-subtype-requires
-    most-subtype-requires
-    num-requires-6
-    cast-subtype
-    expiry-requires
-    cast-expiry
-    decide-requires
-    cast-count
-    cast-t23
+    (λ c κs. search needs)
+    (λ c κs. search needs)
+    (λ c. search needs)
+    (λ c κs. search needs)
+    (λ c. search needs)
+    (λ c κs. search needs)
+    (λ c. search needs)
+    (λ c κs. search needs)
+    (λ c. search needs)
+    (λ c κs. search needs)
+    (λ c κs. search needs)
+    (λ c κs. search needs)
+    (λ c κs. search needs)
+    (λ c. search needs)
+    (λ c κs. search needs)
+    (λ c. search needs)
+    (λ c κs. search needs)
+    (λ c. search needs)
+    (λ c. search needs)
     returns)

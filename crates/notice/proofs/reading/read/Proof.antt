@@ -15,9 +15,6 @@ use borrow.Author.Needs.{needs}
 use Rattle.notice.proofs.reading.read.Statement.{statement}
 use Rattle.notice.proofs.reading.read.Tie as tie
 
-fields-requires : tie.Need-fields-requires
-fields-requires c κs = search needs
-
 returns : tie.Need-returns
 returns c = let f = c .before .before in
     let a = f .before .before .before .before .args in
@@ -34,12 +31,6 @@ returns-2 c = let f = c .before .before .before .before in
     let t = length-run s (r .at) (r .text) in
     reads-short (a .english) s (a .areas .now) (a .text .now) good (omega (arith, t, c .if2 .taken))
 
-fill-requires : tie.Need-fill-requires
-fill-requires c κs = search needs
-
-same-length : tie.Need-same-length
-same-length c = search needs
-
 returns-3 : tie.Need-returns-3
 returns-3 c = let f = c .before .before .before .before .before .before .before .before .before in
     let a = f .before .before .before .before .args in
@@ -50,15 +41,6 @@ returns-3 c = let f = c .before .before .before .before .before .before .before 
     let few : length (a .areas .now) < length (areasAt s (r .notice .count) front) = omega (arith, x .0, c .if3 .taken, c .before .before .before .fill .kept .1 .1 .0) in
     let is = reads-few (a .english) s (a .areas .now) (a .text .now) good few in
     (is .0, x .1 ∙ kept-row (a .areas .now) (areasAt s (r .notice .count) front) few ∙ is .1, is .2)
-
-get-bytes-requires : tie.Need-get-bytes-requires
-get-bytes-requires c κs = search needs
-
-same-length-2 : tie.Need-same-length-2
-same-length-2 c = search needs
-
-same-length-3 : tie.Need-same-length-3
-same-length-3 c = search needs
 
 returns-4 : tie.Need-returns-4
 returns-4 c = let g = c .before .before in
@@ -85,13 +67,13 @@ pub read-spec : {M : Type 1} → statement M
 read-spec =
     tie.close
     (tie.spec
-    fields-requires
+    (λ c κs. search needs)
     returns
     returns-2
-    fill-requires
-    same-length
+    (λ c κs. search needs)
+    (λ c. search needs)
     returns-3
-    get-bytes-requires
-    same-length-2
-    same-length-3
+    (λ c κs. search needs)
+    (λ c. search needs)
+    (λ c. search needs)
     returns-4)

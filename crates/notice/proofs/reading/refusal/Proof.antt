@@ -4,13 +4,10 @@ use borrow.Author.Needs.{needs}
 use Rattle.notice.proofs.reading.refusal.Statement.{statement}
 use Rattle.notice.proofs.reading.refusal.Tie as tie
 
-fields-requires : tie.Need-fields-requires
-fields-requires c κs = search needs
-
 returns : tie.Need-returns
 returns c = let f = c .before in
     let a = f .before .before .args in
     walked-code (a .english) 0 (a .s .now) (f .fields .result) (f .fields .ensures)
 
 pub refusal-spec : {M : Type 1} → statement M
-refusal-spec = tie.close (tie.spec fields-requires returns)
+refusal-spec = tie.close (tie.spec (λ c κs. search needs) returns)

@@ -6,11 +6,8 @@ use borrow.Author.Needs.{needs}
 use Rattle.notice.proofs.reading.unread.Statement.{statement}
 use Rattle.notice.proofs.reading.unread.Tie as tie
 
-begin-requires : tie.Need-begin-requires
-begin-requires c κs = search needs
-
 returns : tie.Need-returns
 returns c = ap (λ (w : Walk). record { walk = w; notice = unreadBy 0 .notice; at = 0; text = 0 }) (c .begin .ensures)
 
 pub unread-spec : {M : Type 1} → statement M
-unread-spec = tie.close (tie.spec begin-requires returns)
+unread-spec = tie.close (tie.spec (λ c κs. search needs) returns)

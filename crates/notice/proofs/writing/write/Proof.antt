@@ -10,15 +10,6 @@ use Rattle.notice.specs.laws.Writing.{notice-refused, notice-laid, text-
 use Rattle.notice.proofs.writing.write.Statement.{statement}
 use Rattle.notice.proofs.writing.write.Tie as tie
 
-judged-requires : tie.Need-judged-requires
-judged-requires c κs = search needs
-
-room-requires : tie.Need-room-requires
-room-requires c κs = search needs
-
-closes-before-requires : tie.Need-closes-before-requires
-closes-before-requires c κs = search needs
-
 returns : tie.Need-returns
 returns c =
     let k = c .before in
@@ -43,9 +34,6 @@ put-requires c κs =
       text-small (a .english) (a .buf .now) r (a .areas .now) (a .text .now) (j .judged .result) (j .judged .ensures) (m .room .ensures) (k .closes-before .ensures) (i .if1 .left),
     )
 
-same-length : tie.Need-same-length
-same-length c = search needs
-
 returns-2 : tie.Need-returns-2
 returns-2 c =
     let p = c .before .before in
@@ -60,10 +48,10 @@ pub write-spec : {M : Type 1} → statement M
 write-spec =
     tie.close
     (tie.spec
-    judged-requires
-    room-requires
-    closes-before-requires
+    (λ c κs. search needs)
+    (λ c κs. search needs)
+    (λ c κs. search needs)
     returns
     put-requires
-    same-length
+    (λ c. search needs)
     returns-2)

@@ -8,12 +8,6 @@ use borrow.Author.Needs.{needs}
 use Rattle.notice_fields.proofs.areas.close_area.Statement.{statement}
 use Rattle.notice_fields.proofs.areas.close_area.Tie as tie
 
-num-requires : tie.Need-num-requires
-num-requires c κs = search needs
-
-num-requires-2 : tie.Need-num-requires-2
-num-requires-2 c κs = search needs
-
 returns : tie.Need-returns
 unfolding closedAs
 returns c =
@@ -28,4 +22,4 @@ returns-2 c =
     closed-plain (a .kind) (a .s .now) (a .w) (c .if1 .left)
 
 pub close-area-spec : {M : Type 1} → statement M
-close-area-spec = tie.close (tie.spec num-requires num-requires-2 returns returns-2)
+close-area-spec = tie.close (tie.spec (λ c κs. search needs) (λ c κs. search needs) returns returns-2)

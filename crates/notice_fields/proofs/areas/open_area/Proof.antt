@@ -10,9 +10,6 @@ use borrow.Author.Needs.{needs}
 use Rattle.notice_fields.proofs.areas.open_area.Statement.{statement}
 use Rattle.notice_fields.proofs.areas.open_area.Tie as tie
 
-num-requires : tie.Need-num-requires
-num-requires c κs = search needs
-
 returns : tie.Need-returns
 unfolding openedAs
 returns c =
@@ -25,12 +22,6 @@ returns-2 c =
     let a = c .before .before .before .args in
     ap (λ k. openedAs k (a .s .now) (a .kind)) (sym (kind-circle (c .if2 .taken)))
 
-least-requires : tie.Need-least-requires
-least-requires c κs = search needs
-
-decide-requires : tie.Need-decide-requires
-decide-requires c κs = search needs
-
 returns-3 : tie.Need-returns-3
 unfolding openedAs
 returns-3 c =
@@ -41,4 +32,4 @@ returns-3 c =
 
 pub open-area-spec : {M : Type 1} → statement M
 open-area-spec =
-    tie.close (tie.spec num-requires returns returns-2 least-requires decide-requires returns-3)
+    tie.close (tie.spec (λ c κs. search needs) returns returns-2 (λ c κs. search needs) (λ c κs. search needs) returns-3)

@@ -7,12 +7,6 @@ use borrow.Author.Needs.{needs}
 use Rattle.notice_fields.proofs.making.entry.Statement.{statement}
 use Rattle.notice_fields.proofs.making.entry.Tie as tie
 
-mul-result : tie.Need-mul-result
-mul-result c = search needs
-
-shared-slice-read-result : tie.Need-shared-slice-read-result
-shared-slice-read-result c = search needs
-
 cast-result : tie.Need-cast-result
 cast-result c = let a = c .before .before .args in omega (arith, c .shared-slice-known .given (a .k) .fits)
 
@@ -23,4 +17,4 @@ returns-2 : tie.Need-returns-2
 returns-2 c = let a = c .before .args in sym (List·getD-eq-default (a .row .now) 0 {n = a .k} (omega arith))
 
 pub entry-spec : {M : Type 1} → statement M
-entry-spec = tie.close (tie.spec mul-result shared-slice-read-result cast-result returns returns-2)
+entry-spec = tie.close (tie.spec (λ c. search needs) (λ c. search needs) cast-result returns returns-2)

@@ -15,24 +15,6 @@ use Rattle.notice_fields.specs.laws.Judging.{area-turn, several-turn}
 use Rattle.notice_fields.proofs.making.judge_area.Statement.{statement}
 use Rattle.notice_fields.proofs.making.judge_area.Tie as tie
 
-entry-requires : tie.Need-entry-requires
-entry-requires c κs = search needs
-
-value-requires : tie.Need-value-requires
-value-requires c κs = search needs
-
-add-entry : tie.Need-add-entry
-add-entry c = search needs
-
-entry-requires-2 : tie.Need-entry-requires-2
-entry-requires-2 c κs = search needs
-
-value-requires-2 : tie.Need-value-requires-2
-value-requires-2 c κs = search needs
-
-add-t16 : tie.Need-add-t16
-add-t16 c = search needs
-
 returns : tie.Need-returns
 unfolding insideJudged
 returns c =
@@ -44,33 +26,12 @@ returns c =
     ap (λ (w : Walk). record { walk = w; next = a .k + 2 }) (c .value2 .ensures ∙ ap (λ n. valued 8 n 0 255 (v .value .result)) (e2 .entry2 .ensures))
     ∙ sym (area-turn (a .row .now) (a .k) (a .from) (e .entry .ensures) (v .value .ensures) (kind-sea (i .if1 .taken)))
 
-add-judge-points : tie.Need-add-judge-points
-add-judge-points c = search needs
-
 judge-points-requires : tie.Need-judge-points-requires
 judge-points-requires c κs =
     let v = c .before .before in
     let e = v .before in
     let a = e .before .before .args in
     (omega arith, omega arith)
-
-add-entry-2 : tie.Need-add-entry-2
-add-entry-2 c = search needs
-
-entry-requires-3 : tie.Need-entry-requires-3
-entry-requires-3 c κs = search needs
-
-value-requires-3 : tie.Need-value-requires-3
-value-requires-3 c κs = search needs
-
-add-entry-3 : tie.Need-add-entry-3
-add-entry-3 c = search needs
-
-entry-requires-4 : tie.Need-entry-requires-4
-entry-requires-4 c κs = search needs
-
-value-requires-4 : tie.Need-value-requires-4
-value-requires-4 c κs = search needs
 
 add-t17 : tie.Need-add-t17
 add-t17 c = let st = c .before .before .before .before .before .before .before .before .before .before in omega (arith, st .pre)
@@ -89,21 +50,6 @@ returns-2 c =
     let radius = v3 .value3 .ensures ∙ ap₂ (λ n p. valued 10 n 0 1_023 p) (e3 .entry3 .ensures) (p .judge-points .ensures) in
     ap (λ (w : Walk). record { walk = w; next = a .k + 5 }) (c .value4 .ensures ∙ ap₂ (λ n q. valued 2 n 0 3 q) (e4 .entry4 .ensures) radius)
     ∙ sym (area-turn (a .row .now) (a .k) (a .from) (e .entry .ensures) (v .value .ensures) (kind-circle (i .if2 .taken)))
-
-add-entry-4 : tie.Need-add-entry-4
-add-entry-4 c = search needs
-
-entry-requires-5 : tie.Need-entry-requires-5
-entry-requires-5 c κs = search needs
-
-least-requires : tie.Need-least-requires
-least-requires c κs = search needs
-
-value-requires-5 : tie.Need-value-requires-5
-value-requires-5 c κs = search needs
-
-add-points : tie.Need-add-points
-add-points c = search needs
 
 returns-3 : tie.Need-returns-3
 returns-3 c =
@@ -165,28 +111,28 @@ pub judge-area-spec : {M : Type 1} → statement M
 judge-area-spec =
     tie.close
     (tie.spec
-    entry-requires
-    value-requires
-    add-entry
-    entry-requires-2
-    value-requires-2
-    add-t16
+    (λ c κs. search needs)
+    (λ c κs. search needs)
+    (λ c. search needs)
+    (λ c κs. search needs)
+    (λ c κs. search needs)
+    (λ c. search needs)
     returns
-    add-judge-points
+    (λ c. search needs)
     judge-points-requires
-    add-entry-2
-    entry-requires-3
-    value-requires-3
-    add-entry-3
-    entry-requires-4
-    value-requires-4
+    (λ c. search needs)
+    (λ c κs. search needs)
+    (λ c κs. search needs)
+    (λ c. search needs)
+    (λ c κs. search needs)
+    (λ c κs. search needs)
     add-t17
     returns-2
-    add-entry-4
-    entry-requires-5
-    least-requires
-    value-requires-5
-    add-points
+    (λ c. search needs)
+    (λ c κs. search needs)
+    (λ c κs. search needs)
+    (λ c κs. search needs)
+    (λ c. search needs)
     returns-3
     judge-points-requires-2
     mul-t21

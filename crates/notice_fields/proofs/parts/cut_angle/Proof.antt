@@ -5,21 +5,6 @@ use borrow.Author.Needs.{needs}
 use Rattle.notice_fields.proofs.parts.cut_angle.Statement.{statement}
 use Rattle.notice_fields.proofs.parts.cut_angle.Tie as tie
 
-unsought-requires : tie.Need-unsought-requires
-unsought-requires c κs = search needs
-
-part-requires : tie.Need-part-requires
-part-requires c κs = search needs
-
-part-requires-2 : tie.Need-part-requires-2
-part-requires-2 c κs = search needs
-
-part-requires-3 : tie.Need-part-requires-3
-part-requires-3 c κs = search needs
-
-part-requires-4 : tie.Need-part-requires-4
-part-requires-4 c κs = search needs
-
 returns : tie.Need-returns
 returns c =
     let c3 = c .before in
@@ -35,9 +20,9 @@ pub cut-angle-spec : {M : Type 1} → statement M
 cut-angle-spec =
     tie.close
     (tie.spec
-    unsought-requires
-    part-requires
-    part-requires-2
-    part-requires-3
-    part-requires-4
+    (λ c κs. search needs)
+    (λ c κs. search needs)
+    (λ c κs. search needs)
+    (λ c κs. search needs)
+    (λ c κs. search needs)
     returns)

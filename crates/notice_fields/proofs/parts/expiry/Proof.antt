@@ -9,15 +9,6 @@ use borrow.Author.Needs.{needs}
 use Rattle.notice_fields.proofs.parts.expiry.Statement.{statement}
 use Rattle.notice_fields.proofs.parts.expiry.Tie as tie
 
-holds-requires : tie.Need-holds-requires
-holds-requires c κs = search needs
-
-get-requires : tie.Need-get-requires
-get-requires c κs = search needs
-
-judged-expiry-requires : tie.Need-judged-expiry-requires
-judged-expiry-requires c κs = search needs
-
 returns : tie.Need-returns
 returns c =
     let get = c .before in
@@ -26,12 +17,6 @@ returns c =
     let a = holds .before .before .args in
     let e = by-number _ (sym (holds .holds .ensures) ∙ f .if1 .taken) (c .judged-expiry .ensures ∙ ap (λ v. expiryJudged v (a .w)) (get .get .ensures)) in
     (e, got-lt (a .s .now) (a .w .at) 21 (expiry-v (a .s .now) (a .w) e))
-
-moment-requires : tie.Need-moment-requires
-moment-requires c κs = search needs
-
-group-requires : tie.Need-group-requires
-group-requires c κs = search needs
 
 returns-2 : tie.Need-returns-2
 returns-2 c =
@@ -47,10 +32,10 @@ pub expiry-spec : {M : Type 1} → statement M
 expiry-spec =
     tie.close
     (tie.spec
-    holds-requires
-    get-requires
-    judged-expiry-requires
+    (λ c κs. search needs)
+    (λ c κs. search needs)
+    (λ c κs. search needs)
     returns
-    moment-requires
-    group-requires
+    (λ c κs. search needs)
+    (λ c κs. search needs)
     returns-2)

@@ -6,24 +6,6 @@ use borrow.Author.Needs.{needs}
 use Rattle.notice_fields.proofs.parts.judged_angle.Statement.{statement}
 use Rattle.notice_fields.proofs.parts.judged_angle.Tie as tie
 
-of-requires : tie.Need-of-requires
-of-requires c κs = search needs
-
-piece-requires : tie.Need-piece-requires
-piece-requires c κs = search needs
-
-piece-requires-2 : tie.Need-piece-requires-2
-piece-requires-2 c κs = search needs
-
-piece-requires-3 : tie.Need-piece-requires-3
-piece-requires-3 c κs = search needs
-
-piece-requires-4 : tie.Need-piece-requires-4
-piece-requires-4 c κs = search needs
-
-group-value-requires : tie.Need-group-value-requires
-group-value-requires c κs = search needs
-
 returns : tie.Need-returns
 returns c =
     let g4 = c .before in
@@ -39,10 +21,10 @@ pub judged-angle-spec : {M : Type 1} → statement M
 judged-angle-spec =
     tie.close
     (tie.spec
-    of-requires
-    piece-requires
-    piece-requires-2
-    piece-requires-3
-    piece-requires-4
-    group-value-requires
+    (λ c κs. search needs)
+    (λ c κs. search needs)
+    (λ c κs. search needs)
+    (λ c κs. search needs)
+    (λ c κs. search needs)
+    (λ c κs. search needs)
     returns)

@@ -6,30 +6,6 @@ use borrow.Author.Needs.{needs}
 use Rattle.notice_fields.proofs.parts.judged_expiry.Statement.{statement}
 use Rattle.notice_fields.proofs.parts.judged_expiry.Tie as tie
 
-of-requires : tie.Need-of-requires
-of-requires c κs = search needs
-
-piece-requires : tie.Need-piece-requires
-piece-requires c κs = search needs
-
-piece-requires-2 : tie.Need-piece-requires-2
-piece-requires-2 c κs = search needs
-
-piece-requires-3 : tie.Need-piece-requires-3
-piece-requires-3 c κs = search needs
-
-piece-requires-4 : tie.Need-piece-requires-4
-piece-requires-4 c κs = search needs
-
-piece-requires-5 : tie.Need-piece-requires-5
-piece-requires-5 c κs = search needs
-
-or-zero-requires : tie.Need-or-zero-requires
-or-zero-requires c κs = search needs
-
-group-value-requires : tie.Need-group-value-requires
-group-value-requires c κs = search needs
-
 returns : tie.Need-returns
 returns c =
     let z = c .before in
@@ -47,12 +23,12 @@ pub judged-expiry-spec : {M : Type 1} → statement M
 judged-expiry-spec =
     tie.close
     (tie.spec
-    of-requires
-    piece-requires
-    piece-requires-2
-    piece-requires-3
-    piece-requires-4
-    piece-requires-5
-    or-zero-requires
-    group-value-requires
+    (λ c κs. search needs)
+    (λ c κs. search needs)
+    (λ c κs. search needs)
+    (λ c κs. search needs)
+    (λ c κs. search needs)
+    (λ c κs. search needs)
+    (λ c κs. search needs)
+    (λ c κs. search needs)
     returns)

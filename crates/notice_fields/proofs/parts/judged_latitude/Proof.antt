@@ -3,11 +3,8 @@ use borrow.Author.Needs.{needs}
 use Rattle.notice_fields.proofs.parts.judged_latitude.Statement.{statement}
 use Rattle.notice_fields.proofs.parts.judged_latitude.Tie as tie
 
-judged-angle-requires : tie.Need-judged-angle-requires
-judged-angle-requires c κs = search needs
-
 returns : tie.Need-returns
 returns c = c .judged-angle .ensures
 
 pub judged-latitude-spec : {M : Type 1} → statement M
-judged-latitude-spec = tie.close (tie.spec judged-angle-requires returns)
+judged-latitude-spec = tie.close (tie.spec (λ c κs. search needs) returns)

@@ -5,26 +5,11 @@ use Rattle.notice_fields.specs.laws.PartsWalking.{angle-whole, angle-cut
 use Rattle.notice_fields.proofs.parts.latitude.Statement.{statement}
 use Rattle.notice_fields.proofs.parts.latitude.Tie as tie
 
-holds-requires : tie.Need-holds-requires
-holds-requires c κs = search needs
-
-get-requires : tie.Need-get-requires
-get-requires c κs = search needs
-
-judged-latitude-requires : tie.Need-judged-latitude-requires
-judged-latitude-requires c κs = search needs
-
 returns : tie.Need-returns
 returns c =
     let f = c .before .before in
     let a = f .before .before .before .args in
     angle-whole (a .s .now) (a .w) latitudeBits 7 90 (f .before .holds .ensures) (f .if1 .taken) (c .judged-latitude .ensures) (c .before .get .ensures)
-
-cut-angle-requires : tie.Need-cut-angle-requires
-cut-angle-requires c κs = search needs
-
-group-requires : tie.Need-group-requires
-group-requires c κs = search needs
 
 returns-2 : tie.Need-returns-2
 returns-2 c =
@@ -36,10 +21,10 @@ pub latitude-spec : {M : Type 1} → statement M
 latitude-spec =
     tie.close
     (tie.spec
-    holds-requires
-    get-requires
-    judged-latitude-requires
+    (λ c κs. search needs)
+    (λ c κs. search needs)
+    (λ c κs. search needs)
     returns
-    cut-angle-requires
-    group-requires
+    (λ c κs. search needs)
+    (λ c κs. search needs)
     returns-2)

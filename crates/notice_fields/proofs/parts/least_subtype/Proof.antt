@@ -6,9 +6,6 @@ use borrow.Author.Needs.{needs}
 use Rattle.notice_fields.proofs.parts.least_subtype.Statement.{statement}
 use Rattle.notice_fields.proofs.parts.least_subtype.Tie as tie
 
-most-subtype-requires : tie.Need-most-subtype-requires
-most-subtype-requires c κs = search needs
-
 returns : tie.Need-returns
 unfolding leastSubtype
 returns c = let m = c .before in rw (eq-eqb (mostSubtype (m .before .args .kind)) 0 (sym (m .most-subtype .ensures) ∙ c .if1 .taken))
@@ -18,4 +15,4 @@ unfolding leastSubtype
 returns-2 c = let m = c .before in rw (ne-eqb (mostSubtype (m .before .args .kind)) 0 (λ z. c .if1 .left (m .most-subtype .ensures ∙ z)))
 
 pub least-subtype-spec : {M : Type 1} → statement M
-least-subtype-spec = tie.close (tie.spec most-subtype-requires returns returns-2)
+least-subtype-spec = tie.close (tie.spec (λ c κs. search needs) returns returns-2)

@@ -5,26 +5,11 @@ use Rattle.notice_fields.specs.laws.PartsWalking.{angle-whole, angle-cut
 use Rattle.notice_fields.proofs.parts.longitude.Statement.{statement}
 use Rattle.notice_fields.proofs.parts.longitude.Tie as tie
 
-holds-requires : tie.Need-holds-requires
-holds-requires c κs = search needs
-
-get-requires : tie.Need-get-requires
-get-requires c κs = search needs
-
-judged-longitude-requires : tie.Need-judged-longitude-requires
-judged-longitude-requires c κs = search needs
-
 returns : tie.Need-returns
 returns c =
     let f = c .before .before in
     let a = f .before .before .before .args in
     angle-whole (a .s .now) (a .w) longitudeBits 8 180 (f .before .holds .ensures) (f .if1 .taken) (c .judged-longitude .ensures) (c .before .get .ensures)
-
-cut-angle-requires : tie.Need-cut-angle-requires
-cut-angle-requires c κs = search needs
-
-group-requires : tie.Need-group-requires
-group-requires c κs = search needs
 
 returns-2 : tie.Need-returns-2
 returns-2 c =
@@ -36,10 +21,10 @@ pub longitude-spec : {M : Type 1} → statement M
 longitude-spec =
     tie.close
     (tie.spec
-    holds-requires
-    get-requires
-    judged-longitude-requires
+    (λ c κs. search needs)
+    (λ c κs. search needs)
+    (λ c κs. search needs)
     returns
-    cut-angle-requires
-    group-requires
+    (λ c κs. search needs)
+    (λ c κs. search needs)
     returns-2)

@@ -5,21 +5,6 @@ use borrow.Author.Needs.{needs}
 use Rattle.notice_fields.proofs.parts.moment.Statement.{statement}
 use Rattle.notice_fields.proofs.parts.moment.Tie as tie
 
-part-requires : tie.Need-part-requires
-part-requires c κs = search needs
-
-part-requires-2 : tie.Need-part-requires-2
-part-requires-2 c κs = search needs
-
-part-requires-3 : tie.Need-part-requires-3
-part-requires-3 c κs = search needs
-
-part-requires-4 : tie.Need-part-requires-4
-part-requires-4 c κs = search needs
-
-part-requires-5 : tie.Need-part-requires-5
-part-requires-5 c κs = search needs
-
 returns : tie.Need-returns
 returns c =
     let c4 = c .before in
@@ -33,9 +18,9 @@ pub moment-spec : {M : Type 1} → statement M
 moment-spec =
     tie.close
     (tie.spec
-    part-requires
-    part-requires-2
-    part-requires-3
-    part-requires-4
-    part-requires-5
+    (λ c κs. search needs)
+    (λ c κs. search needs)
+    (λ c κs. search needs)
+    (λ c κs. search needs)
+    (λ c κs. search needs)
     returns)

@@ -12,33 +12,12 @@ use Rattle.notice_fields.specs.Shapes.{shapeAs, shapeAt}
 use Rattle.notice_fields.proofs.row.area_at.Statement.{statement}
 use Rattle.notice_fields.proofs.row.area_at.Tie as tie
 
-get-requires : tie.Need-get-requires
-get-requires c κs = search needs
-
-add-t7 : tie.Need-add-t7
-add-t7 c = search needs
-
-add-t8 : tie.Need-add-t8
-add-t8 c = search needs
-
 returns : tie.Need-returns
 unfolding shapeAt
 returns c =
     let g = c .before in
     let a = g .before .before .args in
     ap (λ k. shapeAs k (a .s .now) (a .at)) (sym (kind-sea (sym (g .get .ensures) ∙ c .if1 .taken)))
-
-add-t9 : tie.Need-add-t9
-add-t9 c = search needs
-
-add-t10 : tie.Need-add-t10
-add-t10 c = search needs
-
-add-t11 : tie.Need-add-t11
-add-t11 c = search needs
-
-add-t12 : tie.Need-add-t12
-add-t12 c = search needs
 
 returns-2 : tie.Need-returns-2
 unfolding shapeAt
@@ -47,17 +26,8 @@ returns-2 c =
     let a = g .before .before .args in
     ap (λ k. shapeAs k (a .s .now) (a .at)) (sym (kind-circle (sym (g .get .ensures) ∙ c .if2 .taken)))
 
-add-get : tie.Need-add-get
-add-get c = search needs
-
-get-requires-2 : tie.Need-get-requires-2
-get-requires-2 c κs = search needs
-
 add-t14 : tie.Need-add-t14
 add-t14 c = let a = c .before .before .before .before .before .args in omega (arith, got-lt (a .s .now) (a .at + 3) 4 (c .get2 .ensures))
-
-add-t15 : tie.Need-add-t15
-add-t15 c = search needs
 
 mul-t16 : tie.Need-mul-t16
 mul-t16 c = let a = c .before .before .before .before .before .args in omega (arith, got-lt (a .s .now) (a .at + 3) 4 (c .get2 .ensures))
@@ -91,19 +61,19 @@ pub area-at-spec : {M : Type 1} → statement M
 area-at-spec =
     tie.close
     (tie.spec
-    get-requires
-    add-t7
-    add-t8
+    (λ c κs. search needs)
+    (λ c. search needs)
+    (λ c. search needs)
     returns
-    add-t9
-    add-t10
-    add-t11
-    add-t12
+    (λ c. search needs)
+    (λ c. search needs)
+    (λ c. search needs)
+    (λ c. search needs)
     returns-2
-    add-get
-    get-requires-2
+    (λ c. search needs)
+    (λ c κs. search needs)
     add-t14
-    add-t15
+    (λ c. search needs)
     mul-t16
     add-t17
     mul-t18

@@ -11,9 +11,6 @@ use Rattle.notice_fields.specs.laws.Shapes.{numbers-in}
 use Rattle.notice_fields.proofs.row.fill.Statement.{statement}
 use Rattle.notice_fields.proofs.row.fill.Tie as tie
 
-measure-requires : tie.Need-measure-requires
-measure-requires c κs = search needs
-
 returns : tie.Need-returns
 returns c = let m = c .before in
     let a = m .before .before .before .args in
@@ -28,9 +25,6 @@ store-requires c κs = let m = c .before .before in
     let n = ap (λ (e : Extent). e .numbers) (m .measure .ensures) ∙ numbers-in (a .s .now) (a .count) front in
     omega (arith, n, c .before .if1 .left)
 
-same-length : tie.Need-same-length
-same-length c = search needs
-
 returns-2 : tie.Need-returns-2
 returns-2 c = let m = c .before .before .before .before .before in
     let a = m .before .before .before .args in
@@ -39,4 +33,4 @@ returns-2 c = let m = c .before .before .before .before .before in
     (n, c .before .before .store .ensures ∙ rw (le-leb (length xs) (length (a .row .now)) (omega (arith, n, c .before .before .before .before .if1 .left))) refl)
 
 pub fill-spec : {M : Type 1} → statement M
-fill-spec = tie.close (tie.spec measure-requires returns store-requires same-length returns-2)
+fill-spec = tie.close (tie.spec (λ c κs. search needs) returns store-requires (λ c. search needs) returns-2)

@@ -12,38 +12,20 @@ use Rattle.notice_fields.specs.laws.Rows.{sea-stored, circle-stored, sea
 use Rattle.notice_fields.proofs.row.fill_area.Statement.{statement}
 use Rattle.notice_fields.proofs.row.fill_area.Tie as tie
 
-get-requires : tie.Need-get-requires
-get-requires c κs = search needs
-
 cast-row : tie.Need-cast-row
 cast-row c =
     let a = c .before .before .before .args in
     omega (arith, got-lt (a .s .now) (a .at) 3 (c .get .ensures))
-
-mul-row : tie.Need-mul-row
-mul-row c = search needs
 
 slice-write-row : tie.Need-slice-write-row
 slice-write-row c =
     let a = c .before .before .before .args in
     omega arith
 
-add-get : tie.Need-add-get
-add-get c = search needs
-
-get-requires-2 : tie.Need-get-requires-2
-get-requires-2 c κs = search needs
-
 cast-row-2 : tie.Need-cast-row-2
 cast-row-2 c =
     let a = c .before .before .before .before .before .args in
     omega (arith, got-lt (a .s .now) (a .at + 3) 8 (c .get2 .ensures))
-
-add-row : tie.Need-add-row
-add-row c = search needs
-
-mul-row-2 : tie.Need-mul-row-2
-mul-row-2 c = search needs
 
 slice-write-row-2 : tie.Need-slice-write-row-2
 slice-write-row-2 c =
@@ -53,21 +35,12 @@ slice-write-row-2 c =
     let n = sea-long (a .s .now) (a .row .now) (a .k) (a .at) (g .get .ensures) (i .if1 .taken) in
     simp length-set (omega (arith, n))
 
-same-length : tie.Need-same-length
-same-length c = search needs
-
 returns : tie.Need-returns
 returns c =
     let i = c .before in
     let g = i .before in
     let a = g .before .before .before .args in
     sea-stored (a .s .now) (a .row .now) (a .k) (a .at) (g .get .ensures) (i .if1 .taken) (c .get2 .ensures)
-
-add-fill-points : tie.Need-add-fill-points
-add-fill-points c = search needs
-
-add-fill-points-2 : tie.Need-add-fill-points-2
-add-fill-points-2 c = search needs
 
 fill-points-requires : tie.Need-fill-points-requires
 fill-points-requires c κs =
@@ -77,25 +50,10 @@ fill-points-requires c κs =
     let n = circle-long (a .s .now) (a .row .now) (a .k) (a .at) (g .get .ensures) (i .if2 .taken) in
     (omega arith, omega arith, simp length-set (omega (arith, n)))
 
-add-get-2 : tie.Need-add-get-2
-add-get-2 c = search needs
-
-add-get-3 : tie.Need-add-get-3
-add-get-3 c = search needs
-
-get-requires-3 : tie.Need-get-requires-3
-get-requires-3 c κs = search needs
-
 cast-row-3 : tie.Need-cast-row-3
 cast-row-3 c =
     let a = c .before .before .before .before .before .before .before .before .before .before .args in
     omega (arith, got-lt (a .s .now) (a .at + 3 + pointBits) 10 (c .get3 .ensures))
-
-add-row-2 : tie.Need-add-row-2
-add-row-2 c = search needs
-
-mul-row-3 : tie.Need-mul-row-3
-mul-row-3 c = search needs
 
 slice-write-row-3 : tie.Need-slice-write-row-3
 slice-write-row-3 c =
@@ -106,28 +64,10 @@ slice-write-row-3 c =
     let n = circle-long (a .s .now) (a .row .now) (a .k) (a .at) (g .get .ensures) (i .if2 .taken) in
     omega (arith, n, ap length (p .fill-points .ensures) ∙ length-sets (set (a .row .now) (a .k) (g .get .result)) (a .k + 1) (pointsAt (a .s .now) 1 (a .at + 3)), length-set (a .row .now) (a .k) (g .get .result))
 
-add-get-4 : tie.Need-add-get-4
-add-get-4 c = search needs
-
-add-get-5 : tie.Need-add-get-5
-add-get-5 c = search needs
-
-add-get-6 : tie.Need-add-get-6
-add-get-6 c = search needs
-
-get-requires-4 : tie.Need-get-requires-4
-get-requires-4 c κs = search needs
-
 cast-row-4 : tie.Need-cast-row-4
 cast-row-4 c =
     let a = c .before .before .before .before .before .before .before .before .before .before .before .args in
     omega (arith, got-lt (a .s .now) (a .at + 3 + pointBits + 10) 2 (c .get4 .ensures))
-
-add-row-3 : tie.Need-add-row-3
-add-row-3 c = search needs
-
-mul-row-4 : tie.Need-mul-row-4
-mul-row-4 c = search needs
 
 slice-write-row-4 : tie.Need-slice-write-row-4
 slice-write-row-4 c =
@@ -154,22 +94,10 @@ returns-2 c =
     let a = g .before .before .before .args in
     circle-stored (a .s .now) (a .row .now) (a .k) (a .at) (g .get .ensures) (i .if2 .taken) (p .fill-points .ensures) (g3 .get3 .ensures) (c .get4 .ensures)
 
-add-get-7 : tie.Need-add-get-7
-add-get-7 c = search needs
-
-get-requires-5 : tie.Need-get-requires-5
-get-requires-5 c κs = search needs
-
 cast-row-5 : tie.Need-cast-row-5
 cast-row-5 c =
     let a = c .before .before .before .before .before .before .args in
     omega (arith, got-lt (a .s .now) (a .at + 3) 4 (c .get5 .ensures))
-
-add-row-4 : tie.Need-add-row-4
-add-row-4 c = search needs
-
-mul-row-5 : tie.Need-mul-row-5
-mul-row-5 c = search needs
 
 slice-write-row-5 : tie.Need-slice-write-row-5
 slice-write-row-5 c =
@@ -178,12 +106,6 @@ slice-write-row-5 c =
     let a = g .before .before .before .args in
     let n = several-long (a .s .now) (a .row .now) (a .k) (a .at) (g .get .ensures) (i .before .if1 .left) (i .if2 .left) (c .get5 .ensures) in
     simp length-set (omega (arith, n))
-
-add-fill-points-3 : tie.Need-add-fill-points-3
-add-fill-points-3 c = search needs
-
-add-fill-points-4 : tie.Need-add-fill-points-4
-add-fill-points-4 c = search needs
 
 fill-points-requires-2 : tie.Need-fill-points-requires-2
 fill-points-requires-2 c κs =
@@ -215,46 +137,46 @@ pub fill-area-spec : {M : Type 1} → statement M
 fill-area-spec =
     tie.close
     (tie.spec
-    get-requires
+    (λ c κs. search needs)
     cast-row
-    mul-row
+    (λ c. search needs)
     slice-write-row
-    add-get
-    get-requires-2
+    (λ c. search needs)
+    (λ c κs. search needs)
     cast-row-2
-    add-row
-    mul-row-2
+    (λ c. search needs)
+    (λ c. search needs)
     slice-write-row-2
-    same-length
+    (λ c. search needs)
     returns
-    add-fill-points
-    add-fill-points-2
+    (λ c. search needs)
+    (λ c. search needs)
     fill-points-requires
-    add-get-2
-    add-get-3
-    get-requires-3
+    (λ c. search needs)
+    (λ c. search needs)
+    (λ c κs. search needs)
     cast-row-3
-    add-row-2
-    mul-row-3
+    (λ c. search needs)
+    (λ c. search needs)
     slice-write-row-3
-    add-get-4
-    add-get-5
-    add-get-6
-    get-requires-4
+    (λ c. search needs)
+    (λ c. search needs)
+    (λ c. search needs)
+    (λ c κs. search needs)
     cast-row-4
-    add-row-3
-    mul-row-4
+    (λ c. search needs)
+    (λ c. search needs)
     slice-write-row-4
     same-length-2
     returns-2
-    add-get-7
-    get-requires-5
+    (λ c. search needs)
+    (λ c κs. search needs)
     cast-row-5
-    add-row-4
-    mul-row-5
+    (λ c. search needs)
+    (λ c. search needs)
     slice-write-row-5
-    add-fill-points-3
-    add-fill-points-4
+    (λ c. search needs)
+    (λ c. search needs)
     fill-points-requires-2
     same-length-3
     returns-3)

@@ -4,21 +4,6 @@ use Rattle.outline.specs.laws.Angles.{minus-fits, angle-kept, angle-turn
 use Rattle.outline.proofs.angles.angle.Statement.{statement}
 use Rattle.outline.proofs.angles.angle.Tie as tie
 
-mul-size : tie.Need-mul-size
-mul-size c = search needs
-
-add-size : tie.Need-add-size
-add-size c = search needs
-
-mul-size-2 : tie.Need-mul-size-2
-mul-size-2 c = search needs
-
-add-size-2 : tie.Need-add-size-2
-add-size-2 c = search needs
-
-cast-size : tie.Need-cast-size
-cast-size c = search needs
-
 returns : tie.Need-returns
 returns c = let st = c .before in angle-kept (st .args .degrees) (st .args .v) (st .pre) (c .if1 .taken)
 
@@ -31,4 +16,4 @@ returns-2 c = let st = c .before in angle-turned (st .args .degrees) (st .args .
 pub angle-spec : {M : Type 1} → statement M
 angle-spec =
     tie.close
-    (tie.spec mul-size add-size mul-size-2 add-size-2 cast-size returns sub-result returns-2)
+    (tie.spec (λ c. search needs) (λ c. search needs) (λ c. search needs) (λ c. search needs) (λ c. search needs) returns sub-result returns-2)

@@ -22,27 +22,6 @@ use Rattle.packet.proofs.correcting.correct.Tie as tie
 abbrev Shown : Packet × List ℕ → Answer
 Shown r = Good (r .0)
 
-read-requires : tie.Need-read-requires
-read-requires c κs = search needs
-
-slice-aggregate-look-up : tie.Need-slice-aggregate-look-up
-slice-aggregate-look-up c = search needs
-
-slice-aggregate-look-up-2 : tie.Need-slice-aggregate-look-up-2
-slice-aggregate-look-up-2 c = search needs
-
-look-up-requires : tie.Need-look-up-requires
-look-up-requires c κs = search needs
-
-refusal-requires : tie.Need-refusal-requires
-refusal-requires c κs = search needs
-
-admits-requires : tie.Need-admits-requires
-admits-requires c κs = search needs
-
-same-length : tie.Need-same-length
-same-length c = search needs
-
 returns : tie.Need-returns
 unfolding packets slim
 returns c =
@@ -55,21 +34,6 @@ returns c =
     family-early family Shown Refused numberOf (λ r. refl) (λ c. refl) (a .buf .now) (a .field) (a .value) _ _ (was .read .ensures) (number .refusal .ensures)
     (λ r e. table-stands places widths (a .field) (look .look-up .ensures) (packets .fmt) (valuesOf r) refl (along r)) (table-slim places widths (a .field) (look .look-up .ensures) refl)
     (admits .admits .ensures) (c .if1 .taken)
-
-swap-requires : tie.Need-swap-requires
-swap-requires c κs = search needs
-
-fields-requires : tie.Need-fields-requires
-fields-requires c κs = search needs
-
-refusal-requires-2 : tie.Need-refusal-requires-2
-refusal-requires-2 c κs = search needs
-
-settle-requires : tie.Need-settle-requires
-settle-requires c κs = search needs
-
-same-length-2 : tie.Need-same-length-2
-same-length-2 c = search needs
 
 returns-2 : tie.Need-returns-2
 unfolding packets slim
@@ -98,17 +62,17 @@ pub correct-spec : {M : Type 1} → statement M
 correct-spec =
     tie.close
     (tie.spec
-    read-requires
-    slice-aggregate-look-up
-    slice-aggregate-look-up-2
-    look-up-requires
-    refusal-requires
-    admits-requires
-    same-length
+    (λ c κs. search needs)
+    (λ c. search needs)
+    (λ c. search needs)
+    (λ c κs. search needs)
+    (λ c κs. search needs)
+    (λ c κs. search needs)
+    (λ c. search needs)
     returns
-    swap-requires
-    fields-requires
-    refusal-requires-2
-    settle-requires
-    same-length-2
+    (λ c κs. search needs)
+    (λ c κs. search needs)
+    (λ c κs. search needs)
+    (λ c κs. search needs)
+    (λ c. search needs)
     returns-2)

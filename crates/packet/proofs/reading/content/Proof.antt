@@ -5,15 +5,6 @@ use borrow.Author.Needs.{needs}
 use Rattle.packet.proofs.reading.content.Statement.{statement}
 use Rattle.packet.proofs.reading.content.Tie as tie
 
-read-requires : tie.Need-read-requires
-read-requires c κs = search needs
-
-refusal-requires : tie.Need-refusal-requires
-refusal-requires c κs = search needs
-
-slice-aggregate-result : tie.Need-slice-aggregate-result
-slice-aggregate-result c = search needs
-
 returns : tie.Need-returns
 returns c =
     let number = c .before .before in
@@ -39,9 +30,6 @@ part-result-start c =
     let (n, is) = shown s (read .read .ensures) (number .refusal .ensures) (λ i. known .shared-slice-known .given i .fits) (c .if1 .left) in
     omega (arith, n)
 
-part-result-end : tie.Need-part-result-end
-part-result-end c = search needs
-
 returns-2 : tie.Need-returns-2
 returns-2 c =
     let number = c .before .before in
@@ -55,11 +43,11 @@ pub content-spec : {M : Type 1} → statement M
 content-spec =
     tie.close
     (tie.spec
-    read-requires
-    refusal-requires
-    slice-aggregate-result
+    (λ c κs. search needs)
+    (λ c κs. search needs)
+    (λ c. search needs)
     returns
     sub-result
     part-result-start
-    part-result-end
+    (λ c. search needs)
     returns-2)

@@ -21,12 +21,6 @@ use borrow.Author.Needs.{needs}
 use Rattle.packet.proofs.reading.fields.Statement.{statement}
 use Rattle.packet.proofs.reading.fields.Tie as tie
 
-none-requires : tie.Need-none-requires
-none-requires c κs = search needs
-
-choose-requires : tie.Need-choose-requires
-choose-requires c κs = search needs
-
 -- a packet of another size is refused, by the first tests or by its size
 other : (lead : ℕ) (s : List ℕ) {b : Bool} {r : ℕ} → b ≡ eqb lead 0 → r ≡ cond b 1 lead → (5 ≤ length s → length s ≤ greatest → ⊥) → Refused r ≡ answerOf (also recordOf (fieldsOf packet 5 greatest lead s))
 other lead s e is n = ap Refused (is ∙ ap (λ x. cond x 1 lead) e) ∙ sym (ap (λ o. answerOf (also recordOf o)) (other-size packet 5 greatest lead s n))
@@ -42,63 +36,6 @@ returns-2 c =
     let x = c .before .before in
     let a = x .before .before .before .args in
     other (a .lead) (a .s .now) (x .before .none .ensures) (x .choose .ensures) (λ l u. omega (arith, u, c .if2 .taken))
-
-sub-content : tie.Need-sub-content
-sub-content c = search needs
-
-cast-content : tie.Need-cast-content
-cast-content c = search needs
-
-mul-content : tie.Need-mul-content
-mul-content c = search needs
-
-begin-requires : tie.Need-begin-requires
-begin-requires c κs = search needs
-
-code-requires : tie.Need-code-requires
-code-requires c κs = search needs
-
-code-requires-2 : tie.Need-code-requires-2
-code-requires-2 c κs = search needs
-
-num-requires : tie.Need-num-requires
-num-requires c κs = search needs
-
-cast-language : tie.Need-cast-language
-cast-language c = search needs
-
-num-requires-2 : tie.Need-num-requires-2
-num-requires-2 c κs = search needs
-
-cast-number : tie.Need-cast-number
-cast-number c = search needs
-
-num-requires-3 : tie.Need-num-requires-3
-num-requires-3 c κs = search needs
-
-cast-total : tie.Need-cast-total
-cast-total c = search needs
-
-last-requires : tie.Need-last-requires
-last-requires c κs = search needs
-
-num-requires-4 : tie.Need-num-requires-4
-num-requires-4 c κs = search needs
-
-cast-own : tie.Need-cast-own
-cast-own c = search needs
-
-rest-requires : tie.Need-rest-requires
-rest-requires c κs = search needs
-
-content-requires : tie.Need-content-requires
-content-requires c κs = search needs
-
-end-requires : tie.Need-end-requires
-end-requires c κs = search needs
-
-told-requires : tie.Need-told-requires
-told-requires c κs = search needs
 
 returns-3 : tie.Need-returns-3
 unfolding packet recordOf
@@ -137,27 +74,27 @@ pub fields-spec : {M : Type 1} → statement M
 fields-spec =
     tie.close
     (tie.spec
-    none-requires
-    choose-requires
+    (λ c κs. search needs)
+    (λ c κs. search needs)
     returns
     returns-2
-    sub-content
-    cast-content
-    mul-content
-    begin-requires
-    code-requires
-    code-requires-2
-    num-requires
-    cast-language
-    num-requires-2
-    cast-number
-    num-requires-3
-    cast-total
-    last-requires
-    num-requires-4
-    cast-own
-    rest-requires
-    content-requires
-    end-requires
-    told-requires
+    (λ c. search needs)
+    (λ c. search needs)
+    (λ c. search needs)
+    (λ c κs. search needs)
+    (λ c κs. search needs)
+    (λ c κs. search needs)
+    (λ c κs. search needs)
+    (λ c. search needs)
+    (λ c κs. search needs)
+    (λ c. search needs)
+    (λ c κs. search needs)
+    (λ c. search needs)
+    (λ c κs. search needs)
+    (λ c κs. search needs)
+    (λ c. search needs)
+    (λ c κs. search needs)
+    (λ c κs. search needs)
+    (λ c κs. search needs)
+    (λ c κs. search needs)
     returns-3)

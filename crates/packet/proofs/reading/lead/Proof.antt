@@ -15,9 +15,6 @@ returns : tie.Need-returns
 unfolding packets
 returns c = rw (lt-leb 5 (length (c .before .before .args .s .now)) (c .if1 .taken)) refl
 
-get-requires : tie.Need-get-requires
-get-requires c κs = search needs
-
 returns-2 : tie.Need-returns-2
 unfolding packets
 returns-2 c =
@@ -25,9 +22,6 @@ returns-2 c =
     let s = g .before .before .before .args .s .now in
     let e : g .get .result ≡ fieldAt s 0 8 = g .get .ensures ∙ got-fits s 0 8 (lit≤ tt) (omega arith) in
     rw (le-leb 5 (length s) (omega arith), ne-eqb (fieldAt s 0 8) 0xE1 (λ z. c .if2 .taken (e ∙ z))) refl
-
-get-requires-2 : tie.Need-get-requires-2
-get-requires-2 c κs = search needs
 
 returns-3 : tie.Need-returns-3
 unfolding packets
@@ -62,4 +56,4 @@ returns-5 c =
 pub lead-spec : {M : Type 1} → statement M
 lead-spec =
     tie.close
-    (tie.spec returns get-requires returns-2 get-requires-2 returns-3 returns-4 returns-5)
+    (tie.spec returns (λ c κs. search needs) returns-2 (λ c κs. search needs) returns-3 returns-4 returns-5)

@@ -8,12 +8,6 @@ use borrow.Author.Needs.{needs}
 use Rattle.packet.proofs.reading.read.Statement.{statement}
 use Rattle.packet.proofs.reading.read.Tie as tie
 
-lead-requires : tie.Need-lead-requires
-lead-requires c κs = search needs
-
-fields-requires : tie.Need-fields-requires
-fields-requires c κs = search needs
-
 returns : tie.Need-returns
 unfolding packets
 returns c =
@@ -22,4 +16,4 @@ returns c =
     c .fields .ensures ∙ ap (λ o. answerOf (also recordOf o)) (sized-fields packet 5 greatest (lead .lead .result) s (λ z. sized s (sym (lead .lead .ensures) ∙ z)) ∙ sym (read-first packets s (lead .lead .ensures)))
 
 pub read-spec : {M : Type 1} → statement M
-read-spec = tie.close (tie.spec lead-requires fields-requires returns)
+read-spec = tie.close (tie.spec (λ c κs. search needs) (λ c κs. search needs) returns)

@@ -9,18 +9,6 @@ use borrow.Author.Needs.{needs}
 use Rattle.packet.proofs.splitting.part.Statement.{statement}
 use Rattle.packet.proofs.splitting.part.Tie as tie
 
-mul-rest : tie.Need-mul-rest
-mul-rest c = search needs
-
-sub-rest : tie.Need-sub-rest
-sub-rest c = search needs
-
-part-rest-start : tie.Need-part-rest-start
-part-rest-start c = search needs
-
-part-rest-end : tie.Need-part-rest-end
-part-rest-end c = search needs
-
 returns : tie.Need-returns
 returns c =
     let i = c .before .before in
@@ -47,10 +35,10 @@ pub part-spec : {M : Type 1} → statement M
 part-spec =
     tie.close
     (tie.spec
-    mul-rest
-    sub-rest
-    part-rest-start
-    part-rest-end
+    (λ c. search needs)
+    (λ c. search needs)
+    (λ c. search needs)
+    (λ c. search needs)
     returns
     slice-aggregate-result
     returns-2)

@@ -34,12 +34,6 @@ returns-2 c =
     let m : splitting s x (a .english) (a .number) (a .packet) ≡ refused 1 0 = rw (lt-leb (length x) joined (c .if2 .taken), and-false) refl in
     refuses m
 
-sub-count : tie.Need-sub-count
-sub-count c = search needs
-
-add-count : tie.Need-add-count
-add-count c = search needs
-
 returns-3 : tie.Need-returns-3
 unfolding splitting
 returns-3 c =
@@ -52,23 +46,8 @@ returns-3 c =
     let m : splitting s x (a .english) (a .number) (a .packet) ≡ refused 4 0 = rw (le-leb 1 (length x) (omega (arith, short .if1 .left)), le-leb (length x) joined (omega (arith, long .if2 .left)), le-ltb (a .packet) (packetCount (length x)) (omega (arith, c .if3 .taken, short .if1 .left))) refl in
     refuses m
 
-language-requires : tie.Need-language-requires
-language-requires c κs = search needs
-
-cast-total : tie.Need-cast-total
-cast-total c = search needs
-
-cast-own : tie.Need-cast-own
-cast-own c = search needs
-
 part-requires : tie.Need-part-requires
 part-requires c κs = search needs
-
-write-requires : tie.Need-write-requires
-write-requires c κs = search needs
-
-same-length : tie.Need-same-length
-same-length c = search needs
 
 returns-4 : tie.Need-returns-4
 unfolding splitting
@@ -98,13 +77,13 @@ split-spec =
     (tie.spec
     returns
     returns-2
-    sub-count
-    add-count
+    (λ c. search needs)
+    (λ c. search needs)
     returns-3
-    language-requires
-    cast-total
-    cast-own
+    (λ c κs. search needs)
+    (λ c. search needs)
+    (λ c. search needs)
     part-requires
-    write-requires
-    same-length
+    (λ c κs. search needs)
+    (λ c. search needs)
     returns-4)

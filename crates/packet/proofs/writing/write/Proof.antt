@@ -6,12 +6,6 @@ use borrow.Author.Needs.{needs}
 use Rattle.packet.proofs.writing.write.Statement.{statement}
 use Rattle.packet.proofs.writing.write.Tie as tie
 
-judged-requires : tie.Need-judged-requires
-judged-requires c κs = search needs
-
-closes-before-requires : tie.Need-closes-before-requires
-closes-before-requires c κs = search needs
-
 returns : tie.Need-returns
 unfolding packets
 returns c =
@@ -20,12 +14,6 @@ returns c =
     let i = j .before .before .before in
     let a = i .args in
     write-refused packets (valuesOf (a .r, a .content .now)) (a .buf .now) (j .judged .ensures (a .content .now)) (closes .closes-before .ensures) (c .if1 .taken)
-
-put-requires : tie.Need-put-requires
-put-requires c κs = search needs
-
-same-length : tie.Need-same-length
-same-length c = search needs
 
 returns-2 : tie.Need-returns-2
 unfolding packets
@@ -41,4 +29,4 @@ returns-2 c =
 pub write-spec : {M : Type 1} → statement M
 write-spec =
     tie.close
-    (tie.spec judged-requires closes-before-requires returns put-requires same-length returns-2)
+    (tie.spec (λ c κs. search needs) (λ c κs. search needs) returns (λ c κs. search needs) (λ c. search needs) returns-2)

@@ -6,9 +6,6 @@ use Rattle.places.specs.Places.{serves}
 use Rattle.places.proofs.Place.clashes.Statement.{statement}
 use Rattle.places.proofs.Place.clashes.Tie as tie
 
-serves-requires : tie.Need-serves-requires
-serves-requires c κs = search needs
-
 returns : tie.Need-returns
 returns c = c .serves .ensures ∙ sym (rw (c .before .if1 .taken) refl)
 
@@ -16,4 +13,4 @@ returns-2 : tie.Need-returns-2
 returns-2 c = sym (rw (c .if1 .left) refl)
 
 pub clashes-spec : {M : Type 1} → statement M
-clashes-spec = tie.close (tie.spec serves-requires returns returns-2)
+clashes-spec = tie.close (tie.spec (λ c κs. search needs) returns returns-2)

@@ -13,19 +13,13 @@ returns : tie.Need-returns
 unfolding goodPlace
 returns c = sym (rw (lt-leb 1 (c .before .before .args .self .total) (c .if1 .taken)) refl)
 
-cast-if2 : tie.Need-cast-if2
-cast-if2 c = search needs
-
 returns-2 : tie.Need-returns-2
 unfolding goodPlace
 returns-2 c = let p = c .before .before .before .before .args .self in sym (rw (le-leb 1 (p .total) (omega arith), lt-leb (p .total) mostPackets (c .if2 .taken)) refl)
-
-entries-good-requires : tie.Need-entries-good-requires
-entries-good-requires c κs = search needs
 
 returns-3 : tie.Need-returns-3
 unfolding goodPlace
 returns-3 c = let t = c .before in let p = t .before .before .before .before .args .self in c .entries-good .ensures ∙ sym (rw (le-leb 1 (p .total) (omega arith), le-leb (p .total) mostPackets (omega arith)) refl)
 
 pub good-spec : {M : Type 1} → statement M
-good-spec = tie.close (tie.spec returns cast-if2 returns-2 entries-good-requires returns-3)
+good-spec = tie.close (tie.spec returns (λ c. search needs) returns-2 (λ c κs. search needs) returns-3)

@@ -20,70 +20,10 @@ returns c = let a = c .before .before .before in
     let n = summed-long (a .args .digits .now) (a .args .bytes) (size a) in
     (sym (lt-leb (length (summedUp (opening (a .args .digits .now) (a .args .bytes)))) (length (a .args .buf .now)) (omega arith)), refl)
 
-sub-if2 : tie.Need-sub-if2
-sub-if2 c = search needs
-
 returns-2 : tie.Need-returns-2
 returns-2 c = let a = c .before .before .before .before in
     let n = summed-long (a .args .digits .now) (a .args .bytes) (size a) in
     (sym (lt-leb (length (summedUp (opening (a .args .digits .now) (a .args .bytes)))) (length (a .args .buf .now)) (omega arith)), refl)
-
-hex-requires : tie.Need-hex-requires
-hex-requires c κs = search needs
-
-add-mark : tie.Need-add-mark
-add-mark c = search needs
-
-add-star : tie.Need-add-star
-add-star c = search needs
-
-slice-aggregate-put : tie.Need-slice-aggregate-put
-slice-aggregate-put c = search needs
-
-put-requires : tie.Need-put-requires
-put-requires c κs = search needs
-
-put-requires-2 : tie.Need-put-requires-2
-put-requires-2 c κs = search needs
-
-slice-aggregate-put-2 : tie.Need-slice-aggregate-put-2
-slice-aggregate-put-2 c = search needs
-
-put-requires-3 : tie.Need-put-requires-3
-put-requires-3 c κs = search needs
-
-add-put : tie.Need-add-put
-add-put c = search needs
-
-slice-aggregate-put-3 : tie.Need-slice-aggregate-put-3
-slice-aggregate-put-3 c = search needs
-
-put-requires-4 : tie.Need-put-requires-4
-put-requires-4 c κs = search needs
-
-sub-xor : tie.Need-sub-xor
-sub-xor c = search needs
-
-part-xor-start : tie.Need-part-xor-start
-part-xor-start c = search needs
-
-part-xor-end : tie.Need-part-xor-end
-part-xor-end c = search needs
-
-xor-requires : tie.Need-xor-requires
-xor-requires c κs = search needs
-
-closing-requires : tie.Need-closing-requires
-closing-requires c κs = search needs
-
-slice-aggregate-put-4 : tie.Need-slice-aggregate-put-4
-slice-aggregate-put-4 c = search needs
-
-put-requires-5 : tie.Need-put-requires-5
-put-requires-5 c κs = search needs
-
-same-length : tie.Need-same-length
-same-length c = search needs
 
 returns-3 : tie.Need-returns-3
 returns-3 c = let p5 = c .before .before in
@@ -109,25 +49,25 @@ lay-spec =
     tie.close
     (tie.spec
     returns
-    sub-if2
+    (λ c. search needs)
     returns-2
-    hex-requires
-    add-mark
-    add-star
-    slice-aggregate-put
-    put-requires
-    put-requires-2
-    slice-aggregate-put-2
-    put-requires-3
-    add-put
-    slice-aggregate-put-3
-    put-requires-4
-    sub-xor
-    part-xor-start
-    part-xor-end
-    xor-requires
-    closing-requires
-    slice-aggregate-put-4
-    put-requires-5
-    same-length
+    (λ c κs. search needs)
+    (λ c. search needs)
+    (λ c. search needs)
+    (λ c. search needs)
+    (λ c κs. search needs)
+    (λ c κs. search needs)
+    (λ c. search needs)
+    (λ c κs. search needs)
+    (λ c. search needs)
+    (λ c. search needs)
+    (λ c κs. search needs)
+    (λ c. search needs)
+    (λ c. search needs)
+    (λ c. search needs)
+    (λ c κs. search needs)
+    (λ c κs. search needs)
+    (λ c. search needs)
+    (λ c κs. search needs)
+    (λ c. search needs)
     returns-3)

@@ -27,9 +27,6 @@ marked c = sym (c .before .same .ensures) ∙ not-false (c .before .same .result
 figured : (c : tie.Else3) → allDigits 16 (hexPart (c .before .before .before .before .before .before .before .before .before .before .args .s .now)) ≡ true
 figured c = sym (c .before .all-digits .ensures) ∙ not-false (c .before .all-digits .result) (c .if3 .left)
 
-lead-requires : tie.Need-lead-requires
-lead-requires c κs = search needs
-
 returns : tie.Need-returns
 returns c =
     let l = c .before in
@@ -50,12 +47,6 @@ part-same-start c = omega (arith, long c)
 part-same-end : tie.Need-part-same-end
 part-same-end c = omega (arith, long c)
 
-slice-aggregate-same : tie.Need-slice-aggregate-same
-slice-aggregate-same c = search needs
-
-same-requires : tie.Need-same-requires
-same-requires c κs = search needs
-
 returns-2 : tie.Need-returns-2
 returns-2 c =
     let p = c .before in
@@ -68,18 +59,6 @@ sub-all-digits c = omega (arith, long (c .before .before .before .before))
 
 sub-all-digits-2 : tie.Need-sub-all-digits-2
 sub-all-digits-2 c = omega (arith, long (c .before .before .before .before))
-
-sub-all-digits-3 : tie.Need-sub-all-digits-3
-sub-all-digits-3 c = search needs
-
-part-all-digits-start : tie.Need-part-all-digits-start
-part-all-digits-start c = search needs
-
-part-all-digits-end : tie.Need-part-all-digits-end
-part-all-digits-end c = search needs
-
-all-digits-requires : tie.Need-all-digits-requires
-all-digits-requires c κs = search needs
 
 returns-3 : tie.Need-returns-3
 returns-3 c =
@@ -97,9 +76,6 @@ sub-address-2 c = omega (arith, long (c .before .before .before .before .before 
 
 part-address-start : tie.Need-part-address-start
 part-address-start c = omega (arith, long (c .before .before .before .before .before .before .before))
-
-part-address-end : tie.Need-part-address-end
-part-address-end c = search needs
 
 address-requires : tie.Need-address-requires
 address-requires c κs =
@@ -131,27 +107,27 @@ pub accept-spec : {M : Type 1} → statement M
 accept-spec =
     tie.close
     (tie.spec
-    lead-requires
+    (λ c κs. search needs)
     returns
     sub-same
     sub-same-2
     sub-same-3
     part-same-start
     part-same-end
-    slice-aggregate-same
-    same-requires
+    (λ c. search needs)
+    (λ c κs. search needs)
     returns-2
     sub-all-digits
     sub-all-digits-2
-    sub-all-digits-3
-    part-all-digits-start
-    part-all-digits-end
-    all-digits-requires
+    (λ c. search needs)
+    (λ c. search needs)
+    (λ c. search needs)
+    (λ c κs. search needs)
     returns-3
     sub-address
     sub-address-2
     part-address-start
-    part-address-end
+    (λ c. search needs)
     address-requires
     returns-4
     returns-5)

@@ -5,17 +5,8 @@ use Rattle.sentence.specs.laws.Tests.{address-zero, address-other, addre
 use Rattle.sentence.proofs.pattern.address.Statement.{statement}
 use Rattle.sentence.proofs.pattern.address.Tie as tie
 
-shared-slice-read-if1 : tie.Need-shared-slice-read-if1
-shared-slice-read-if1 c = search needs
-
 returns : tie.Need-returns
 returns c = rw (address-zero (c .before .before .before .args .part .now) (c .if1 .taken))
-
-all-digits-requires : tie.Need-all-digits-requires
-all-digits-requires c κs = search needs
-
-number-requires : tie.Need-number-requires
-number-requires c κs = search needs
 
 returns-2 : tie.Need-returns-2
 returns-2 c =
@@ -32,9 +23,9 @@ pub address-spec : {M : Type 1} → statement M
 address-spec =
     tie.close
     (tie.spec
-    shared-slice-read-if1
+    (λ c. search needs)
     returns
-    all-digits-requires
-    number-requires
+    (λ c κs. search needs)
+    (λ c κs. search needs)
     returns-2
     returns-3)

@@ -19,9 +19,6 @@ returns-3 : tie.Need-returns-3
 unfolding digitValue
 returns-3 c = let n = c .before .before .before .args .c in rw (lt-leb n 57 (omega arith), le-leb 48 n (omega arith), lt-leb 97 n (omega arith))
 
-sub-result : tie.Need-sub-result
-sub-result c = search needs
-
 returns-4 : tie.Need-returns-4
 returns-4 c = sym (value-high (c .before .before .before .before .args .c) (omega arith) (omega arith))
 
@@ -30,4 +27,4 @@ unfolding digitValue
 returns-5 c = let n = c .before .before .before .before .args .c in rw (lt-leb n 57 (omega arith), le-leb 48 n (omega arith), lt-leb n 102 (omega arith), le-leb 97 n (omega arith))
 
 pub digit-value-spec : {M : Type 1} → statement M
-digit-value-spec = tie.close (tie.spec returns returns-2 returns-3 sub-result returns-4 returns-5)
+digit-value-spec = tie.close (tie.spec returns returns-2 returns-3 (λ c. search needs) returns-4 returns-5)

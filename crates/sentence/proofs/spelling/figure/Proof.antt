@@ -5,17 +5,11 @@ use Rattle.sentence.specs.laws.Digits.{figure-low, figure-high}
 use Rattle.sentence.proofs.spelling.figure.Statement.{statement}
 use Rattle.sentence.proofs.spelling.figure.Tie as tie
 
-add-result : tie.Need-add-result
-add-result c = search needs
-
 returns : tie.Need-returns
 returns c = sym (figure-low (c .before .args .ten) (c .before .args .n) (search needs))
-
-add-result-2 : tie.Need-add-result-2
-add-result-2 c = search needs
 
 returns-2 : tie.Need-returns-2
 returns-2 c = sym (figure-high (c .before .args .ten) (c .before .args .n) (search needs))
 
 pub figure-spec : {M : Type 1} → statement M
-figure-spec = tie.close (tie.spec add-result returns add-result-2 returns-2)
+figure-spec = tie.close (tie.spec (λ c. search needs) returns (λ c. search needs) returns-2)

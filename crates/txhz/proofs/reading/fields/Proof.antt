@@ -16,57 +16,12 @@ use borrow.Author.Needs.{needs}
 use Rattle.txhz.proofs.reading.fields.Statement.{statement}
 use Rattle.txhz.proofs.reading.fields.Tie as tie
 
-none-requires : tie.Need-none-requires
-none-requires c κs = search needs
-
-choose-requires : tie.Need-choose-requires
-choose-requires c κs = search needs
-
 returns : tie.Need-returns
 returns c =
     let test = c .before .before in
     let a = test .before .before .args in
     ap Refused (c .choose .ensures ∙ ap (λ x. cond x 1 (a .code)) (c .before .none .ensures))
     ∙ sym (ap (λ o. answerOf (also recordOf o)) (other-size txhz 34 34 (a .code) (a .s .now) (λ l u. test .if1 .taken (omega (arith, l, u)))))
-
-head-requires : tie.Need-head-requires
-head-requires c κs = search needs
-
-cast-address : tie.Need-cast-address
-cast-address c = search needs
-
-num-requires : tie.Need-num-requires
-num-requires c κs = search needs
-
-cast-receiver : tie.Need-cast-receiver
-cast-receiver c = search needs
-
-num-requires-2 : tie.Need-num-requires-2
-num-requires-2 c κs = search needs
-
-cast-count : tie.Need-cast-count
-cast-count c = search needs
-
-read-receipt-requires : tie.Need-read-receipt-requires
-read-receipt-requires c κs = search needs
-
-read-receipt-requires-2 : tie.Need-read-receipt-requires-2
-read-receipt-requires-2 c κs = search needs
-
-read-receipt-requires-3 : tie.Need-read-receipt-requires-3
-read-receipt-requires-3 c κs = search needs
-
-read-receipt-requires-4 : tie.Need-read-receipt-requires-4
-read-receipt-requires-4 c κs = search needs
-
-read-receipt-requires-5 : tie.Need-read-receipt-requires-5
-read-receipt-requires-5 c κs = search needs
-
-end-requires : tie.Need-end-requires
-end-requires c κs = search needs
-
-told-requires : tie.Need-told-requires
-told-requires c κs = search needs
 
 returns-2 : tie.Need-returns-2
 unfolding txhz recordOf
@@ -99,20 +54,20 @@ pub fields-spec : {M : Type 1} → statement M
 fields-spec =
     tie.close
     (tie.spec
-    none-requires
-    choose-requires
+    (λ c κs. search needs)
+    (λ c κs. search needs)
     returns
-    head-requires
-    cast-address
-    num-requires
-    cast-receiver
-    num-requires-2
-    cast-count
-    read-receipt-requires
-    read-receipt-requires-2
-    read-receipt-requires-3
-    read-receipt-requires-4
-    read-receipt-requires-5
-    end-requires
-    told-requires
+    (λ c κs. search needs)
+    (λ c. search needs)
+    (λ c κs. search needs)
+    (λ c. search needs)
+    (λ c κs. search needs)
+    (λ c. search needs)
+    (λ c κs. search needs)
+    (λ c κs. search needs)
+    (λ c κs. search needs)
+    (λ c κs. search needs)
+    (λ c κs. search needs)
+    (λ c κs. search needs)
+    (λ c κs. search needs)
     returns-2)

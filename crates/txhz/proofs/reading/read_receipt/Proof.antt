@@ -5,30 +5,6 @@ use borrow.Author.Needs.{needs}
 use Rattle.txhz.proofs.reading.read_receipt.Statement.{statement}
 use Rattle.txhz.proofs.reading.read_receipt.Tie as tie
 
-read-slot-requires : tie.Need-read-slot-requires
-read-slot-requires c κs = search needs
-
-cast-sent-hour : tie.Need-cast-sent-hour
-cast-sent-hour c = search needs
-
-read-slot-requires-2 : tie.Need-read-slot-requires-2
-read-slot-requires-2 c κs = search needs
-
-cast-sent-minute : tie.Need-cast-sent-minute
-cast-sent-minute c = search needs
-
-read-slot-requires-3 : tie.Need-read-slot-requires-3
-read-slot-requires-3 c κs = search needs
-
-cast-receipt-hour : tie.Need-cast-receipt-hour
-cast-receipt-hour c = search needs
-
-read-slot-requires-4 : tie.Need-read-slot-requires-4
-read-slot-requires-4 c κs = search needs
-
-cast-receipt-minute : tie.Need-cast-receipt-minute
-cast-receipt-minute c = search needs
-
 returns : tie.Need-returns
 unfolding receiptRead
 returns c =
@@ -48,12 +24,12 @@ pub read-receipt-spec : {M : Type 1} → statement M
 read-receipt-spec =
     tie.close
     (tie.spec
-    read-slot-requires
-    cast-sent-hour
-    read-slot-requires-2
-    cast-sent-minute
-    read-slot-requires-3
-    cast-receipt-hour
-    read-slot-requires-4
-    cast-receipt-minute
+    (λ c κs. search needs)
+    (λ c. search needs)
+    (λ c κs. search needs)
+    (λ c. search needs)
+    (λ c κs. search needs)
+    (λ c. search needs)
+    (λ c κs. search needs)
+    (λ c. search needs)
     returns)

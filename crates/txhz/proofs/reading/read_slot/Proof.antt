@@ -8,24 +8,6 @@ use borrow.Author.Needs.{needs}
 use Rattle.txhz.proofs.reading.read_slot.Statement.{statement}
 use Rattle.txhz.proofs.reading.read_slot.Tie as tie
 
-mul-at : tie.Need-mul-at
-mul-at c = search needs
-
-top-requires : tie.Need-top-requires
-top-requires c κs = search needs
-
-fault-requires : tie.Need-fault-requires
-fault-requires c κs = search needs
-
-range-requires : tie.Need-range-requires
-range-requires c κs = search needs
-
-get-requires : tie.Need-get-requires
-get-requires c κs = search needs
-
-on-requires : tie.Need-on-requires
-on-requires c κs = search needs
-
 returns : tie.Need-returns
 unfolding onward
 returns c =
@@ -41,4 +23,4 @@ returns c =
     (e, got-lt s p 8 (ap (λ r. r .v) e))
 
 pub read-slot-spec : {M : Type 1} → statement M
-read-slot-spec = tie.close (tie.spec mul-at top-requires fault-requires range-requires get-requires on-requires returns)
+read-slot-spec = tie.close (tie.spec (λ c. search needs) (λ c κs. search needs) (λ c κs. search needs) (λ c κs. search needs) (λ c κs. search needs) (λ c κs. search needs) returns)

@@ -3,17 +3,11 @@ use borrow.Author.Needs.{needs}
 use Rattle.txhz.proofs.writing.judge_slot.Statement.{statement}
 use Rattle.txhz.proofs.writing.judge_slot.Tie as tie
 
-value-requires : tie.Need-value-requires
-value-requires c κs = search needs
-
 returns : tie.Need-returns
 returns c = rw (c .before .if1 .taken) (c .value .ensures)
-
-fill-value-requires : tie.Need-fill-value-requires
-fill-value-requires c κs = search needs
 
 returns-2 : tie.Need-returns-2
 returns-2 c = rw (c .before .if1 .left) (c .fill-value .ensures)
 
 pub judge-slot-spec : {M : Type 1} → statement M
-judge-slot-spec = tie.close (tie.spec value-requires returns fill-value-requires returns-2)
+judge-slot-spec = tie.close (tie.spec (λ c κs. search needs) returns (λ c κs. search needs) returns-2)

@@ -11,39 +11,6 @@ use borrow.Author.Needs.{needs}
 use Rattle.txhz.proofs.writing.judged.Statement.{statement}
 use Rattle.txhz.proofs.writing.judged.Tie as tie
 
-cast-judged : tie.Need-cast-judged
-cast-judged c = search needs
-
-judged-requires : tie.Need-judged-requires
-judged-requires c κs = search needs
-
-cast-value : tie.Need-cast-value
-cast-value c = search needs
-
-value-requires : tie.Need-value-requires
-value-requires c κs = search needs
-
-cast-value-2 : tie.Need-cast-value-2
-cast-value-2 c = search needs
-
-value-requires-2 : tie.Need-value-requires-2
-value-requires-2 c κs = search needs
-
-judge-receipt-requires : tie.Need-judge-receipt-requires
-judge-receipt-requires c κs = search needs
-
-judge-receipt-requires-2 : tie.Need-judge-receipt-requires-2
-judge-receipt-requires-2 c κs = search needs
-
-judge-receipt-requires-3 : tie.Need-judge-receipt-requires-3
-judge-receipt-requires-3 c κs = search needs
-
-judge-receipt-requires-4 : tie.Need-judge-receipt-requires-4
-judge-receipt-requires-4 c κs = search needs
-
-judge-receipt-requires-5 : tie.Need-judge-receipt-requires-5
-judge-receipt-requires-5 c κs = search needs
-
 returns : tie.Need-returns
 unfolding txhz valuesOf
 returns c =
@@ -75,15 +42,15 @@ pub judged-spec : {M : Type 1} → statement M
 judged-spec =
     tie.close
     (tie.spec
-    cast-judged
-    judged-requires
-    cast-value
-    value-requires
-    cast-value-2
-    value-requires-2
-    judge-receipt-requires
-    judge-receipt-requires-2
-    judge-receipt-requires-3
-    judge-receipt-requires-4
-    judge-receipt-requires-5
+    (λ c. search needs)
+    (λ c κs. search needs)
+    (λ c. search needs)
+    (λ c κs. search needs)
+    (λ c. search needs)
+    (λ c κs. search needs)
+    (λ c κs. search needs)
+    (λ c κs. search needs)
+    (λ c κs. search needs)
+    (λ c κs. search needs)
+    (λ c κs. search needs)
     returns)

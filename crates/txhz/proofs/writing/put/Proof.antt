@@ -10,39 +10,6 @@ use borrow.Author.Needs.{needs}
 use Rattle.txhz.proofs.writing.put.Statement.{statement}
 use Rattle.txhz.proofs.writing.put.Tie as tie
 
-cast-put : tie.Need-cast-put
-cast-put c = search needs
-
-put-requires : tie.Need-put-requires
-put-requires c κs = search needs
-
-cast-put-2 : tie.Need-cast-put-2
-cast-put-2 c = search needs
-
-put-requires-2 : tie.Need-put-requires-2
-put-requires-2 c κs = search needs
-
-cast-put-3 : tie.Need-cast-put-3
-cast-put-3 c = search needs
-
-put-requires-3 : tie.Need-put-requires-3
-put-requires-3 c κs = search needs
-
-put-receipt-requires : tie.Need-put-receipt-requires
-put-receipt-requires c κs = search needs
-
-put-receipt-requires-2 : tie.Need-put-receipt-requires-2
-put-receipt-requires-2 c κs = search needs
-
-put-receipt-requires-3 : tie.Need-put-receipt-requires-3
-put-receipt-requires-3 c κs = search needs
-
-put-receipt-requires-4 : tie.Need-put-receipt-requires-4
-put-receipt-requires-4 c κs = search needs
-
-put-receipt-requires-5 : tie.Need-put-receipt-requires-5
-put-receipt-requires-5 c κs = search needs
-
 same-length : tie.Need-same-length
 same-length c =
     let p8 = c .before .before in
@@ -82,16 +49,16 @@ pub put-spec : {M : Type 1} → statement M
 put-spec =
     tie.close
     (tie.spec
-    cast-put
-    put-requires
-    cast-put-2
-    put-requires-2
-    cast-put-3
-    put-requires-3
-    put-receipt-requires
-    put-receipt-requires-2
-    put-receipt-requires-3
-    put-receipt-requires-4
-    put-receipt-requires-5
+    (λ c. search needs)
+    (λ c κs. search needs)
+    (λ c. search needs)
+    (λ c κs. search needs)
+    (λ c. search needs)
+    (λ c κs. search needs)
+    (λ c κs. search needs)
+    (λ c κs. search needs)
+    (λ c κs. search needs)
+    (λ c κs. search needs)
+    (λ c κs. search needs)
     same-length
     returns)

@@ -6,15 +6,6 @@ use borrow.Author.Needs.{needs}
 use Rattle.txhz.proofs.writing.write.Statement.{statement}
 use Rattle.txhz.proofs.writing.write.Tie as tie
 
-judged-requires : tie.Need-judged-requires
-judged-requires c κs = search needs
-
-bytes-requires : tie.Need-bytes-requires
-bytes-requires c κs = search needs
-
-closes-requires : tie.Need-closes-requires
-closes-requires c κs = search needs
-
 returns : tie.Need-returns
 unfolding txhzs
 returns c =
@@ -22,15 +13,6 @@ returns c =
     let j = closes .before .before in
     let a = j .before .before .args in
     write-refused txhzs (valuesOf (a .r)) (a .buf .now) (j .judged .ensures) (closes .closes .ensures) (c .if1 .taken)
-
-put-requires : tie.Need-put-requires
-put-requires c κs = search needs
-
-stamp-requires : tie.Need-stamp-requires
-stamp-requires c κs = search needs
-
-same-length : tie.Need-same-length
-same-length c = search needs
 
 returns-2 : tie.Need-returns-2
 unfolding txhzs
@@ -48,11 +30,11 @@ pub write-spec : {M : Type 1} → statement M
 write-spec =
     tie.close
     (tie.spec
-    judged-requires
-    bytes-requires
-    closes-requires
+    (λ c κs. search needs)
+    (λ c κs. search needs)
+    (λ c κs. search needs)
     returns
-    put-requires
-    stamp-requires
-    same-length
+    (λ c κs. search needs)
+    (λ c κs. search needs)
+    (λ c. search needs)
     returns-2)

@@ -18,84 +18,6 @@ use borrow.Author.Needs.{needs}
 use Rattle.txsq.proofs.reading.fields.Statement.{statement}
 use Rattle.txsq.proofs.reading.fields.Tie as tie
 
-head-requires : tie.Need-head-requires
-head-requires c κs = search needs
-
-cast-address : tie.Need-cast-address
-cast-address c = search needs
-
-code-requires : tie.Need-code-requires
-code-requires c κs = search needs
-
-num-requires : tie.Need-num-requires
-num-requires c κs = search needs
-
-cast-category : tie.Need-cast-category
-cast-category c = search needs
-
-num-requires-2 : tie.Need-num-requires-2
-num-requires-2 c κs = search needs
-
-cast-mode : tie.Need-cast-mode
-cast-mode c = search needs
-
-allowed-requires : tie.Need-allowed-requires
-allowed-requires c κs = search needs
-
-num-requires-3 : tie.Need-num-requires-3
-num-requires-3 c κs = search needs
-
-cast-password : tie.Need-cast-password
-cast-password c = search needs
-
-num-requires-4 : tie.Need-num-requires-4
-num-requires-4 c κs = search needs
-
-cast-receiver : tie.Need-cast-receiver
-cast-receiver c = search needs
-
-get-requires : tie.Need-get-requires
-get-requires c κs = search needs
-
-get-requires-2 : tie.Need-get-requires-2
-get-requires-2 c κs = search needs
-
-limit-requires : tie.Need-limit-requires
-limit-requires c κs = search needs
-
-given-requires : tie.Need-given-requires
-given-requires c κs = search needs
-
-cast-size : tie.Need-cast-size
-cast-size c = search needs
-
-allowed-requires-2 : tie.Need-allowed-requires-2
-allowed-requires-2 c κs = search needs
-
-num-requires-5 : tie.Need-num-requires-5
-num-requires-5 c κs = search needs
-
-cast-answer : tie.Need-cast-answer
-cast-answer c = search needs
-
-cast-content : tie.Need-cast-content
-cast-content c = search needs
-
-content-requires : tie.Need-content-requires
-content-requires c κs = search needs
-
-spare-requires : tie.Need-spare-requires
-spare-requires c κs = search needs
-
-fill-requires : tie.Need-fill-requires
-fill-requires c κs = search needs
-
-end-requires : tie.Need-end-requires
-end-requires c κs = search needs
-
-told-requires : tie.Need-told-requires
-told-requires c κs = search needs
-
 returns : tie.Need-returns
 unfolding txsq recordOf
 returns c =
@@ -138,30 +60,30 @@ pub fields-spec : {M : Type 1} → statement M
 fields-spec =
     tie.close
     (tie.spec
-    head-requires
-    cast-address
-    code-requires
-    num-requires
-    cast-category
-    num-requires-2
-    cast-mode
-    allowed-requires
-    num-requires-3
-    cast-password
-    num-requires-4
-    cast-receiver
-    get-requires
-    get-requires-2
-    limit-requires
-    given-requires
-    cast-size
-    allowed-requires-2
-    num-requires-5
-    cast-answer
-    cast-content
-    content-requires
-    spare-requires
-    fill-requires
-    end-requires
-    told-requires
+    (λ c κs. search needs)
+    (λ c. search needs)
+    (λ c κs. search needs)
+    (λ c κs. search needs)
+    (λ c. search needs)
+    (λ c κs. search needs)
+    (λ c. search needs)
+    (λ c κs. search needs)
+    (λ c κs. search needs)
+    (λ c. search needs)
+    (λ c κs. search needs)
+    (λ c. search needs)
+    (λ c κs. search needs)
+    (λ c κs. search needs)
+    (λ c κs. search needs)
+    (λ c κs. search needs)
+    (λ c. search needs)
+    (λ c κs. search needs)
+    (λ c κs. search needs)
+    (λ c. search needs)
+    (λ c. search needs)
+    (λ c κs. search needs)
+    (λ c κs. search needs)
+    (λ c κs. search needs)
+    (λ c κs. search needs)
+    (λ c κs. search needs)
     returns)

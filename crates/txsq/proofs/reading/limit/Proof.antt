@@ -6,20 +6,11 @@ use borrow.Author.Needs.{needs}
 use Rattle.txsq.proofs.reading.limit.Statement.{statement}
 use Rattle.txsq.proofs.reading.limit.Tie as tie
 
-most-requires : tie.Need-most-requires
-most-requires c κs = search needs
-
 returns : tie.Need-returns
 returns c =
     let m = c .before in
     let a = m .before .args in
     rw (← m .most .ensures, lt-leb (a .size) (m .most .result) (c .if1 .taken)) refl
-
-whole-requires : tie.Need-whole-requires
-whole-requires c κs = search needs
-
-sized-requires : tie.Need-sized-requires
-sized-requires c κs = search needs
 
 returns-2 : tie.Need-returns-2
 returns-2 c =
@@ -36,4 +27,4 @@ returns-3 c =
 
 pub limit-spec : {M : Type 1} → statement M
 limit-spec =
-    tie.close (tie.spec most-requires returns whole-requires sized-requires returns-2 returns-3)
+    tie.close (tie.spec (λ c κs. search needs) returns (λ c κs. search needs) (λ c κs. search needs) returns-2 returns-3)

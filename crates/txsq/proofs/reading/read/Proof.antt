@@ -10,15 +10,6 @@ use borrow.Author.Needs.{needs}
 use Rattle.txsq.proofs.reading.read.Statement.{statement}
 use Rattle.txsq.proofs.reading.read.Tie as tie
 
-first-requires : tie.Need-first-requires
-first-requires c κs = search needs
-
-inner-requires : tie.Need-inner-requires
-inner-requires c κs = search needs
-
-fields-requires : tie.Need-fields-requires
-fields-requires c κs = search needs
-
 returns : tie.Need-returns
 unfolding txsqs
 returns c =
@@ -28,4 +19,4 @@ returns c =
     ∙ ap (λ o. answerOf (also recordOf o)) (sym (read-first txsqs s (c .before .before .first .ensures)))
 
 pub read-spec : {M : Type 1} → statement M
-read-spec = tie.close (tie.spec first-requires inner-requires fields-requires returns)
+read-spec = tie.close (tie.spec (λ c κs. search needs) (λ c κs. search needs) (λ c κs. search needs) returns)

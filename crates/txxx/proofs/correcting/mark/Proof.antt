@@ -13,14 +13,8 @@ returns c = rw (lt-leb 20 (c .before .args .len) (c .if1 .taken)) refl
 returns-2 : tie.Need-returns-2
 returns-2 c = let n = c .before .before .args .len in rw (lt-leb n 230 (c .if2 .taken), and-false) refl
 
-sub-result : tie.Need-sub-result
-sub-result c = search needs
-
-mul-result : tie.Need-mul-result
-mul-result c = search needs
-
 returns-3 : tie.Need-returns-3
 returns-3 c = let n = c .before .before .args .len in rw (le-leb 20 n (omega (arith, c .before .if1 .left)), le-leb n 230 (omega (arith, c .if2 .left))) refl
 
 pub mark-spec : {M : Type 1} → statement M
-mark-spec = tie.close (tie.spec returns returns-2 sub-result mul-result returns-3)
+mark-spec = tie.close (tie.spec returns returns-2 (λ c. search needs) (λ c. search needs) returns-3)

@@ -17,75 +17,6 @@ use borrow.Author.Needs.{needs}
 use Rattle.txxx.proofs.reading.fields.Statement.{statement}
 use Rattle.txxx.proofs.reading.fields.Tie as tie
 
-head-requires : tie.Need-head-requires
-head-requires c κs = search needs
-
-cast-address : tie.Need-cast-address
-cast-address c = search needs
-
-num-requires : tie.Need-num-requires
-num-requires c κs = search needs
-
-cast-class : tie.Need-cast-class
-cast-class c = search needs
-
-num-requires-2 : tie.Need-num-requires-2
-num-requires-2 c κs = search needs
-
-cast-sender : tie.Need-cast-sender
-cast-sender c = search needs
-
-num-requires-3 : tie.Need-num-requires-3
-num-requires-3 c κs = search needs
-
-cast-hour : tie.Need-cast-hour
-cast-hour c = search needs
-
-num-requires-4 : tie.Need-num-requires-4
-num-requires-4 c κs = search needs
-
-cast-minute : tie.Need-cast-minute
-cast-minute c = search needs
-
-get-requires : tie.Need-get-requires
-get-requires c κs = search needs
-
-get-requires-2 : tie.Need-get-requires-2
-get-requires-2 c κs = search needs
-
-limit-requires : tie.Need-limit-requires
-limit-requires c κs = search needs
-
-given-requires : tie.Need-given-requires
-given-requires c κs = search needs
-
-cast-size : tie.Need-cast-size
-cast-size c = search needs
-
-cast-content : tie.Need-cast-content
-cast-content c = search needs
-
-content-requires : tie.Need-content-requires
-content-requires c κs = search needs
-
-spare-requires : tie.Need-spare-requires
-spare-requires c κs = search needs
-
-fill-requires : tie.Need-fill-requires
-fill-requires c κs = search needs
-
-num-requires-5 : tie.Need-num-requires-5
-num-requires-5 c κs = search needs
-
-cast-mark : tie.Need-cast-mark
-cast-mark c = search needs
-
-end-requires : tie.Need-end-requires
-end-requires c κs = search needs
-
-told-requires : tie.Need-told-requires
-told-requires c κs = search needs
-
 returns : tie.Need-returns
 unfolding txxx recordOf
 returns c =
@@ -124,27 +55,27 @@ pub fields-spec : {M : Type 1} → statement M
 fields-spec =
     tie.close
     (tie.spec
-    head-requires
-    cast-address
-    num-requires
-    cast-class
-    num-requires-2
-    cast-sender
-    num-requires-3
-    cast-hour
-    num-requires-4
-    cast-minute
-    get-requires
-    get-requires-2
-    limit-requires
-    given-requires
-    cast-size
-    cast-content
-    content-requires
-    spare-requires
-    fill-requires
-    num-requires-5
-    cast-mark
-    end-requires
-    told-requires
+    (λ c κs. search needs)
+    (λ c. search needs)
+    (λ c κs. search needs)
+    (λ c. search needs)
+    (λ c κs. search needs)
+    (λ c. search needs)
+    (λ c κs. search needs)
+    (λ c. search needs)
+    (λ c κs. search needs)
+    (λ c. search needs)
+    (λ c κs. search needs)
+    (λ c κs. search needs)
+    (λ c κs. search needs)
+    (λ c κs. search needs)
+    (λ c. search needs)
+    (λ c. search needs)
+    (λ c κs. search needs)
+    (λ c κs. search needs)
+    (λ c κs. search needs)
+    (λ c κs. search needs)
+    (λ c. search needs)
+    (λ c κs. search needs)
+    (λ c κs. search needs)
     returns)

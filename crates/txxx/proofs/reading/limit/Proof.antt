@@ -9,11 +9,8 @@ use Rattle.txxx.proofs.reading.limit.Tie as tie
 returns : tie.Need-returns
 returns c = rw (lt-leb (c .before .args .size) 1_680 (c .if1 .taken)) refl
 
-sized-requires : tie.Need-sized-requires
-sized-requires c κs = search needs
-
 returns-2 : tie.Need-returns-2
 returns-2 c = c .sized .ensures ∙ rw (le-leb (c .before .before .args .size) 1_680 (omega (arith, c .before .if1 .left))) refl
 
 pub limit-spec : {M : Type 1} → statement M
-limit-spec = tie.close (tie.spec returns sized-requires returns-2)
+limit-spec = tie.close (tie.spec returns (λ c κs. search needs) returns-2)

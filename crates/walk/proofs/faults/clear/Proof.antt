@@ -8,24 +8,6 @@ use borrow.Author.Needs.{needs}
 use Rattle.walk.proofs.faults.clear.Statement.{statement}
 use Rattle.walk.proofs.faults.clear.Tie as tie
 
-cast-high : tie.Need-cast-high
-cast-high c = search needs
-
-sub-low : tie.Need-sub-low
-sub-low c = search needs
-
-cast-low : tie.Need-cast-low
-cast-low c = search needs
-
-wrapping-add-usize-requires : tie.Need-wrapping-add-usize-requires
-wrapping-add-usize-requires c κs = search needs
-
-holds-requires : tie.Need-holds-requires
-holds-requires c κs = search needs
-
-get-requires : tie.Need-get-requires
-get-requires c κs = search needs
-
 returns : tie.Need-returns
 returns c =
     let g = c .before in
@@ -37,9 +19,6 @@ returns c =
     let low = a .w - a .w / 2 in
     let inside = l .holds .ensures ∙ ap (λ p. within (length s) p low) (m .wrapping-add-usize .ensures) in
     rw (sym inside ∙ f1 .if1 .taken, ne-eqb _ 0 (λ z. c .if2 .taken (g .get .ensures ∙ z))) refl
-
-get-requires-2 : tie.Need-get-requires-2
-get-requires-2 c κs = search needs
 
 returns-2 : tie.Need-returns-2
 returns-2 c =
@@ -85,14 +64,14 @@ pub clear-spec : {M : Type 1} → statement M
 clear-spec =
     tie.close
     (tie.spec
-    cast-high
-    sub-low
-    cast-low
-    wrapping-add-usize-requires
-    holds-requires
-    get-requires
+    (λ c. search needs)
+    (λ c. search needs)
+    (λ c. search needs)
+    (λ c κs. search needs)
+    (λ c κs. search needs)
+    (λ c κs. search needs)
     returns
-    get-requires-2
+    (λ c κs. search needs)
     returns-2
     returns-3
     returns-4)

@@ -10,12 +10,6 @@ use borrow.Author.Needs.{needs}
 use Rattle.walk.proofs.faults.closing.Statement.{statement}
 use Rattle.walk.proofs.faults.closing.Tie as tie
 
-padding-requires : tie.Need-padding-requires
-padding-requires c κs = search needs
-
-get-requires : tie.Need-get-requires
-get-requires c κs = search needs
-
 returns : tie.Need-returns
 unfolding closes
 returns c =
@@ -23,12 +17,6 @@ returns c =
     let a = g .before .before .before .args in
     let e = g .get .ensures ∙ ap (got (a .s .now) (a .at)) (g .before .padding .ensures) in
     rw (ne-eqb (got (a .s .now) (a .at) (pad (a .at))) 0 (λ z. c .if1 .taken (e ∙ z)))
-
-add-if2 : tie.Need-add-if2
-add-if2 c = search needs
-
-add-if2-2 : tie.Need-add-if2-2
-add-if2-2 c = search needs
 
 returns-2 : tie.Need-returns-2
 unfolding closes
@@ -49,4 +37,4 @@ returns-3 c =
 pub closing-spec : {M : Type 1} → statement M
 closing-spec =
     tie.close
-    (tie.spec padding-requires get-requires returns add-if2 add-if2-2 returns-2 returns-3)
+    (tie.spec (λ c κs. search needs) (λ c κs. search needs) returns (λ c. search needs) (λ c. search needs) returns-2 returns-3)

@@ -9,15 +9,6 @@ use borrow.Author.Needs.{needs}
 use Rattle.walk.proofs.faults.lies.Statement.{statement}
 use Rattle.walk.proofs.faults.lies.Tie as tie
 
-add-result : tie.Need-add-result
-add-result c = search needs
-
-add-result-2 : tie.Need-add-result-2
-add-result-2 c = search needs
-
-add-result-3 : tie.Need-add-result-3
-add-result-3 c = search needs
-
 returns : tie.Need-returns
 returns c =
     let a = c .args in
@@ -28,4 +19,4 @@ returns c =
     go at w len false e = let l = leb-false (at + w) (len * 8) e in lt-leb (at / 8 + (at % 8 + w + 7) / 8) len (omega arith)
 
 pub lies-spec : {M : Type 1} → statement M
-lies-spec = tie.close (tie.spec add-result add-result-2 add-result-3 returns)
+lies-spec = tie.close (tie.spec (λ c. search needs) (λ c. search needs) (λ c. search needs) returns)

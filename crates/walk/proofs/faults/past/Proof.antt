@@ -4,9 +4,6 @@ use borrow.Author.Needs.{needs}
 use Rattle.walk.proofs.faults.past.Statement.{statement}
 use Rattle.walk.proofs.faults.past.Tie as tie
 
-padding-requires : tie.Need-padding-requires
-padding-requires c κs = search needs
-
 returns : tie.Need-returns
 returns c = rw (eq-eqb (c .before .args .fault) 5 (c .if1 .taken))
 
@@ -14,4 +11,4 @@ returns-2 : tie.Need-returns-2
 returns-2 c = rw (ne-eqb (c .before .before .args .fault) 5 (c .before .if1 .left)) (c .padding .ensures)
 
 pub past-spec : {M : Type 1} → statement M
-past-spec = tie.close (tie.spec padding-requires returns returns-2)
+past-spec = tie.close (tie.spec (λ c κs. search needs) returns returns-2)

@@ -7,15 +7,6 @@ use borrow.Author.Needs.{needs}
 use Rattle.walk.proofs.faults.range.Statement.{statement}
 use Rattle.walk.proofs.faults.range.Tie as tie
 
-holds-requires : tie.Need-holds-requires
-holds-requires c κs = search needs
-
-get-requires : tie.Need-get-requires
-get-requires c κs = search needs
-
-inside-requires : tie.Need-inside-requires
-inside-requires c κs = search needs
-
 returns : tie.Need-returns
 returns c =
     let a = c .before .before .before .before .before .args in
@@ -26,4 +17,4 @@ returns-2 : tie.Need-returns-2
 returns-2 c = rw (sym (c .before .holds .ensures) ∙ c .if1 .left)
 
 pub range-spec : {M : Type 1} → statement M
-range-spec = tie.close (tie.spec holds-requires get-requires inside-requires returns returns-2)
+range-spec = tie.close (tie.spec (λ c κs. search needs) (λ c κs. search needs) (λ c κs. search needs) returns returns-2)

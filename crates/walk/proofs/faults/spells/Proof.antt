@@ -4,9 +4,6 @@ use borrow.Author.Needs.{needs}
 use Rattle.walk.proofs.faults.spells.Statement.{statement}
 use Rattle.walk.proofs.faults.spells.Tie as tie
 
-sign-requires : tie.Need-sign-requires
-sign-requires c κs = search needs
-
 returns : tie.Need-returns
 returns c = let a = c .before .before .args in rw (lt-ltb (a .v) (a .full) (c .before .if1 .taken)) (c .sign .ensures)
 
@@ -14,4 +11,4 @@ returns-2 : tie.Need-returns-2
 returns-2 c = let a = c .before .args in rw (le-ltb (a .v) (a .full) (c .if1 .left))
 
 pub spells-spec : {M : Type 1} → statement M
-spells-spec = tie.close (tie.spec sign-requires returns returns-2)
+spells-spec = tie.close (tie.spec (λ c κs. search needs) returns returns-2)

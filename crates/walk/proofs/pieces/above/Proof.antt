@@ -7,12 +7,6 @@ use borrow.Author.Needs.{needs}
 use Rattle.walk.proofs.pieces.above.Statement.{statement}
 use Rattle.walk.proofs.pieces.above.Tie as tie
 
-shr-result : tie.Need-shr-result
-shr-result c = search needs
-
-returns : tie.Need-returns
-returns c = search needs
-
 returns-2 : tie.Need-returns-2
 returns-2 c =
     let a = c .before .args in
@@ -20,4 +14,4 @@ returns-2 c =
     sym (div-eq-of-lt l)
 
 pub above-spec : {M : Type 1} → statement M
-above-spec = tie.close (tie.spec shr-result returns returns-2)
+above-spec = tie.close (tie.spec (λ c. search needs) (λ c. search needs) returns-2)

@@ -8,9 +8,6 @@ use borrow.Author.Needs.{needs}
 use Rattle.walk.proofs.pieces.below.Statement.{statement}
 use Rattle.walk.proofs.pieces.below.Tie as tie
 
-shl-full : tie.Need-shl-full
-shl-full c = search needs
-
 -- 2 to the n, as the code shifts it
 power : (n : ℕ) → n < 64 → (1 * 2 ^ n) % 2 ^ 64 ≡ 2 ^ n
 power n l = shl-exact {a = 1} 1 n 64 (omega arith) (omega arith) ∙ omega arith
@@ -28,4 +25,4 @@ returns-2 c =
     sym (mod-eq-of-lt l)
 
 pub below-spec : {M : Type 1} → statement M
-below-spec = tie.close (tie.spec shl-full rem-result returns returns-2)
+below-spec = tie.close (tie.spec (λ c. search needs) rem-result returns returns-2)

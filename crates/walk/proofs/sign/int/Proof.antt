@@ -18,15 +18,6 @@ returns-2 c =
     let a = c .before .before .args in
     rw (le-leb (a .full) 2_147_483_648 (c .before .if1 .left), le-ltb (a .v) (a .full) (c .if2 .taken))
 
-cast-result : tie.Need-cast-result
-cast-result c = search needs
-
-sub-result : tie.Need-sub-result
-sub-result c = search needs
-
-cast-result-2 : tie.Need-cast-result-2
-cast-result-2 c = search needs
-
 sub-result-2 : tie.Need-sub-result-2
 sub-result-2 c = let a = c .before .before .before .args in negate-fits (a .full - a .v) (omega arith)
 
@@ -48,9 +39,9 @@ int-spec =
     (tie.spec
     returns
     returns-2
-    cast-result
-    sub-result
-    cast-result-2
+    (λ c. search needs)
+    (λ c. search needs)
+    (λ c. search needs)
     sub-result-2
     returns-3
     returns-4)

@@ -9,9 +9,6 @@ use borrow.Author.Needs.{needs}
 use Rattle.walk.proofs.sign.spelled.Statement.{statement}
 use Rattle.walk.proofs.sign.spelled.Tie as tie
 
-magnitude-requires : tie.Need-magnitude-requires
-magnitude-requires c κs = search needs
-
 returns : tie.Need-returns
 returns c =
     let a = c .before .before .args in
@@ -24,12 +21,6 @@ returns-2 c =
     let n : c .before .before .magnitude .result ≡ mag (a .x) = c .before .before .magnitude .ensures ∙ ap mag (same (a .x) (c .before .before .before .fits .x)) in
     n ∙ sym (spell-up (a .full) (a .x) (omega (arith, n)) (sign-is (a .x) (c .before .before .before .fits .x) (c .if2 .taken)))
 
-sub-result : tie.Need-sub-result
-sub-result c = search needs
-
-sub-result-2 : tie.Need-sub-result-2
-sub-result-2 c = search needs
-
 returns-3 : tie.Need-returns-3
 returns-3 c =
     let a = c .before .before .before .args in
@@ -38,4 +29,4 @@ returns-3 c =
 
 pub spelled-spec : {M : Type 1} → statement M
 spelled-spec =
-    tie.close (tie.spec magnitude-requires returns returns-2 sub-result sub-result-2 returns-3)
+    tie.close (tie.spec (λ c κs. search needs) returns returns-2 (λ c. search needs) (λ c. search needs) returns-3)

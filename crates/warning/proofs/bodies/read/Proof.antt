@@ -4,18 +4,12 @@ use borrow.Author.Needs.{needs}
 use Rattle.warning.proofs.bodies.read.Statement.{statement}
 use Rattle.warning.proofs.bodies.read.Tie as tie
 
-read-cyclone-requires : tie.Need-read-cyclone-requires
-read-cyclone-requires c κs = search needs
-
 returns : tie.Need-returns
 returns c =
     let f1 = c .before in
     let st = f1 .before .before in
     let a = st .args in
     rw (eq-eqb (a .kind) 1 (f1 .if1 .taken)) (c .read-cyclone .ensures)
-
-read-gale-requires : tie.Need-read-gale-requires
-read-gale-requires c κs = search needs
 
 returns-2 : tie.Need-returns-2
 returns-2 c =
@@ -24,9 +18,6 @@ returns-2 c =
     let st = f1 .before .before in
     let a = st .args in
     rw (ne-eqb (a .kind) 1 (f1 .if1 .left), eq-eqb (a .kind) 2 (f2 .if2 .taken)) (c .read-gale .ensures)
-
-read-waves-requires : tie.Need-read-waves-requires
-read-waves-requires c κs = search needs
 
 returns-3 : tie.Need-returns-3
 returns-3 c =
@@ -37,9 +28,6 @@ returns-3 c =
     let a = st .args in
     rw (ne-eqb (a .kind) 1 (f1 .if1 .left), ne-eqb (a .kind) 2 (f2 .if2 .left), eq-eqb (a .kind) 3 (f3 .if3 .taken)) (c .read-waves .ensures)
 
-read-fog-requires : tie.Need-read-fog-requires
-read-fog-requires c κs = search needs
-
 returns-4 : tie.Need-returns-4
 returns-4 c =
     let f4 = c .before in
@@ -49,9 +37,6 @@ returns-4 c =
     let st = f1 .before .before in
     let a = st .args in
     rw (ne-eqb (a .kind) 1 (f1 .if1 .left), ne-eqb (a .kind) 2 (f2 .if2 .left), ne-eqb (a .kind) 3 (f3 .if3 .left), eq-eqb (a .kind) 4 (f4 .if4 .taken)) (c .read-fog .ensures)
-
-read-surge-requires : tie.Need-read-surge-requires
-read-surge-requires c κs = search needs
 
 returns-5 : tie.Need-returns-5
 returns-5 c =
@@ -67,13 +52,13 @@ pub read-spec : {M : Type 1} → statement M
 read-spec =
     tie.close
     (tie.spec
-    read-cyclone-requires
+    (λ c κs. search needs)
     returns
-    read-gale-requires
+    (λ c κs. search needs)
     returns-2
-    read-waves-requires
+    (λ c κs. search needs)
     returns-3
-    read-fog-requires
+    (λ c κs. search needs)
     returns-4
-    read-surge-requires
+    (λ c κs. search needs)
     returns-5)

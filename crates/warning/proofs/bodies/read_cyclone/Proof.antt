@@ -8,48 +8,6 @@ use borrow.Author.Needs.{needs}
 use Rattle.warning.proofs.bodies.read_cyclone.Statement.{statement}
 use Rattle.warning.proofs.bodies.read_cyclone.Tie as tie
 
-num-requires : tie.Need-num-requires
-num-requires c κs = search needs
-
-cast-kind : tie.Need-cast-kind
-cast-kind c = search needs
-
-num-requires-2 : tie.Need-num-requires-2
-num-requires-2 c κs = search needs
-
-cast-gale-radius : tie.Need-cast-gale-radius
-cast-gale-radius c = search needs
-
-num-requires-3 : tie.Need-num-requires-3
-num-requires-3 c κs = search needs
-
-cast-storm-radius : tie.Need-cast-storm-radius
-cast-storm-radius c = search needs
-
-num-requires-4 : tie.Need-num-requires-4
-num-requires-4 c κs = search needs
-
-cast-speed : tie.Need-cast-speed
-cast-speed c = search needs
-
-num-requires-5 : tie.Need-num-requires-5
-num-requires-5 c κs = search needs
-
-cast-direction : tie.Need-cast-direction
-cast-direction c = search needs
-
-num-requires-6 : tie.Need-num-requires-6
-num-requires-6 c κs = search needs
-
-cast-force : tie.Need-cast-force
-cast-force c = search needs
-
-num-requires-7 : tie.Need-num-requires-7
-num-requires-7 c κs = search needs
-
-cast-pressure : tie.Need-cast-pressure
-cast-pressure c = search needs
-
 returns : tie.Need-returns
 unfolding cycloneRead
 returns c =
@@ -75,18 +33,18 @@ pub read-cyclone-spec : {M : Type 1} → statement M
 read-cyclone-spec =
     tie.close
     (tie.spec
-    num-requires
-    cast-kind
-    num-requires-2
-    cast-gale-radius
-    num-requires-3
-    cast-storm-radius
-    num-requires-4
-    cast-speed
-    num-requires-5
-    cast-direction
-    num-requires-6
-    cast-force
-    num-requires-7
-    cast-pressure
+    (λ c κs. search needs)
+    (λ c. search needs)
+    (λ c κs. search needs)
+    (λ c. search needs)
+    (λ c κs. search needs)
+    (λ c. search needs)
+    (λ c κs. search needs)
+    (λ c. search needs)
+    (λ c κs. search needs)
+    (λ c. search needs)
+    (λ c κs. search needs)
+    (λ c. search needs)
+    (λ c κs. search needs)
+    (λ c. search needs)
     returns)

@@ -8,21 +8,6 @@ use borrow.Author.Needs.{needs}
 use Rattle.warning.proofs.bodies.read_fog.Statement.{statement}
 use Rattle.warning.proofs.bodies.read_fog.Tie as tie
 
-num-requires : tie.Need-num-requires
-num-requires c κs = search needs
-
-cast-radius : tie.Need-cast-radius
-cast-radius c = search needs
-
-num-requires-2 : tie.Need-num-requires-2
-num-requires-2 c κs = search needs
-
-cast-visibility : tie.Need-cast-visibility
-cast-visibility c = search needs
-
-blank-requires : tie.Need-blank-requires
-blank-requires c κs = search needs
-
 returns : tie.Need-returns
 unfolding fogRead
 returns c =
@@ -39,4 +24,4 @@ returns c =
 pub read-fog-spec : {M : Type 1} → statement M
 read-fog-spec =
     tie.close
-    (tie.spec num-requires cast-radius num-requires-2 cast-visibility blank-requires returns)
+    (tie.spec (λ c κs. search needs) (λ c. search needs) (λ c κs. search needs) (λ c. search needs) (λ c κs. search needs) returns)

@@ -8,33 +8,6 @@ use borrow.Author.Needs.{needs}
 use Rattle.warning.proofs.bodies.read_gale.Statement.{statement}
 use Rattle.warning.proofs.bodies.read_gale.Tie as tie
 
-num-requires : tie.Need-num-requires
-num-requires c κs = search needs
-
-cast-radius : tie.Need-cast-radius
-cast-radius c = search needs
-
-num-requires-2 : tie.Need-num-requires-2
-num-requires-2 c κs = search needs
-
-cast-least : tie.Need-cast-least
-cast-least c = search needs
-
-num-requires-3 : tie.Need-num-requires-3
-num-requires-3 c κs = search needs
-
-cast-greatest : tie.Need-cast-greatest
-cast-greatest c = search needs
-
-num-requires-4 : tie.Need-num-requires-4
-num-requires-4 c κs = search needs
-
-cast-direction : tie.Need-cast-direction
-cast-direction c = search needs
-
-fill-requires : tie.Need-fill-requires
-fill-requires c κs = search needs
-
 returns : tie.Need-returns
 unfolding galeRead
 returns c =
@@ -56,13 +29,13 @@ pub read-gale-spec : {M : Type 1} → statement M
 read-gale-spec =
     tie.close
     (tie.spec
-    num-requires
-    cast-radius
-    num-requires-2
-    cast-least
-    num-requires-3
-    cast-greatest
-    num-requires-4
-    cast-direction
-    fill-requires
+    (λ c κs. search needs)
+    (λ c. search needs)
+    (λ c κs. search needs)
+    (λ c. search needs)
+    (λ c κs. search needs)
+    (λ c. search needs)
+    (λ c κs. search needs)
+    (λ c. search needs)
+    (λ c κs. search needs)
     returns)

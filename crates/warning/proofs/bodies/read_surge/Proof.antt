@@ -8,33 +8,6 @@ use borrow.Author.Needs.{needs}
 use Rattle.warning.proofs.bodies.read_surge.Statement.{statement}
 use Rattle.warning.proofs.bodies.read_surge.Tie as tie
 
-num-requires : tie.Need-num-requires
-num-requires c κs = search needs
-
-cast-radius : tie.Need-cast-radius
-cast-radius c = search needs
-
-num-requires-2 : tie.Need-num-requires-2
-num-requires-2 c κs = search needs
-
-cast-rise : tie.Need-cast-rise
-cast-rise c = search needs
-
-num-requires-3 : tie.Need-num-requires-3
-num-requires-3 c κs = search needs
-
-cast-tide : tie.Need-cast-tide
-cast-tide c = search needs
-
-num-requires-4 : tie.Need-num-requires-4
-num-requires-4 c κs = search needs
-
-cast-period : tie.Need-cast-period
-cast-period c = search needs
-
-fill-requires : tie.Need-fill-requires
-fill-requires c κs = search needs
-
 returns : tie.Need-returns
 unfolding surgeRead
 returns c =
@@ -56,13 +29,13 @@ pub read-surge-spec : {M : Type 1} → statement M
 read-surge-spec =
     tie.close
     (tie.spec
-    num-requires
-    cast-radius
-    num-requires-2
-    cast-rise
-    num-requires-3
-    cast-tide
-    num-requires-4
-    cast-period
-    fill-requires
+    (λ c κs. search needs)
+    (λ c. search needs)
+    (λ c κs. search needs)
+    (λ c. search needs)
+    (λ c κs. search needs)
+    (λ c. search needs)
+    (λ c κs. search needs)
+    (λ c. search needs)
+    (λ c κs. search needs)
     returns)

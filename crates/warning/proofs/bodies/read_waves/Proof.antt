@@ -8,27 +8,6 @@ use borrow.Author.Needs.{needs}
 use Rattle.warning.proofs.bodies.read_waves.Statement.{statement}
 use Rattle.warning.proofs.bodies.read_waves.Tie as tie
 
-num-requires : tie.Need-num-requires
-num-requires c κs = search needs
-
-cast-radius : tie.Need-cast-radius
-cast-radius c = search needs
-
-num-requires-2 : tie.Need-num-requires-2
-num-requires-2 c κs = search needs
-
-cast-height : tie.Need-cast-height
-cast-height c = search needs
-
-num-requires-3 : tie.Need-num-requires-3
-num-requires-3 c κs = search needs
-
-cast-period : tie.Need-cast-period
-cast-period c = search needs
-
-fill-requires : tie.Need-fill-requires
-fill-requires c κs = search needs
-
 returns : tie.Need-returns
 unfolding wavesRead
 returns c =
@@ -48,11 +27,11 @@ pub read-waves-spec : {M : Type 1} → statement M
 read-waves-spec =
     tie.close
     (tie.spec
-    num-requires
-    cast-radius
-    num-requires-2
-    cast-height
-    num-requires-3
-    cast-period
-    fill-requires
+    (λ c κs. search needs)
+    (λ c. search needs)
+    (λ c κs. search needs)
+    (λ c. search needs)
+    (λ c κs. search needs)
+    (λ c. search needs)
+    (λ c κs. search needs)
     returns)

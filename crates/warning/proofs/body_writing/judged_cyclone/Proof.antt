@@ -5,48 +5,6 @@ use borrow.Author.Needs.{needs}
 use Rattle.warning.proofs.body_writing.judged_cyclone.Statement.{statement}
 use Rattle.warning.proofs.body_writing.judged_cyclone.Tie as tie
 
-cast-value : tie.Need-cast-value
-cast-value c = search needs
-
-value-requires : tie.Need-value-requires
-value-requires c κs = search needs
-
-cast-value-2 : tie.Need-cast-value-2
-cast-value-2 c = search needs
-
-value-requires-2 : tie.Need-value-requires-2
-value-requires-2 c κs = search needs
-
-cast-value-3 : tie.Need-cast-value-3
-cast-value-3 c = search needs
-
-value-requires-3 : tie.Need-value-requires-3
-value-requires-3 c κs = search needs
-
-cast-value-4 : tie.Need-cast-value-4
-cast-value-4 c = search needs
-
-value-requires-4 : tie.Need-value-requires-4
-value-requires-4 c κs = search needs
-
-cast-value-5 : tie.Need-cast-value-5
-cast-value-5 c = search needs
-
-value-requires-5 : tie.Need-value-requires-5
-value-requires-5 c κs = search needs
-
-cast-value-6 : tie.Need-cast-value-6
-cast-value-6 c = search needs
-
-value-requires-6 : tie.Need-value-requires-6
-value-requires-6 c κs = search needs
-
-cast-value-7 : tie.Need-cast-value-7
-cast-value-7 c = search needs
-
-value-requires-7 : tie.Need-value-requires-7
-value-requires-7 c κs = search needs
-
 returns : tie.Need-returns
 returns c =
     let n7 = c in
@@ -70,18 +28,18 @@ pub judged-cyclone-spec : {M : Type 1} → statement M
 judged-cyclone-spec =
     tie.close
     (tie.spec
-    cast-value
-    value-requires
-    cast-value-2
-    value-requires-2
-    cast-value-3
-    value-requires-3
-    cast-value-4
-    value-requires-4
-    cast-value-5
-    value-requires-5
-    cast-value-6
-    value-requires-6
-    cast-value-7
-    value-requires-7
+    (λ c. search needs)
+    (λ c κs. search needs)
+    (λ c. search needs)
+    (λ c κs. search needs)
+    (λ c. search needs)
+    (λ c κs. search needs)
+    (λ c. search needs)
+    (λ c κs. search needs)
+    (λ c. search needs)
+    (λ c κs. search needs)
+    (λ c. search needs)
+    (λ c κs. search needs)
+    (λ c. search needs)
+    (λ c κs. search needs)
     returns)

@@ -7,21 +7,6 @@ use borrow.Author.Needs.{needs}
 use Rattle.warning.proofs.body_writing.judged_fog.Statement.{statement}
 use Rattle.warning.proofs.body_writing.judged_fog.Tie as tie
 
-cast-value : tie.Need-cast-value
-cast-value c = search needs
-
-value-requires : tie.Need-value-requires
-value-requires c κs = search needs
-
-cast-value-2 : tie.Need-cast-value-2
-cast-value-2 c = search needs
-
-value-requires-2 : tie.Need-value-requires-2
-value-requires-2 c κs = search needs
-
-fixed-requires : tie.Need-fixed-requires
-fixed-requires c κs = search needs
-
 returns : tie.Need-returns
 returns c =
     let n3 = c in
@@ -36,4 +21,4 @@ returns c =
 pub judged-fog-spec : {M : Type 1} → statement M
 judged-fog-spec =
     tie.close
-    (tie.spec cast-value value-requires cast-value-2 value-requires-2 fixed-requires returns)
+    (tie.spec (λ c. search needs) (λ c κs. search needs) (λ c. search needs) (λ c κs. search needs) (λ c κs. search needs) returns)

@@ -7,33 +7,6 @@ use borrow.Author.Needs.{needs}
 use Rattle.warning.proofs.body_writing.judged_surge.Statement.{statement}
 use Rattle.warning.proofs.body_writing.judged_surge.Tie as tie
 
-cast-value : tie.Need-cast-value
-cast-value c = search needs
-
-value-requires : tie.Need-value-requires
-value-requires c κs = search needs
-
-cast-value-2 : tie.Need-cast-value-2
-cast-value-2 c = search needs
-
-value-requires-2 : tie.Need-value-requires-2
-value-requires-2 c κs = search needs
-
-cast-value-3 : tie.Need-cast-value-3
-cast-value-3 c = search needs
-
-value-requires-3 : tie.Need-value-requires-3
-value-requires-3 c κs = search needs
-
-cast-value-4 : tie.Need-cast-value-4
-cast-value-4 c = search needs
-
-value-requires-4 : tie.Need-value-requires-4
-value-requires-4 c κs = search needs
-
-fixed-requires : tie.Need-fixed-requires
-fixed-requires c κs = search needs
-
 returns : tie.Need-returns
 returns c =
     let n5 = c in
@@ -53,13 +26,13 @@ pub judged-surge-spec : {M : Type 1} → statement M
 judged-surge-spec =
     tie.close
     (tie.spec
-    cast-value
-    value-requires
-    cast-value-2
-    value-requires-2
-    cast-value-3
-    value-requires-3
-    cast-value-4
-    value-requires-4
-    fixed-requires
+    (λ c. search needs)
+    (λ c κs. search needs)
+    (λ c. search needs)
+    (λ c κs. search needs)
+    (λ c. search needs)
+    (λ c κs. search needs)
+    (λ c. search needs)
+    (λ c κs. search needs)
+    (λ c κs. search needs)
     returns)

@@ -7,27 +7,6 @@ use borrow.Author.Needs.{needs}
 use Rattle.warning.proofs.body_writing.judged_waves.Statement.{statement}
 use Rattle.warning.proofs.body_writing.judged_waves.Tie as tie
 
-cast-value : tie.Need-cast-value
-cast-value c = search needs
-
-value-requires : tie.Need-value-requires
-value-requires c κs = search needs
-
-cast-value-2 : tie.Need-cast-value-2
-cast-value-2 c = search needs
-
-value-requires-2 : tie.Need-value-requires-2
-value-requires-2 c κs = search needs
-
-cast-value-3 : tie.Need-cast-value-3
-cast-value-3 c = search needs
-
-value-requires-3 : tie.Need-value-requires-3
-value-requires-3 c κs = search needs
-
-fixed-requires : tie.Need-fixed-requires
-fixed-requires c κs = search needs
-
 returns : tie.Need-returns
 returns c =
     let n4 = c in
@@ -45,11 +24,11 @@ pub judged-waves-spec : {M : Type 1} → statement M
 judged-waves-spec =
     tie.close
     (tie.spec
-    cast-value
-    value-requires
-    cast-value-2
-    value-requires-2
-    cast-value-3
-    value-requires-3
-    fixed-requires
+    (λ c. search needs)
+    (λ c κs. search needs)
+    (λ c. search needs)
+    (λ c κs. search needs)
+    (λ c. search needs)
+    (λ c κs. search needs)
+    (λ c κs. search needs)
     returns)

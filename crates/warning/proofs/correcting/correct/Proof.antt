@@ -14,33 +14,6 @@ use borrow.Author.Needs.{needs}
 use Rattle.warning.proofs.correcting.correct.Statement.{statement}
 use Rattle.warning.proofs.correcting.correct.Tie as tie
 
-read-requires : tie.Need-read-requires
-read-requires c κs = search needs
-
-get-requires : tie.Need-get-requires
-get-requires c κs = search needs
-
-slice-aggregate-look-up-of : tie.Need-slice-aggregate-look-up-of
-slice-aggregate-look-up-of c = search needs
-
-slice-aggregate-look-up-of-2 : tie.Need-slice-aggregate-look-up-of-2
-slice-aggregate-look-up-of-2 c = search needs
-
-slice-aggregate-look-up-of-3 : tie.Need-slice-aggregate-look-up-of-3
-slice-aggregate-look-up-of-3 c = search needs
-
-look-up-of-requires : tie.Need-look-up-of-requires
-look-up-of-requires c κs = search needs
-
-refusal-requires : tie.Need-refusal-requires
-refusal-requires c κs = search needs
-
-admits-requires : tie.Need-admits-requires
-admits-requires c κs = search needs
-
-same-length : tie.Need-same-length
-same-length c = search needs
-
 returns : tie.Need-returns
 unfolding warnings
 returns c =
@@ -58,21 +31,6 @@ returns c =
     (was .read .ensures) (number .refusal .ensures)
     (looked-stands s (a .field) fine (get .get .ensures) (look .look-up-of .ensures)) (thin (get .get .result) (a .field) (look .look-up-of .ensures))
     (admits .admits .ensures) (c .if1 .taken)
-
-swap-requires : tie.Need-swap-requires
-swap-requires c κs = search needs
-
-fields-requires : tie.Need-fields-requires
-fields-requires c κs = search needs
-
-refusal-requires-2 : tie.Need-refusal-requires-2
-refusal-requires-2 c κs = search needs
-
-settle-requires : tie.Need-settle-requires
-settle-requires c κs = search needs
-
-same-length-2 : tie.Need-same-length-2
-same-length-2 c = search needs
 
 returns-2 : tie.Need-returns-2
 unfolding warnings
@@ -103,19 +61,19 @@ pub correct-spec : {M : Type 1} → statement M
 correct-spec =
     tie.close
     (tie.spec
-    read-requires
-    get-requires
-    slice-aggregate-look-up-of
-    slice-aggregate-look-up-of-2
-    slice-aggregate-look-up-of-3
-    look-up-of-requires
-    refusal-requires
-    admits-requires
-    same-length
+    (λ c κs. search needs)
+    (λ c κs. search needs)
+    (λ c. search needs)
+    (λ c. search needs)
+    (λ c. search needs)
+    (λ c κs. search needs)
+    (λ c κs. search needs)
+    (λ c κs. search needs)
+    (λ c. search needs)
     returns
-    swap-requires
-    fields-requires
-    refusal-requires-2
-    settle-requires
-    same-length-2
+    (λ c κs. search needs)
+    (λ c κs. search needs)
+    (λ c κs. search needs)
+    (λ c κs. search needs)
+    (λ c. search needs)
     returns-2)

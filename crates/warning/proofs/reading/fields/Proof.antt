@@ -23,84 +23,12 @@ use Rattle.warning.proofs.reading.fields.Statement.{statement}
 use Rattle.warning.proofs.reading.fields.Tie as tie
 use Rattle.ais_common.proofs.time.read.Reads as read-reads′
 
-none-requires : tie.Need-none-requires
-none-requires c κs = search needs
-
-choose-requires : tie.Need-choose-requires
-choose-requires c κs = search needs
-
 returns : tie.Need-returns
 returns c =
     let test = c .before .before in
     let a = test .before .before .args in
     ap Refused (c .choose .ensures ∙ ap (λ x. cond x 1 (a .lead)) (c .before .none .ensures))
     ∙ sym (ap (λ o. answerOf (also recordOf o)) (other-size warning 23 23 (a .lead) (a .s .now) (λ l u. test .if1 .taken (omega (arith, l, u)))))
-
-begin-requires : tie.Need-begin-requires
-begin-requires c κs = search needs
-
-code-requires : tie.Need-code-requires
-code-requires c κs = search needs
-
-num-requires : tie.Need-num-requires
-num-requires c κs = search needs
-
-cast-repeat : tie.Need-cast-repeat
-cast-repeat c = search needs
-
-num-requires-2 : tie.Need-num-requires-2
-num-requires-2 c κs = search needs
-
-cast-source : tie.Need-cast-source
-cast-source c = search needs
-
-fill-requires : tie.Need-fill-requires
-fill-requires c κs = search needs
-
-code-requires-2 : tie.Need-code-requires-2
-code-requires-2 c κs = search needs
-
-code-requires-3 : tie.Need-code-requires-3
-code-requires-3 c κs = search needs
-
-number-requires : tie.Need-number-requires
-number-requires c κs = search needs
-
-num-requires-3 : tie.Need-num-requires-3
-num-requires-3 c κs = search needs
-
-cast-longitude : tie.Need-cast-longitude
-cast-longitude c = search needs
-
-num-requires-4 : tie.Need-num-requires-4
-num-requires-4 c κs = search needs
-
-cast-latitude : tie.Need-cast-latitude
-cast-latitude c = search needs
-
-read-requires : tie.Need-read-requires
-read-requires c κs = search needs
-
-read-requires-2 : tie.Need-read-requires-2
-read-requires-2 c κs = search needs
-
-of-requires : tie.Need-of-requires
-of-requires c κs = search needs
-
-num-requires-5 : tie.Need-num-requires-5
-num-requires-5 c κs = search needs
-
-cast-hours : tie.Need-cast-hours
-cast-hours c = search needs
-
-fill-requires-2 : tie.Need-fill-requires-2
-fill-requires-2 c κs = search needs
-
-end-requires : tie.Need-end-requires
-end-requires c κs = search needs
-
-told-requires : tie.Need-told-requires
-told-requires c κs = search needs
 
 returns-2 : tie.Need-returns-2
 unfolding warning
@@ -154,29 +82,29 @@ pub fields-spec : {M : Type 1} → statement M
 fields-spec =
     tie.close
     (tie.spec
-    none-requires
-    choose-requires
+    (λ c κs. search needs)
+    (λ c κs. search needs)
     returns
-    begin-requires
-    code-requires
-    num-requires
-    cast-repeat
-    num-requires-2
-    cast-source
-    fill-requires
-    code-requires-2
-    code-requires-3
-    number-requires
-    num-requires-3
-    cast-longitude
-    num-requires-4
-    cast-latitude
-    read-requires
-    read-requires-2
-    of-requires
-    num-requires-5
-    cast-hours
-    fill-requires-2
-    end-requires
-    told-requires
+    (λ c κs. search needs)
+    (λ c κs. search needs)
+    (λ c κs. search needs)
+    (λ c. search needs)
+    (λ c κs. search needs)
+    (λ c. search needs)
+    (λ c κs. search needs)
+    (λ c κs. search needs)
+    (λ c κs. search needs)
+    (λ c κs. search needs)
+    (λ c κs. search needs)
+    (λ c. search needs)
+    (λ c κs. search needs)
+    (λ c. search needs)
+    (λ c κs. search needs)
+    (λ c κs. search needs)
+    (λ c κs. search needs)
+    (λ c κs. search needs)
+    (λ c. search needs)
+    (λ c κs. search needs)
+    (λ c κs. search needs)
+    (λ c κs. search needs)
     returns-2)

@@ -7,15 +7,6 @@ use borrow.Author.Needs.{needs}
 use Rattle.warning.proofs.writing.write.Statement.{statement}
 use Rattle.warning.proofs.writing.write.Tie as tie
 
-spelled-requires : tie.Need-spelled-requires
-spelled-requires c κs = search needs
-
-judged-requires : tie.Need-judged-requires
-judged-requires c κs = search needs
-
-closes-requires : tie.Need-closes-requires
-closes-requires c κs = search needs
-
 returns : tie.Need-returns
 unfolding warnings
 returns c =
@@ -27,12 +18,6 @@ returns c =
     let a = st .args in
     let s = a .buf .now in
     subst (λ t. Writes warnings s (closes .closes .result) s (valuesAs (a .r) t)) (time .spelled .ensures) (write-refused warnings _ s (judged .judged .ensures) (closes .closes .ensures) (c .if1 .taken))
-
-put-requires : tie.Need-put-requires
-put-requires c κs = search needs
-
-same-length : tie.Need-same-length
-same-length c = search needs
 
 returns-2 : tie.Need-returns-2
 unfolding warnings
@@ -52,10 +37,10 @@ pub write-spec : {M : Type 1} → statement M
 write-spec =
     tie.close
     (tie.spec
-    spelled-requires
-    judged-requires
-    closes-requires
+    (λ c κs. search needs)
+    (λ c κs. search needs)
+    (λ c κs. search needs)
     returns
-    put-requires
-    same-length
+    (λ c κs. search needs)
+    (λ c. search needs)
     returns-2)

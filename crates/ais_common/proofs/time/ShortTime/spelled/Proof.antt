@@ -21,27 +21,6 @@ returns-3 c =
     let t = c .before .before .before .args .self in
     rw (lt-ltb (t .month) 16 (c .before .before .if1 .left), lt-ltb (t .day) 32 (c .before .if2 .left), le-ltb (t .hour) 32 (omega (arith, c .if3 .taken))) refl
 
-cast-result : tie.Need-cast-result
-cast-result c = search needs
-
-mul-result : tie.Need-mul-result
-mul-result c = search needs
-
-cast-result-2 : tie.Need-cast-result-2
-cast-result-2 c = search needs
-
-mul-result-2 : tie.Need-mul-result-2
-mul-result-2 c = search needs
-
-add-result : tie.Need-add-result
-add-result c = search needs
-
-cast-result-3 : tie.Need-cast-result-3
-cast-result-3 c = search needs
-
-add-result-2 : tie.Need-add-result-2
-add-result-2 c = search needs
-
 returns-4 : tie.Need-returns-4
 unfolding spellShort
 returns-4 c =
@@ -55,11 +34,11 @@ spelled-spec =
     returns
     returns-2
     returns-3
-    cast-result
-    mul-result
-    cast-result-2
-    mul-result-2
-    add-result
-    cast-result-3
-    add-result-2
+    (λ c. search needs)
+    (λ c. search needs)
+    (λ c. search needs)
+    (λ c. search needs)
+    (λ c. search needs)
+    (λ c. search needs)
+    (λ c. search needs)
     returns-4)

@@ -7,9 +7,6 @@ use borrow.Author.Needs.{needs}
 use Rattle.ais_common.proofs.time.Time.spelled.Statement.{statement}
 use Rattle.ais_common.proofs.time.Time.spelled.Tie as tie
 
-spelled-requires : tie.Need-spelled-requires
-spelled-requires c κs = search needs
-
 returns : tie.Need-returns
 unfolding spellShort spellTime
 returns c =
@@ -28,15 +25,6 @@ returns-2 c =
     let n : _≡_ {A = ℕ} (2 ^ 20) (timed d (t .minute)) = rw (lt-ltb d (2 ^ 14) (c .before .if1 .left), le-ltb (t .minute) 64 (c .if2 .taken)) refl in
     n ∙ ap (λ d. timed d (t .minute)) (date .spelled .ensures)
 
-mul-result : tie.Need-mul-result
-mul-result c = search needs
-
-cast-result : tie.Need-cast-result
-cast-result c = search needs
-
-add-result : tie.Need-add-result
-add-result c = search needs
-
 returns-3 : tie.Need-returns-3
 unfolding spellShort spellTime
 returns-3 c =
@@ -49,4 +37,4 @@ returns-3 c =
 pub spelled-spec : {M : Type 1} → statement M
 spelled-spec =
     tie.close
-    (tie.spec spelled-requires returns returns-2 mul-result cast-result add-result returns-3)
+    (tie.spec (λ c κs. search needs) returns returns-2 (λ c. search needs) (λ c. search needs) (λ c. search needs) returns-3)

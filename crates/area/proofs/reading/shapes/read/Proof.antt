@@ -4,17 +4,11 @@ use borrow.Author.Needs.{needs}
 use Rattle.area.proofs.reading.shapes.read.Statement.{statement}
 use Rattle.area.proofs.reading.shapes.read.Tie as tie
 
-read-circle-requires : tie.Need-read-circle-requires
-read-circle-requires c κs = search needs
-
 returns : tie.Need-returns
 returns c =
     let f = c .before in
     let st = f .before .before in
     rw (eq-eqb (st .args .kind) 1 (f .if1 .taken)) (c .read-circle .ensures)
-
-read-rectangle-requires : tie.Need-read-rectangle-requires
-read-rectangle-requires c κs = search needs
 
 returns-2 : tie.Need-returns-2
 returns-2 c =
@@ -23,4 +17,4 @@ returns-2 c =
     rw (ne-eqb (st .args .kind) 1 (f .if1 .left)) (c .read-rectangle .ensures)
 
 pub read-spec : {M : Type 1} → statement M
-read-spec = tie.close (tie.spec read-circle-requires returns read-rectangle-requires returns-2)
+read-spec = tie.close (tie.spec (λ c κs. search needs) returns (λ c κs. search needs) returns-2)

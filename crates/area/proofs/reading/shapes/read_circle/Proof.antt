@@ -11,27 +11,6 @@ use borrow.Author.Needs.{needs}
 use Rattle.area.proofs.reading.shapes.read_circle.Statement.{statement}
 use Rattle.area.proofs.reading.shapes.read_circle.Tie as tie
 
-read-longitude-requires : tie.Need-read-longitude-requires
-read-longitude-requires c κs = search needs
-
-int-requires : tie.Need-int-requires
-int-requires c κs = search needs
-
-read-latitude-requires : tie.Need-read-latitude-requires
-read-latitude-requires c κs = search needs
-
-int-requires-2 : tie.Need-int-requires-2
-int-requires-2 c κs = search needs
-
-num-requires : tie.Need-num-requires
-num-requires c κs = search needs
-
-cast-radius : tie.Need-cast-radius
-cast-radius c = search needs
-
-blank-requires : tie.Need-blank-requires
-blank-requires c κs = search needs
-
 returns : tie.Need-returns
 unfolding circleRead
 returns c =
@@ -54,11 +33,11 @@ pub read-circle-spec : {M : Type 1} → statement M
 read-circle-spec =
     tie.close
     (tie.spec
-    read-longitude-requires
-    int-requires
-    read-latitude-requires
-    int-requires-2
-    num-requires
-    cast-radius
-    blank-requires
+    (λ c κs. search needs)
+    (λ c κs. search needs)
+    (λ c κs. search needs)
+    (λ c κs. search needs)
+    (λ c κs. search needs)
+    (λ c. search needs)
+    (λ c κs. search needs)
     returns)

@@ -9,30 +9,6 @@ use borrow.Author.Needs.{needs}
 use Rattle.area.proofs.reading.shapes.read_rectangle.Statement.{statement}
 use Rattle.area.proofs.reading.shapes.read_rectangle.Tie as tie
 
-read-longitude-requires : tie.Need-read-longitude-requires
-read-longitude-requires c κs = search needs
-
-int-requires : tie.Need-int-requires
-int-requires c κs = search needs
-
-read-latitude-requires : tie.Need-read-latitude-requires
-read-latitude-requires c κs = search needs
-
-int-requires-2 : tie.Need-int-requires-2
-int-requires-2 c κs = search needs
-
-read-longitude-requires-2 : tie.Need-read-longitude-requires-2
-read-longitude-requires-2 c κs = search needs
-
-int-requires-3 : tie.Need-int-requires-3
-int-requires-3 c κs = search needs
-
-read-latitude-requires-2 : tie.Need-read-latitude-requires-2
-read-latitude-requires-2 c κs = search needs
-
-int-requires-4 : tie.Need-int-requires-4
-int-requires-4 c κs = search needs
-
 returns : tie.Need-returns
 unfolding rectangleRead
 returns c =
@@ -59,12 +35,12 @@ pub read-rectangle-spec : {M : Type 1} → statement M
 read-rectangle-spec =
     tie.close
     (tie.spec
-    read-longitude-requires
-    int-requires
-    read-latitude-requires
-    int-requires-2
-    read-longitude-requires-2
-    int-requires-3
-    read-latitude-requires-2
-    int-requires-4
+    (λ c κs. search needs)
+    (λ c κs. search needs)
+    (λ c κs. search needs)
+    (λ c κs. search needs)
+    (λ c κs. search needs)
+    (λ c κs. search needs)
+    (λ c κs. search needs)
+    (λ c κs. search needs)
     returns)

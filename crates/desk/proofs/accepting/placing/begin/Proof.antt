@@ -14,35 +14,8 @@ use Rattle.places.specs.laws.Laid.{laid-within}
 use Rattle.desk.proofs.accepting.placing.begin.Statement.{statement}
 use Rattle.desk.proofs.accepting.placing.begin.Tie as tie
 
-staying-requires : tie.Need-staying-requires
-staying-requires c κs = search needs
-
 returns : tie.Need-returns
 returns c = let a = c .before .before .before .before .args in settled (a .first) (opens (a .store .now) (a .i) (a .r) (a .content .now)) (turnedAway (a .store .now) 8) _ _ (rw (le-ltb (a .i) fourPlaces (c .before .if1 .taken)) refl) (c .staying .ensures) (lit< tt) refl
-
-mul-lay : tie.Need-mul-lay
-mul-lay c = search needs
-
-cast-lay : tie.Need-cast-lay
-cast-lay c = search needs
-
-mul-lay-2 : tie.Need-mul-lay-2
-mul-lay-2 c = search needs
-
-add-lay : tie.Need-add-lay
-add-lay c = search needs
-
-lay-requires : tie.Need-lay-requires
-lay-requires c κs = search needs
-
-cast-opened : tie.Need-cast-opened
-cast-opened c = search needs
-
-opened-requires : tie.Need-opened-requires
-opened-requires c κs = search needs
-
-same-length : tie.Need-same-length
-same-length c = search needs
 
 returns-2 : tie.Need-returns-2
 returns-2 c =
@@ -56,14 +29,14 @@ pub begin-spec : {M : Type 1} → statement M
 begin-spec =
     tie.close
     (tie.spec
-    staying-requires
+    (λ c κs. search needs)
     returns
-    mul-lay
-    cast-lay
-    mul-lay-2
-    add-lay
-    lay-requires
-    cast-opened
-    opened-requires
-    same-length
+    (λ c. search needs)
+    (λ c. search needs)
+    (λ c. search needs)
+    (λ c. search needs)
+    (λ c κs. search needs)
+    (λ c. search needs)
+    (λ c κs. search needs)
+    (λ c. search needs)
     returns-2)

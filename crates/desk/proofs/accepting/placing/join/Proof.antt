@@ -14,47 +14,11 @@ use Rattle.desk.proofs.Joins.{other-language, other-total, not-held, he
 use Rattle.desk.proofs.accepting.placing.join.Statement.{statement}
 use Rattle.desk.proofs.accepting.placing.join.Tie as tie
 
-staying-requires : tie.Need-staying-requires
-staying-requires c κs = search needs
-
 returns : tie.Need-returns
 returns c = let a = c .before .before .before .before .before .before .args in settled (a .first) _ (turnedAway (a .store .now) 7) _ _ (other-language (a .store .now) (a .i) (a .p) (a .r) (a .content .now) (c .before .if1 .taken)) (c .staying .ensures) (lit< tt) refl
 
-staying-requires-2 : tie.Need-staying-requires-2
-staying-requires-2 c κs = search needs
-
 returns-2 : tie.Need-returns-2
 returns-2 c = let a = c .before .before .before .before .before .before .before .before .before .args in settled (a .first) _ (turnedAway (a .store .now) 7) _ _ (other-total (a .store .now) (a .i) (a .p) (a .r) (a .content .now) (c .before .before .before .before .if1 .left) (c .before .if2 .taken)) (c .staying2 .ensures) (lit< tt) refl
-
-cast-own : tie.Need-cast-own
-cast-own c = search needs
-
-array-read-size : tie.Need-array-read-size
-array-read-size c = search needs
-
-cast-size : tie.Need-cast-size
-cast-size c = search needs
-
-mul-at : tie.Need-mul-at
-mul-at c = search needs
-
-mul-at-2 : tie.Need-mul-at-2
-mul-at-2 c = search needs
-
-add-at : tie.Need-add-at
-add-at c = search needs
-
-lay-requires : tie.Need-lay-requires
-lay-requires c κs = search needs
-
-cast-holding : tie.Need-cast-holding
-cast-holding c = search needs
-
-holding-requires : tie.Need-holding-requires
-holding-requires c κs = search needs
-
-same-length : tie.Need-same-length
-same-length c = search needs
 
 returns-3 : tie.Need-returns-3
 returns-3 c =
@@ -64,38 +28,11 @@ returns-3 c =
     (ap (λ q. record { at = a .i; place = q; reply = Done }) (c .holding .ensures)) (omega arith)
     (c .before .before .before .lay .ensures ∙ laid-within (a .store .now) (cell (a .i) (a .r .own)) (a .content .now) (omega arith))
 
-add-same : tie.Need-add-same
-add-same c = search needs
-
-sub-same : tie.Need-sub-same
-sub-same c = search needs
-
-part-same-start : tie.Need-part-same-start
-part-same-start c = search needs
-
-part-same-end : tie.Need-part-same-end
-part-same-end c = search needs
-
-same-requires : tie.Need-same-requires
-same-requires c κs = search needs
-
-staying-requires-3 : tie.Need-staying-requires-3
-staying-requires-3 c κs = search needs
-
-same-length-2 : tie.Need-same-length-2
-same-length-2 c = search needs
-
 returns-4 : tie.Need-returns-4
 returns-4 c =
     let a = c .before .before .before .before .before .before .before .before .before .before .before .before .before .before .before .before .args in
     let size : held (a .p) (a .r .own) ≡ cell (a .i) (a .r .own) + held (a .p) (a .r .own) - cell (a .i) (a .r .own) = omega arith in
     settled (a .first) _ (record { reply = Again; change = stays; store = a .store .now }) _ _ (held-again (a .store .now) (a .i) (a .p) (a .r) (a .content .now) (c .before .before .before .before .before .before .before .before .before .before .before .if1 .left) (c .before .before .before .before .before .before .before .before .if2 .left) (c .before .before .before .before .before .if3 .left) (ap (λ n. alike (take n (drop (cell (a .i) (a .r .own)) (a .store .now))) (a .content .now)) size ∙ sym (c .before .before .same .ensures) ∙ c .before .if4 .taken)) (c .staying3 .ensures) (lit< tt) refl
-
-staying-requires-4 : tie.Need-staying-requires-4
-staying-requires-4 c κs = search needs
-
-same-length-3 : tie.Need-same-length-3
-same-length-3 c = search needs
 
 returns-5 : tie.Need-returns-5
 returns-5 c =
@@ -107,29 +44,29 @@ pub join-spec : {M : Type 1} → statement M
 join-spec =
     tie.close
     (tie.spec
-    staying-requires
+    (λ c κs. search needs)
     returns
-    staying-requires-2
+    (λ c κs. search needs)
     returns-2
-    cast-own
-    array-read-size
-    cast-size
-    mul-at
-    mul-at-2
-    add-at
-    lay-requires
-    cast-holding
-    holding-requires
-    same-length
+    (λ c. search needs)
+    (λ c. search needs)
+    (λ c. search needs)
+    (λ c. search needs)
+    (λ c. search needs)
+    (λ c. search needs)
+    (λ c κs. search needs)
+    (λ c. search needs)
+    (λ c κs. search needs)
+    (λ c. search needs)
     returns-3
-    add-same
-    sub-same
-    part-same-start
-    part-same-end
-    same-requires
-    staying-requires-3
-    same-length-2
+    (λ c. search needs)
+    (λ c. search needs)
+    (λ c. search needs)
+    (λ c. search needs)
+    (λ c κs. search needs)
+    (λ c κs. search needs)
+    (λ c. search needs)
     returns-4
-    staying-requires-4
-    same-length-3
+    (λ c κs. search needs)
+    (λ c. search needs)
     returns-5)

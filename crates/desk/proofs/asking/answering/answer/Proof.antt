@@ -16,12 +16,6 @@ use Rattle.desk.proofs.asking.answering.answer.Tie as tie
 none-missing : (n : tie.After-count-bytes) → let p = n .before .before .before .before .before .before .args .p in length (missingBelow (p .total) p) ≡ 0
 none-missing n = omega (arith, n .before .before .count-missing .ensures, n .before .if1 .left)
 
-count-missing-requires : tie.Need-count-missing-requires
-count-missing-requires c κs = search needs
-
-staying-requires : tie.Need-staying-requires
-staying-requires c κs = search needs
-
 returns : tie.Need-returns
 returns c =
     let m = c .before .before .before in
@@ -29,15 +23,6 @@ returns c =
     let e = row-short (a .store .now) (a .i) (a .p) (a .notice .now) (a .missing .now) (m .count-missing .result) (m .count-missing .ensures) (λ z. omega (arith, z, c .before .before .if1 .taken)) (omega (arith, c .before .if2 .taken)) in
     let again = c .staying .ensures in
     answered (a .first) _ _ (c .staying .result) (a .notice .now) (a .missing .now) e (again, first-again (c .staying .result) (a .first) _ again, refl, refl)
-
-list-missing-requires : tie.Need-list-missing-requires
-list-missing-requires c κs = search needs
-
-staying-requires-2 : tie.Need-staying-requires-2
-staying-requires-2 c κs = search needs
-
-same-length : tie.Need-same-length
-same-length c = search needs
 
 returns-2 : tie.Need-returns-2
 returns-2 c =
@@ -48,12 +33,6 @@ returns-2 c =
     let again = c .staying2 .ensures in
     answered (a .first) _ _ (c .staying2 .result) (a .notice .now) _ e (again, first-again (c .staying2 .result) (a .first) _ again, refl, l .list-missing .ensures)
 
-count-bytes-requires : tie.Need-count-bytes-requires
-count-bytes-requires c κs = search needs
-
-staying-requires-3 : tie.Need-staying-requires-3
-staying-requires-3 c κs = search needs
-
 returns-3 : tie.Need-returns-3
 returns-3 c =
     let n = c .before .before in
@@ -62,15 +41,6 @@ returns-3 c =
     let e = buffer-short (a .store .now) (a .i) (a .p) (a .notice .now) (a .missing .now) (st .pre .0) (st .pre .1) (st .pre .2) (none-missing n) (n .count-bytes .result) (n .count-bytes .ensures) (omega (arith, c .before .if3 .taken)) in
     let again = c .staying3 .ensures in
     answered (a .first) _ _ (c .staying3 .result) (a .notice .now) (a .missing .now) e (again, first-again (c .staying3 .result) (a .first) _ again, refl, refl)
-
-join-requires : tie.Need-join-requires
-join-requires c κs = search needs
-
-freed-requires : tie.Need-freed-requires
-freed-requires c κs = search needs
-
-same-length-2 : tie.Need-same-length-2
-same-length-2 c = search needs
 
 returns-4 : tie.Need-returns-4
 returns-4 c =
@@ -88,17 +58,17 @@ pub answer-spec : {M : Type 1} → statement M
 answer-spec =
     tie.close
     (tie.spec
-    count-missing-requires
-    staying-requires
+    (λ c κs. search needs)
+    (λ c κs. search needs)
     returns
-    list-missing-requires
-    staying-requires-2
-    same-length
+    (λ c κs. search needs)
+    (λ c κs. search needs)
+    (λ c. search needs)
     returns-2
-    count-bytes-requires
-    staying-requires-3
+    (λ c κs. search needs)
+    (λ c κs. search needs)
     returns-3
-    join-requires
-    freed-requires
-    same-length-2
+    (λ c κs. search needs)
+    (λ c κs. search needs)
+    (λ c. search needs)
     returns-4)

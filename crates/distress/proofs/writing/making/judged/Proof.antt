@@ -8,42 +8,6 @@ use borrow.Author.Needs.{needs}
 use Rattle.distress.proofs.writing.making.judged.Statement.{statement}
 use Rattle.distress.proofs.writing.making.judged.Tie as tie
 
-begin-requires : tie.Need-begin-requires
-begin-requires c κs = search needs
-
-fixed-requires : tie.Need-fixed-requires
-fixed-requires c κs = search needs
-
-value-requires : tie.Need-value-requires
-value-requires c κs = search needs
-
-signed-value-requires : tie.Need-signed-value-requires
-signed-value-requires c κs = search needs
-
-signed-value-requires-2 : tie.Need-signed-value-requires-2
-signed-value-requires-2 c κs = search needs
-
-value-requires-2 : tie.Need-value-requires-2
-value-requires-2 c κs = search needs
-
-value-requires-3 : tie.Need-value-requires-3
-value-requires-3 c κs = search needs
-
-value-requires-4 : tie.Need-value-requires-4
-value-requires-4 c κs = search needs
-
-value-requires-5 : tie.Need-value-requires-5
-value-requires-5 c κs = search needs
-
-value-requires-6 : tie.Need-value-requires-6
-value-requires-6 c κs = search needs
-
-value-requires-7 : tie.Need-value-requires-7
-value-requires-7 c κs = search needs
-
-fixed-requires-2 : tie.Need-fixed-requires-2
-fixed-requires-2 c κs = search needs
-
 returns : tie.Need-returns
 unfolding report listOf
 returns c =
@@ -76,16 +40,16 @@ pub judged-spec : {M : Type 1} → statement M
 judged-spec =
     tie.close
     (tie.spec
-    begin-requires
-    fixed-requires
-    value-requires
-    signed-value-requires
-    signed-value-requires-2
-    value-requires-2
-    value-requires-3
-    value-requires-4
-    value-requires-5
-    value-requires-6
-    value-requires-7
-    fixed-requires-2
+    (λ c κs. search needs)
+    (λ c κs. search needs)
+    (λ c κs. search needs)
+    (λ c κs. search needs)
+    (λ c κs. search needs)
+    (λ c κs. search needs)
+    (λ c κs. search needs)
+    (λ c κs. search needs)
+    (λ c κs. search needs)
+    (λ c κs. search needs)
+    (λ c κs. search needs)
+    (λ c κs. search needs)
     returns)

@@ -11,39 +11,6 @@ use borrow.Author.Needs.{needs}
 use Rattle.distress.proofs.writing.making.put.Statement.{statement}
 use Rattle.distress.proofs.writing.making.put.Tie as tie
 
-put-requires : tie.Need-put-requires
-put-requires c κs = search needs
-
-put-requires-2 : tie.Need-put-requires-2
-put-requires-2 c κs = search needs
-
-put-requires-3 : tie.Need-put-requires-3
-put-requires-3 c κs = search needs
-
-put-requires-4 : tie.Need-put-requires-4
-put-requires-4 c κs = search needs
-
-put-requires-5 : tie.Need-put-requires-5
-put-requires-5 c κs = search needs
-
-put-requires-6 : tie.Need-put-requires-6
-put-requires-6 c κs = search needs
-
-put-requires-7 : tie.Need-put-requires-7
-put-requires-7 c κs = search needs
-
-put-requires-8 : tie.Need-put-requires-8
-put-requires-8 c κs = search needs
-
-put-requires-9 : tie.Need-put-requires-9
-put-requires-9 c κs = search needs
-
-put-requires-10 : tie.Need-put-requires-10
-put-requires-10 c κs = search needs
-
-put-requires-11 : tie.Need-put-requires-11
-put-requires-11 c κs = search needs
-
 -- the first 6 puts leave as many bytes
 half : (p : tie.After-put6) → length (p .put6 .last .0) ≡ length (p .before .before .before .before .before .before .before .before .before .before .before .before .before .before .before .before .before .before .before .before .before .before .before .args .buf .now)
 half p = omega arith
@@ -86,16 +53,16 @@ pub put-spec : {M : Type 1} → statement M
 put-spec =
     tie.close
     (tie.spec
-    put-requires
-    put-requires-2
-    put-requires-3
-    put-requires-4
-    put-requires-5
-    put-requires-6
-    put-requires-7
-    put-requires-8
-    put-requires-9
-    put-requires-10
-    put-requires-11
+    (λ c κs. search needs)
+    (λ c κs. search needs)
+    (λ c κs. search needs)
+    (λ c κs. search needs)
+    (λ c κs. search needs)
+    (λ c κs. search needs)
+    (λ c κs. search needs)
+    (λ c κs. search needs)
+    (λ c κs. search needs)
+    (λ c κs. search needs)
+    (λ c κs. search needs)
     same-length
     returns)

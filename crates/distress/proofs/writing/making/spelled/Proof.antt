@@ -11,33 +11,6 @@ use borrow.Author.Needs.{needs}
 use Rattle.distress.proofs.writing.making.spelled.Statement.{statement}
 use Rattle.distress.proofs.writing.making.spelled.Tie as tie
 
-spelled-requires : tie.Need-spelled-requires
-spelled-requires c κs = search needs
-
-spelled-requires-2 : tie.Need-spelled-requires-2
-spelled-requires-2 c κs = search needs
-
-cast-t6 : tie.Need-cast-t6
-cast-t6 c = search needs
-
-cast-t7 : tie.Need-cast-t7
-cast-t7 c = search needs
-
-cast-t8 : tie.Need-cast-t8
-cast-t8 c = search needs
-
-cast-t9 : tie.Need-cast-t9
-cast-t9 c = search needs
-
-cast-t10 : tie.Need-cast-t10
-cast-t10 c = search needs
-
-cast-t11 : tie.Need-cast-t11
-cast-t11 c = search needs
-
-cast-t12 : tie.Need-cast-t12
-cast-t12 c = search needs
-
 returns : tie.Need-returns
 unfolding listOf valuesOf
 returns c =
@@ -54,13 +27,13 @@ pub spelled-spec : {M : Type 1} → statement M
 spelled-spec =
     tie.close
     (tie.spec
-    spelled-requires
-    spelled-requires-2
-    cast-t6
-    cast-t7
-    cast-t8
-    cast-t9
-    cast-t10
-    cast-t11
-    cast-t12
+    (λ c κs. search needs)
+    (λ c κs. search needs)
+    (λ c. search needs)
+    (λ c. search needs)
+    (λ c. search needs)
+    (λ c. search needs)
+    (λ c. search needs)
+    (λ c. search needs)
+    (λ c. search needs)
     returns)

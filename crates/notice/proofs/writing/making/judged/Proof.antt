@@ -20,9 +20,6 @@ use Rattle.notice.specs.laws.Judging.{spoken-whole, text-judged, from-fr
 use Rattle.notice.proofs.writing.making.judged.Statement.{statement}
 use Rattle.notice.proofs.writing.making.judged.Tie as tie
 
-judged-head-requires : tie.Need-judged-head-requires
-judged-head-requires c κs = search needs
-
 returns : tie.Need-returns
 unfolding valuesOf
 returns c =
@@ -33,18 +30,6 @@ returns c =
       judged = refused-judged (length (a .text .now) * 8) (c .if1 .taken) (going (x .is (a .english) (areasTold (a .r .count) (a .areas .now) ++ texted (a .text .now))));
       asked = λ z. absurd (c .if1 .taken z);
     }
-
-judge-requires : tie.Need-judge-requires
-judge-requires c κs = search needs
-
-spoken-requires : tie.Need-spoken-requires
-spoken-requires c κs = search needs
-
-choose-requires : tie.Need-choose-requires
-choose-requires c κs = search needs
-
-wide-requires : tie.Need-wide-requires
-wide-requires c κs = search needs
 
 returns-2 : tie.Need-returns-2
 unfolding valuesOf onward
@@ -71,10 +56,10 @@ pub judged-spec : {M : Type 1} → statement M
 judged-spec =
     tie.close
     (tie.spec
-    judged-head-requires
+    (λ c κs. search needs)
     returns
-    judge-requires
-    spoken-requires
-    choose-requires
-    wide-requires
+    (λ c κs. search needs)
+    (λ c κs. search needs)
+    (λ c κs. search needs)
+    (λ c κs. search needs)
     returns-2)

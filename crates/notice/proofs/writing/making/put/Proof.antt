@@ -17,30 +17,12 @@ use Rattle.notice.specs.Record.{texted, valuesOf}
 use Rattle.notice.proofs.writing.making.put.Statement.{statement}
 use Rattle.notice.proofs.writing.making.put.Tie as tie
 
-put-head-requires : tie.Need-put-head-requires
-put-head-requires c κs = search needs
-
-put-requires : tie.Need-put-requires
-put-requires c κs = search needs
-
-put-bytes-requires : tie.Need-put-bytes-requires
-put-bytes-requires c κs = search needs
-
-mul-fill : tie.Need-mul-fill
-mul-fill c = search needs
-
 add-fill : tie.Need-add-fill
 add-fill c =
     let p = c .before .before .before .before .before .before .before in
     let h = p .before .before .before .before in
     let a = h .before .before .before .before .before .args in
     omega (arith, ap (λ (x : ℕ × List ℕ). x .0) (p .put .ensures), areas-near (a .areas .now) (a .r .count) 0 front (h .put-head .last .0))
-
-fill-requires : tie.Need-fill-requires
-fill-requires c κs = search needs
-
-same-length : tie.Need-same-length
-same-length c = search needs
 
 returns : tie.Need-returns
 unfolding valuesOf putBytesAt
@@ -66,11 +48,11 @@ pub put-spec : {M : Type 1} → statement M
 put-spec =
     tie.close
     (tie.spec
-    put-head-requires
-    put-requires
-    put-bytes-requires
-    mul-fill
+    (λ c κs. search needs)
+    (λ c κs. search needs)
+    (λ c κs. search needs)
+    (λ c. search needs)
     add-fill
-    fill-requires
-    same-length
+    (λ c κs. search needs)
+    (λ c. search needs)
     returns)

@@ -16,42 +16,6 @@ use borrow.Author.Needs.{needs}
 use Rattle.packet.proofs.writing.making.judged.Statement.{statement}
 use Rattle.packet.proofs.writing.making.judged.Tie as tie
 
-begin-requires : tie.Need-begin-requires
-begin-requires c κs = search needs
-
-fixed-requires : tie.Need-fixed-requires
-fixed-requires c κs = search needs
-
-fixed-requires-2 : tie.Need-fixed-requires-2
-fixed-requires-2 c κs = search needs
-
-cast-value : tie.Need-cast-value
-cast-value c = search needs
-
-value-requires : tie.Need-value-requires
-value-requires c κs = search needs
-
-cast-value-2 : tie.Need-cast-value-2
-cast-value-2 c = search needs
-
-value-requires-2 : tie.Need-value-requires-2
-value-requires-2 c κs = search needs
-
-cast-value-3 : tie.Need-cast-value-3
-cast-value-3 c = search needs
-
-value-requires-3 : tie.Need-value-requires-3
-value-requires-3 c κs = search needs
-
-cast-value-4 : tie.Need-cast-value-4
-cast-value-4 c = search needs
-
-last-requires : tie.Need-last-requires
-last-requires c κs = search needs
-
-value-requires-4 : tie.Need-value-requires-4
-value-requires-4 c κs = search needs
-
 returns : tie.Need-returns
 unfolding packet valuesOf
 returns c x =
@@ -80,16 +44,16 @@ pub judged-spec : {M : Type 1} → statement M
 judged-spec =
     tie.close
     (tie.spec
-    begin-requires
-    fixed-requires
-    fixed-requires-2
-    cast-value
-    value-requires
-    cast-value-2
-    value-requires-2
-    cast-value-3
-    value-requires-3
-    cast-value-4
-    last-requires
-    value-requires-4
+    (λ c κs. search needs)
+    (λ c κs. search needs)
+    (λ c κs. search needs)
+    (λ c. search needs)
+    (λ c κs. search needs)
+    (λ c. search needs)
+    (λ c κs. search needs)
+    (λ c. search needs)
+    (λ c κs. search needs)
+    (λ c. search needs)
+    (λ c κs. search needs)
+    (λ c κs. search needs)
     returns)

@@ -5,12 +5,6 @@ use borrow.Author.Needs.{needs}
 use Rattle.txhz.proofs.reading.Answer.count.Statement.{statement}
 use Rattle.txhz.proofs.reading.Answer.count.Tie as tie
 
-enum-known-self : tie.Need-enum-known-self
-enum-known-self c = search needs
-
-enum-told : tie.Need-enum-told
-enum-told c = search needs
-
 returns : tie.Need-returns
 returns c = sym (ap countOf (c .before .self .given .1))
 
@@ -18,4 +12,4 @@ returns-2 : tie.Need-returns-2
 returns-2 c = search needs
 
 pub count-spec : {M : Type 1} → statement M
-count-spec = tie.close (tie.spec enum-known-self enum-told returns returns-2)
+count-spec = tie.close (tie.spec (λ c. search needs) (λ c. search needs) returns returns-2)

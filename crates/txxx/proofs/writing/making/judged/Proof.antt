@@ -23,72 +23,6 @@ use borrow.Author.Needs.{needs}
 use Rattle.txxx.proofs.writing.making.judged.Statement.{statement}
 use Rattle.txxx.proofs.writing.making.judged.Tie as tie
 
-declared-requires : tie.Need-declared-requires
-declared-requires c κs = search needs
-
-cast-size : tie.Need-cast-size
-cast-size c = search needs
-
-cast-judged : tie.Need-cast-judged
-cast-judged c = search needs
-
-judged-requires : tie.Need-judged-requires
-judged-requires c κs = search needs
-
-cast-value : tie.Need-cast-value
-cast-value c = search needs
-
-value-requires : tie.Need-value-requires
-value-requires c κs = search needs
-
-cast-value-2 : tie.Need-cast-value-2
-cast-value-2 c = search needs
-
-value-requires-2 : tie.Need-value-requires-2
-value-requires-2 c κs = search needs
-
-cast-value-3 : tie.Need-cast-value-3
-cast-value-3 c = search needs
-
-value-requires-3 : tie.Need-value-requires-3
-value-requires-3 c κs = search needs
-
-cast-value-4 : tie.Need-cast-value-4
-cast-value-4 c = search needs
-
-value-requires-4 : tie.Need-value-requires-4
-value-requires-4 c κs = search needs
-
-limit-requires : tie.Need-limit-requires
-limit-requires c κs = search needs
-
-on-requires : tie.Need-on-requires
-on-requires c κs = search needs
-
-cast-wide : tie.Need-cast-wide
-cast-wide c = search needs
-
-wide-requires : tie.Need-wide-requires
-wide-requires c κs = search needs
-
-spare-requires : tie.Need-spare-requires
-spare-requires c κs = search needs
-
-cast-get : tie.Need-cast-get
-cast-get c = search needs
-
-get-requires : tie.Need-get-requires
-get-requires c κs = search needs
-
-fill-value-requires : tie.Need-fill-value-requires
-fill-value-requires c κs = search needs
-
-cast-value-5 : tie.Need-cast-value-5
-cast-value-5 c = search needs
-
-value-requires-5 : tie.Need-value-requires-5
-value-requires-5 c κs = search needs
-
 returns : tie.Need-returns
 unfolding txxx valuesOf
 returns c =
@@ -128,26 +62,26 @@ pub judged-spec : {M : Type 1} → statement M
 judged-spec =
     tie.close
     (tie.spec
-    declared-requires
-    cast-size
-    cast-judged
-    judged-requires
-    cast-value
-    value-requires
-    cast-value-2
-    value-requires-2
-    cast-value-3
-    value-requires-3
-    cast-value-4
-    value-requires-4
-    limit-requires
-    on-requires
-    cast-wide
-    wide-requires
-    spare-requires
-    cast-get
-    get-requires
-    fill-value-requires
-    cast-value-5
-    value-requires-5
+    (λ c κs. search needs)
+    (λ c. search needs)
+    (λ c. search needs)
+    (λ c κs. search needs)
+    (λ c. search needs)
+    (λ c κs. search needs)
+    (λ c. search needs)
+    (λ c κs. search needs)
+    (λ c. search needs)
+    (λ c κs. search needs)
+    (λ c. search needs)
+    (λ c κs. search needs)
+    (λ c κs. search needs)
+    (λ c κs. search needs)
+    (λ c. search needs)
+    (λ c κs. search needs)
+    (λ c κs. search needs)
+    (λ c. search needs)
+    (λ c κs. search needs)
+    (λ c κs. search needs)
+    (λ c. search needs)
+    (λ c κs. search needs)
     returns)

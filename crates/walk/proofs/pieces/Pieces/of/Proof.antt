@@ -11,12 +11,6 @@ use borrow.Author.Needs.{needs}
 use Rattle.walk.proofs.pieces.Pieces.of.Statement.{statement}
 use Rattle.walk.proofs.pieces.Pieces.of.Tie as tie
 
-above-requires : tie.Need-above-requires
-above-requires c κs = search needs
-
-inside-requires : tie.Need-inside-requires
-inside-requires c κs = search needs
-
 too-wide : (v w : ℕ) → _≡_ {A = ℕ} (cond (leb 0 (v / 2 ^ w) && leb (v / 2 ^ w) 0) 0 4) (cond (ltb v (2 ^ w)) 0 4)
 too-wide v w = go (ltb v (2 ^ w)) refl
   where
@@ -34,4 +28,4 @@ returns c =
     λ i. record { v = a .v; width = a .w; left = a .w; code = e i; into = 0 }
 
 pub of-spec : {M : Type 1} → statement M
-of-spec = tie.close (tie.spec above-requires inside-requires returns)
+of-spec = tie.close (tie.spec (λ c κs. search needs) (λ c κs. search needs) returns)

@@ -3,9 +3,6 @@ use borrow.Author.Needs.{needs}
 use Rattle.walk.proofs.pieces.Pieces.or_zero.Statement.{statement}
 use Rattle.walk.proofs.pieces.Pieces.or_zero.Tie as tie
 
-choose-requires : tie.Need-choose-requires
-choose-requires c κs = search needs
-
 returns : tie.Need-returns
 returns c =
     let a = c .before .before .args in
@@ -13,4 +10,4 @@ returns c =
     λ i. record { v = a .self .v; width = a .self .width; left = a .self .left; code = code i; into = a .self .into }
 
 pub or-zero-spec : {M : Type 1} → statement M
-or-zero-spec = tie.close (tie.spec choose-requires returns)
+or-zero-spec = tie.close (tie.spec (λ c κs. search needs) returns)

@@ -8,30 +8,6 @@ use borrow.Author.Needs.{needs}
 use Rattle.walk.proofs.pieces.Pieces.piece.Statement.{statement}
 use Rattle.walk.proofs.pieces.Pieces.piece.Tie as tie
 
-none-requires : tie.Need-none-requires
-none-requires c κs = search needs
-
-minus-requires : tie.Need-minus-requires
-minus-requires c κs = search needs
-
-above-requires : tie.Need-above-requires
-above-requires c κs = search needs
-
-below-requires : tie.Need-below-requires
-below-requires c κs = search needs
-
-inside-requires : tie.Need-inside-requires
-inside-requires c κs = search needs
-
-choose-requires : tie.Need-choose-requires
-choose-requires c κs = search needs
-
-minus-requires-2 : tie.Need-minus-requires-2
-minus-requires-2 c κs = search needs
-
-pick-requires : tie.Need-pick-requires
-pick-requires c κs = search needs
-
 returns : tie.Need-returns
 unfolding pieced
 returns c =
@@ -55,12 +31,12 @@ pub piece-spec : {M : Type 1} → statement M
 piece-spec =
     tie.close
     (tie.spec
-    none-requires
-    minus-requires
-    above-requires
-    below-requires
-    inside-requires
-    choose-requires
-    minus-requires-2
-    pick-requires
+    (λ c κs. search needs)
+    (λ c κs. search needs)
+    (λ c κs. search needs)
+    (λ c κs. search needs)
+    (λ c κs. search needs)
+    (λ c κs. search needs)
+    (λ c κs. search needs)
+    (λ c κs. search needs)
     returns)

@@ -6,12 +6,6 @@ use borrow.Author.Needs.{needs}
 use Rattle.walk.proofs.walk.Walk.blank.Statement.{statement}
 use Rattle.walk.proofs.walk.Walk.blank.Tie as tie
 
-clear-requires : tie.Need-clear-requires
-clear-requires c κs = search needs
-
-wide-requires : tie.Need-wide-requires
-wide-requires c κs = search needs
-
 returns : tie.Need-returns
 returns c =
     let k = c .before in
@@ -19,4 +13,4 @@ returns c =
     c .wide .ensures ∙ ap (λ x. onward (a .w) false 0 x 0 (a .self)) (k .clear .ensures)
 
 pub blank-spec : {M : Type 1} → statement M
-blank-spec = tie.close (tie.spec clear-requires wide-requires returns)
+blank-spec = tie.close (tie.spec (λ c κs. search needs) (λ c κs. search needs) returns)

@@ -7,13 +7,10 @@ use borrow.Author.Needs.{needs}
 use Rattle.walk.proofs.walk.Walk.closes.Statement.{statement}
 use Rattle.walk.proofs.walk.Walk.closes.Tie as tie
 
-closes-before-requires : tie.Need-closes-before-requires
-closes-before-requires c κs = search needs
-
 returns : tie.Need-returns
 returns c =
     let a = c .before .args in
     c .closes-before .ensures ∙ closing-beyond (a .seal) (a .least) (a .most) (a .room) 0 (a .self) ∙ ap (verdict (a .self .code) (a .least) (a .most) (a .room)) (add-zero (made (a .seal) (a .self .at)))
 
 pub closes-spec : {M : Type 1} → statement M
-closes-spec = tie.close (tie.spec closes-before-requires returns)
+closes-spec = tie.close (tie.spec (λ c κs. search needs) returns)

@@ -10,9 +10,6 @@ use borrow.Author.Needs.{needs}
 use Rattle.walk.proofs.walk.Walk.closes_before.Statement.{statement}
 use Rattle.walk.proofs.walk.Walk.closes_before.Tie as tie
 
-bytes-requires : tie.Need-bytes-requires
-bytes-requires c κs = search needs
-
 returns : tie.Need-returns
 returns c =
     let p = c .before in
@@ -36,9 +33,6 @@ returns-3 c =
     let n = p .bytes .result + a .more in
     let e : 1 ≡ verdict (a .self .code) (a .least) (a .most) (a .room) n = rw (eq-eqb (a .self .code) 0 (c .before .before .if1 .left), lt-leb n (a .most) (omega (arith, c .before .if2 .left, c .if3 .taken)), and-false) refl in
     e ∙ ap (λ n. verdict (a .self .code) (a .least) (a .most) (a .room) (n + a .more)) (p .bytes .ensures) ∙ sym (closing-beyond (a .seal) (a .least) (a .most) (a .room) (a .more) (a .self))
-
-add-n : tie.Need-add-n
-add-n c = search needs
 
 returns-4 : tie.Need-returns-4
 returns-4 c =
@@ -67,4 +61,4 @@ returns-6 c =
 pub closes-before-spec : {M : Type 1} → statement M
 closes-before-spec =
     tie.close
-    (tie.spec bytes-requires returns returns-2 returns-3 add-n returns-4 returns-5 returns-6)
+    (tie.spec (λ c κs. search needs) returns returns-2 returns-3 (λ c. search needs) returns-4 returns-5 returns-6)

@@ -6,19 +6,10 @@ use borrow.Author.Needs.{needs}
 use Rattle.walk.proofs.walk.Walk.content.Statement.{statement}
 use Rattle.walk.proofs.walk.Walk.content.Tie as tie
 
-lies-requires : tie.Need-lies-requires
-lies-requires c κs = search needs
-
-choose-requires : tie.Need-choose-requires
-choose-requires c κs = search needs
-
-wide-requires : tie.Need-wide-requires
-wide-requires c κs = search needs
-
 returns : tie.Need-returns
 returns c =
     let a = c .before .before .before .before .args in
     c .wide .ensures ∙ ap (λ x. onward (a .w) false 0 x 0 (a .self)) (c .before .choose .ensures ∙ ap (λ b. cond b 0 1) (c .before .before .lies .ensures))
 
 pub content-spec : {M : Type 1} → statement M
-content-spec = tie.close (tie.spec lies-requires choose-requires wide-requires returns)
+content-spec = tie.close (tie.spec (λ c κs. search needs) (λ c κs. search needs) (λ c κs. search needs) returns)

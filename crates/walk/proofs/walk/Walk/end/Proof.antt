@@ -9,27 +9,6 @@ use borrow.Author.Needs.{needs}
 use Rattle.walk.proofs.walk.Walk.end.Statement.{statement}
 use Rattle.walk.proofs.walk.Walk.end.Tie as tie
 
-none-requires : tie.Need-none-requires
-none-requires c κs = search needs
-
-closing-requires : tie.Need-closing-requires
-closing-requires c κs = search needs
-
-past-requires : tie.Need-past-requires
-past-requires c κs = search needs
-
-choose-requires : tie.Need-choose-requires
-choose-requires c κs = search needs
-
-wrapping-add-usize-requires : tie.Need-wrapping-add-usize-requires
-wrapping-add-usize-requires c κs = search needs
-
-pick-requires : tie.Need-pick-requires
-pick-requires c κs = search needs
-
-pick-requires-2 : tie.Need-pick-requires-2
-pick-requires-2 c κs = search needs
-
 returns : tie.Need-returns
 unfolding ended
 returns c =
@@ -51,11 +30,11 @@ pub end-spec : {M : Type 1} → statement M
 end-spec =
     tie.close
     (tie.spec
-    none-requires
-    closing-requires
-    past-requires
-    choose-requires
-    wrapping-add-usize-requires
-    pick-requires
-    pick-requires-2
+    (λ c κs. search needs)
+    (λ c κs. search needs)
+    (λ c κs. search needs)
+    (λ c κs. search needs)
+    (λ c κs. search needs)
+    (λ c κs. search needs)
+    (λ c κs. search needs)
     returns)

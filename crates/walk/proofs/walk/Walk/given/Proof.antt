@@ -8,18 +8,6 @@ use borrow.Author.Needs.{needs}
 use Rattle.walk.proofs.walk.Walk.given.Statement.{statement}
 use Rattle.walk.proofs.walk.Walk.given.Tie as tie
 
-holds-requires : tie.Need-holds-requires
-holds-requires c κs = search needs
-
-get-requires : tie.Need-get-requires
-get-requires c κs = search needs
-
-choose-requires : tie.Need-choose-requires
-choose-requires c κs = search needs
-
-on-requires : tie.Need-on-requires
-on-requires c κs = search needs
-
 returns : tie.Need-returns
 unfolding onward
 returns c =
@@ -30,4 +18,4 @@ returns c =
     (e, got-lt (a .s .now) (a .self .at) (a .w) (ap (λ (r : Walk). r .v) e))
 
 pub given-spec : {M : Type 1} → statement M
-given-spec = tie.close (tie.spec holds-requires get-requires choose-requires on-requires returns)
+given-spec = tie.close (tie.spec (λ c κs. search needs) (λ c κs. search needs) (λ c κs. search needs) (λ c κs. search needs) returns)

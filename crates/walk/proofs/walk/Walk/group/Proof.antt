@@ -8,12 +8,6 @@ use borrow.Author.Needs.{needs}
 use Rattle.walk.proofs.walk.Walk.group.Statement.{statement}
 use Rattle.walk.proofs.walk.Walk.group.Tie as tie
 
-get-requires : tie.Need-get-requires
-get-requires c κs = search needs
-
-on-requires : tie.Need-on-requires
-on-requires c κs = search needs
-
 returns : tie.Need-returns
 unfolding grouped
 returns c =
@@ -22,4 +16,4 @@ returns c =
     ap (λ (n : Walk). record { at = n .at; code = a .parts .code; place = a .parts .place; v = n .v; seek = n .seek; left = n .left; spot = n .spot; width = n .width }) e
 
 pub group-spec : {M : Type 1} → statement M
-group-spec = tie.close (tie.spec get-requires on-requires returns)
+group-spec = tie.close (tie.spec (λ c κs. search needs) (λ c κs. search needs) returns)

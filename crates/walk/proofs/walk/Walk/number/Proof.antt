@@ -7,15 +7,6 @@ use borrow.Author.Needs.{needs}
 use Rattle.walk.proofs.walk.Walk.number.Statement.{statement}
 use Rattle.walk.proofs.walk.Walk.number.Tie as tie
 
-get-requires : tie.Need-get-requires
-get-requires c κs = search needs
-
-range-requires : tie.Need-range-requires
-range-requires c κs = search needs
-
-on-requires : tie.Need-on-requires
-on-requires c κs = search needs
-
 returns : tie.Need-returns
 unfolding onward
 returns c =
@@ -24,4 +15,4 @@ returns c =
     (e, got-lt (a .s .now) (a .self .at) (a .w) (ap (λ (r : Walk). r .v) e))
 
 pub number-spec : {M : Type 1} → statement M
-number-spec = tie.close (tie.spec get-requires range-requires on-requires returns)
+number-spec = tie.close (tie.spec (λ c κs. search needs) (λ c κs. search needs) (λ c κs. search needs) returns)

@@ -6,48 +6,6 @@ use borrow.Author.Needs.{needs}
 use Rattle.walk.proofs.walk.Walk.on.Statement.{statement}
 use Rattle.walk.proofs.walk.Walk.on.Tie as tie
 
-none-requires : tie.Need-none-requires
-none-requires c κs = search needs
-
-last-requires : tie.Need-last-requires
-last-requires c κs = search needs
-
-both-requires : tie.Need-both-requires
-both-requires c κs = search needs
-
-wrapping-add-usize-requires : tie.Need-wrapping-add-usize-requires
-wrapping-add-usize-requires c κs = search needs
-
-choose-requires : tie.Need-choose-requires
-choose-requires c κs = search needs
-
-wrapping-add-usize-requires-2 : tie.Need-wrapping-add-usize-requires-2
-wrapping-add-usize-requires-2 c κs = search needs
-
-pick-requires : tie.Need-pick-requires
-pick-requires c κs = search needs
-
-last-requires-2 : tie.Need-last-requires-2
-last-requires-2 c κs = search needs
-
-not-requires : tie.Need-not-requires
-not-requires c κs = search needs
-
-both-requires-2 : tie.Need-both-requires-2
-both-requires-2 c κs = search needs
-
-less-requires : tie.Need-less-requires
-less-requires c κs = search needs
-
-pick-requires-2 : tie.Need-pick-requires-2
-pick-requires-2 c κs = search needs
-
-pick-requires-3 : tie.Need-pick-requires-3
-pick-requires-3 c κs = search needs
-
-pick-requires-4 : tie.Need-pick-requires-4
-pick-requires-4 c κs = search needs
-
 returns : tie.Need-returns
 unfolding onward
 returns c =
@@ -80,18 +38,18 @@ pub on-spec : {M : Type 1} → statement M
 on-spec =
     tie.close
     (tie.spec
-    none-requires
-    last-requires
-    both-requires
-    wrapping-add-usize-requires
-    choose-requires
-    wrapping-add-usize-requires-2
-    pick-requires
-    last-requires-2
-    not-requires
-    both-requires-2
-    less-requires
-    pick-requires-2
-    pick-requires-3
-    pick-requires-4
+    (λ c κs. search needs)
+    (λ c κs. search needs)
+    (λ c κs. search needs)
+    (λ c κs. search needs)
+    (λ c κs. search needs)
+    (λ c κs. search needs)
+    (λ c κs. search needs)
+    (λ c κs. search needs)
+    (λ c κs. search needs)
+    (λ c κs. search needs)
+    (λ c κs. search needs)
+    (λ c κs. search needs)
+    (λ c κs. search needs)
+    (λ c κs. search needs)
     returns)

@@ -6,21 +6,6 @@ use borrow.Author.Needs.{needs}
 use Rattle.walk.proofs.walk.Walk.part.Statement.{statement}
 use Rattle.walk.proofs.walk.Walk.part.Tie as tie
 
-none-requires : tie.Need-none-requires
-none-requires c κs = search needs
-
-wrapping-add-usize-requires : tie.Need-wrapping-add-usize-requires
-wrapping-add-usize-requires c κs = search needs
-
-range-requires : tie.Need-range-requires
-range-requires c κs = search needs
-
-choose-requires : tie.Need-choose-requires
-choose-requires c κs = search needs
-
-pick-requires : tie.Need-pick-requires
-pick-requires c κs = search needs
-
 returns : tie.Need-returns
 unfolding parted
 returns c =
@@ -38,9 +23,9 @@ pub part-spec : {M : Type 1} → statement M
 part-spec =
     tie.close
     (tie.spec
-    none-requires
-    wrapping-add-usize-requires
-    range-requires
-    choose-requires
-    pick-requires
+    (λ c κs. search needs)
+    (λ c κs. search needs)
+    (λ c κs. search needs)
+    (λ c κs. search needs)
+    (λ c κs. search needs)
     returns)

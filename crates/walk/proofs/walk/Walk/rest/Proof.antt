@@ -6,16 +6,10 @@ use borrow.Author.Needs.{needs}
 use Rattle.walk.proofs.walk.Walk.rest.Statement.{statement}
 use Rattle.walk.proofs.walk.Walk.rest.Tie as tie
 
-whole-bytes-requires : tie.Need-whole-bytes-requires
-whole-bytes-requires c κs = search needs
-
-on-requires : tie.Need-on-requires
-on-requires c κs = search needs
-
 returns : tie.Need-returns
 returns c =
     let a = c .before .before .before .args in
     c .on .ensures ∙ ap (λ v. onward 0 false v 0 0 (a .self)) (c .before .whole-bytes .ensures)
 
 pub rest-spec : {M : Type 1} → statement M
-rest-spec = tie.close (tie.spec whole-bytes-requires on-requires returns)
+rest-spec = tie.close (tie.spec (λ c κs. search needs) (λ c κs. search needs) returns)

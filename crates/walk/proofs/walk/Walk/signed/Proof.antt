@@ -8,15 +8,6 @@ use borrow.Author.Needs.{needs}
 use Rattle.walk.proofs.walk.Walk.signed.Statement.{statement}
 use Rattle.walk.proofs.walk.Walk.signed.Tie as tie
 
-get-requires : tie.Need-get-requires
-get-requires c κs = search needs
-
-signs-requires : tie.Need-signs-requires
-signs-requires c κs = search needs
-
-on-requires : tie.Need-on-requires
-on-requires c κs = search needs
-
 returns : tie.Need-returns
 unfolding onward
 returns c =
@@ -25,4 +16,4 @@ returns c =
     (e, got-lt (a .s .now) (a .self .at) (a .w) (ap (λ (r : Walk). r .v) e))
 
 pub signed-spec : {M : Type 1} → statement M
-signed-spec = tie.close (tie.spec get-requires signs-requires on-requires returns)
+signed-spec = tie.close (tie.spec (λ c κs. search needs) (λ c κs. search needs) (λ c κs. search needs) returns)

@@ -6,16 +6,10 @@ use borrow.Author.Needs.{needs}
 use Rattle.walk.proofs.walk.Walk.signed_value.Statement.{statement}
 use Rattle.walk.proofs.walk.Walk.signed_value.Tie as tie
 
-spells-requires : tie.Need-spells-requires
-spells-requires c κs = search needs
-
-on-requires : tie.Need-on-requires
-on-requires c κs = search needs
-
 returns : tie.Need-returns
 returns c =
     let a = c .before .before .args in
     c .on .ensures ∙ ap (λ x. onward (a .w) true (a .v) x 0 (a .self)) (c .before .spells .ensures)
 
 pub signed-value-spec : {M : Type 1} → statement M
-signed-value-spec = tie.close (tie.spec spells-requires on-requires returns)
+signed-value-spec = tie.close (tie.spec (λ c κs. search needs) (λ c κs. search needs) returns)

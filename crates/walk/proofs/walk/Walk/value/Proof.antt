@@ -6,16 +6,10 @@ use borrow.Author.Needs.{needs}
 use Rattle.walk.proofs.walk.Walk.value.Statement.{statement}
 use Rattle.walk.proofs.walk.Walk.value.Tie as tie
 
-inside-requires : tie.Need-inside-requires
-inside-requires c κs = search needs
-
-on-requires : tie.Need-on-requires
-on-requires c κs = search needs
-
 returns : tie.Need-returns
 returns c =
     let a = c .before .before .args in
     c .on .ensures ∙ ap (λ x. onward (a .w) true (a .v) x 0 (a .self)) (c .before .inside .ensures)
 
 pub value-spec : {M : Type 1} → statement M
-value-spec = tie.close (tie.spec inside-requires on-requires returns)
+value-spec = tie.close (tie.spec (λ c κs. search needs) (λ c κs. search needs) returns)

@@ -17,71 +17,11 @@ use Rattle.warning.proofs.writing.making.judged.Statement.{statement}
 use Rattle.warning.proofs.writing.making.judged.Tie as tie
 use Rattle.ais_common.proofs.time.judged.Reads as judged-reads′
 
-kind-requires : tie.Need-kind-requires
-kind-requires c κs = search needs
-
-begin-requires : tie.Need-begin-requires
-begin-requires c κs = search needs
-
-fixed-requires : tie.Need-fixed-requires
-fixed-requires c κs = search needs
-
-cast-value : tie.Need-cast-value
-cast-value c = search needs
-
-value-requires : tie.Need-value-requires
-value-requires c κs = search needs
-
-cast-value-2 : tie.Need-cast-value-2
-cast-value-2 c = search needs
-
-value-requires-2 : tie.Need-value-requires-2
-value-requires-2 c κs = search needs
-
-fixed-requires-2 : tie.Need-fixed-requires-2
-fixed-requires-2 c κs = search needs
-
-fixed-requires-3 : tie.Need-fixed-requires-3
-fixed-requires-3 c κs = search needs
-
-fixed-requires-4 : tie.Need-fixed-requires-4
-fixed-requires-4 c κs = search needs
-
 cast-fixed : tie.Need-cast-fixed
 cast-fixed c =
     let kind = c .before .before .before .before .before .before .before .before .before in
     let st = kind .before in
     omega (arith, kind .kind .ensures, type-small (bodyKind (st .args .r .body)))
-
-fixed-requires-5 : tie.Need-fixed-requires-5
-fixed-requires-5 c κs = search needs
-
-cast-value-3 : tie.Need-cast-value-3
-cast-value-3 c = search needs
-
-value-requires-3 : tie.Need-value-requires-3
-value-requires-3 c κs = search needs
-
-cast-value-4 : tie.Need-cast-value-4
-cast-value-4 c = search needs
-
-value-requires-4 : tie.Need-value-requires-4
-value-requires-4 c κs = search needs
-
-judged-requires : tie.Need-judged-requires
-judged-requires c κs = search needs
-
-judged-requires-2 : tie.Need-judged-requires-2
-judged-requires-2 c κs = search needs
-
-cast-value-5 : tie.Need-cast-value-5
-cast-value-5 c = search needs
-
-value-requires-5 : tie.Need-value-requires-5
-value-requires-5 c κs = search needs
-
-fixed-requires-6 : tie.Need-fixed-requires-6
-fixed-requires-6 c κs = search needs
 
 -- every kind has a type that may be
 typed : (t : Kind) → _≡_ {A = ℕ} 0 (cond (leb 1 (typeOf t) && leb (typeOf t) 5) 0 2)
@@ -132,25 +72,25 @@ pub judged-spec : {M : Type 1} → statement M
 judged-spec =
     tie.close
     (tie.spec
-    kind-requires
-    begin-requires
-    fixed-requires
-    cast-value
-    value-requires
-    cast-value-2
-    value-requires-2
-    fixed-requires-2
-    fixed-requires-3
-    fixed-requires-4
+    (λ c κs. search needs)
+    (λ c κs. search needs)
+    (λ c κs. search needs)
+    (λ c. search needs)
+    (λ c κs. search needs)
+    (λ c. search needs)
+    (λ c κs. search needs)
+    (λ c κs. search needs)
+    (λ c κs. search needs)
+    (λ c κs. search needs)
     cast-fixed
-    fixed-requires-5
-    cast-value-3
-    value-requires-3
-    cast-value-4
-    value-requires-4
-    judged-requires
-    judged-requires-2
-    cast-value-5
-    value-requires-5
-    fixed-requires-6
+    (λ c κs. search needs)
+    (λ c. search needs)
+    (λ c κs. search needs)
+    (λ c. search needs)
+    (λ c κs. search needs)
+    (λ c κs. search needs)
+    (λ c κs. search needs)
+    (λ c. search needs)
+    (λ c κs. search needs)
+    (λ c κs. search needs)
     returns)
