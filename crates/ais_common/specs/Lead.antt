@@ -13,9 +13,9 @@ use Rattle.ais_common.specs.declared.head.Head.{Head}
 abbrev pub application : ℕ → ℕ
 application n = 412 * 64 + n
 
--- what tells a message's kind: its number, the application with which its data begin, and the choice of w bits at its place
+-- what tells a message's kind: its number, the application with which its data begin, and the choice of w bits at its offset
 abbrev pub headOf : ℕ → ℕ → ℕ → List ℕ → Head
-headOf start place w s = record { message = fieldAt s 0 6; application = fieldAt s start 16; choice = fieldAt s place w }
+headOf start offset w s = record { message = fieldAt s 0 6; application = fieldAt s start 16; choice = fieldAt s offset w }
 
 abbrev pub handled : Asked → Head → Bool
 handled a h = eqb (h .message) (a .message) && eqb (h .application) (a .application) && between 1 (a .choices) (h .choice)

@@ -4,7 +4,7 @@ ghost use mathlib.Core.Bool.{_&&_};
 ghost use lib.Dec.{eqb, leb};
 ghost use Rattle.ais_common.specs.Lead.{told};
 use walk::choosing::both;
-use walk::choosing::choose;
+use walk::choosing::choose_code;
 use walk::choosing::inside;
 
 // The smallest size of a message, in bytes: a shorter one is of no kind.
@@ -42,7 +42,7 @@ pub fn lead(len: usize, head: Head, asked: Asked) -> u8
     let choice = within(head.choice, 1, asked.choices);
     let bytes = asked.bytes as u64;
     let size = inside(len as u64, bytes, bytes, format::SIZE);
-    choose(both(both(message, application), choice), size, format::KIND)
+    choose_code(both(both(message, application), choice), size, format::KIND)
 }
 
 fn same(a: u64, b: u64) -> bool

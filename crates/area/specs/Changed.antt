@@ -1,4 +1,4 @@
--- An area with one field changed, by the field's place among the values; and the numbers that name its fields (paper 01, "Correcting a field"). Assumes nothing.
+-- An area with one field changed, by the field's position among the values; and the numbers that name its fields (paper 01, "Correcting a field"). Assumes nothing.
 use Prim.Native.Nat.{ℕ}
 use mathlib.Core.Bool.{cond}
 use mathlib.Core.List.{List, [], _∷_}

@@ -1,4 +1,4 @@
-// An area corrected in place (paper 01, "Correcting a field").
+// An area corrected in@@offset (paper 01, "Correcting a field").
 ghost use Rattle.bits.specs.Bits.{fieldAt};
 ghost use Rattle.format.specs.Promises.{Corrects};
 ghost use Rattle.area.specs.Area.{areas};
@@ -7,7 +7,7 @@ use crate::reading::fields;
 use crate::reading::read;
 
 // Where the fields stand in every area that has them, their widths, and the shape that has them, 0 for both.
-const PLACES: [usize; 15] = [
+const OFFSETS: [usize; 15] = [
     0,
     6,
     8,
@@ -35,7 +35,7 @@ pub fn correct(buf: &mut [u8], field: usize, value: u64) -> u8
 {
     let was = read(buf);
     let kind = bits::get(buf, 92, 2);
-    let spot = change::correcting::look_up_of(&PLACES, &WIDTHS, &KINDS, field, kind as usize);
+    let spot = change::correcting::look_up_of(&OFFSETS, &WIDTHS, &KINDS, field, kind as usize);
     let at = spot.at;
     let width = spot.width;
     let code = change::correcting::admits(was.refusal(), width, value);

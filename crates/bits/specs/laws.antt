@@ -1,4 +1,4 @@
--- What is proved of the definitions, over every place and width.
+-- What is proved of the definitions, over every offset and width.
 pub mod Digits
 pub mod Bytes
 pub mod Fields

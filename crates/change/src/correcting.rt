@@ -12,36 +12,36 @@ pub struct Spot {
     pub width: usize,
 }
 
-// The spot of field number `field`, where a layout's fields stand in the same places in every message.
-pub fn look_up(places: &[usize], widths: &[usize], field: usize) -> Spot
-    ensures { λ r. ⌜ (r .at ≡ getD (now (places .entry)) field 0) × (r .width ≡ getD (now (widths .entry)) field 0) ⌝ }
+// The spot of field number `field`, where a layout's fields stand in the same offsets in every message.
+pub fn look_up(offsets: &[usize], widths: &[usize], field: usize) -> Spot
+    ensures { λ r. ⌜ (r .at ≡ getD (now (offsets .entry)) field 0) × (r .width ≡ getD (now (widths .entry)) field 0) ⌝ }
 {
-    let at = entry(places, field);
+    let at = entry(offsets, field);
     let width = entry(widths, field);
     Spot { at, width }
 }
 
 // The same where some fields stand in messages of one kind alone: `kinds` has it, or 0 for a field of every message.
 pub fn look_up_of(
-    places: &[usize],
+    offsets: &[usize],
     widths: &[usize],
     kinds: &[usize],
     field: usize,
     kind: usize,
 ) -> Spot
-    ensures { λ r. ⌜ (r .at ≡ getD (now (places .entry)) field 0) × (r .width ≡ ofKind kind (getD (now (kinds .entry)) field 0) (getD (now (widths .entry)) field 0)) ⌝ }
+    ensures { λ r. ⌜ (r .at ≡ getD (now (offsets .entry)) field 0) × (r .width ≡ ofKind kind (getD (now (kinds .entry)) field 0) (getD (now (widths .entry)) field 0)) ⌝ }
 {
-    let at = entry(places, field);
+    let at = entry(offsets, field);
     let width = entry(widths, field);
     let of = entry(kinds, field);
     Spot {
         at,
-        width: held(of, kind, width),
+        width: width_of_kind(of, kind, width),
     }
 }
 
 // A field's width, where its message has that kind.
-fn held(of: usize, kind: usize, width: usize) -> usize
+fn width_of_kind(of: usize, kind: usize, width: usize) -> usize
     ensures { λ r. ⌜ r ≡ ofKind kind of width ⌝ }
 {
     if of == 0 {

@@ -3,13 +3,13 @@ ghost use mathlib.Core.Bool.{true};
 ghost use mathlib.Core.Path.{_≡_};
 ghost use Rattle.format.specs.Message.{body, firstOf, sealFault};
 ghost use Rattle.format.specs.Sealing.{resealed, stamped};
-use walk::choosing::less;
+use walk::choosing::one_less;
 
 // What the layout lays out: all bytes but the last.
 pub fn inner(s: &[u8]) -> &[u8]
     ensures { λ r. ⌜ now r ≡ body true (now (s .entry)) ⌝ }
 {
-    let n = less(s.len());
+    let n = one_less(s.len());
     &s[..n]
 }
 
@@ -32,7 +32,7 @@ pub fn tested(s: &[u8], code: u8) -> u8
 pub fn seal(buf: &mut [u8])
     ensures { λ _. ⌜ now (buf .exit) ≡ resealed (now (buf .entry)) ⌝ }
 {
-    let n = less(buf.len());
+    let n = one_less(buf.len());
     stamp(buf, n);
 }
 

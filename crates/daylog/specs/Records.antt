@@ -9,7 +9,7 @@ use Rattle.daylog.specs.Stores.{Made}
 use Rattle.daylog.specs.declared.records.Next.{Next}
 use Rattle.daylog.specs.declared.records.Next.the-variants.{Record, Bad, Short}
 
--- the 16-bit number at place i, its low byte first
+-- the 16-bit number at offset i, its low byte first
 abbrev pub pairAt : List ℕ → ℕ → ℕ
 pairAt s i = getD s i 0 + getD s (i + 1) 0 * 256
 
@@ -45,7 +45,7 @@ sizeOf (e ∷ es) = (4 + length (e .body)) + sizeOf es
 
 -- ---- what is kept
 
--- the bytes of s from place a up to place e, none where these are no places of it
+-- the bytes of s from offset a up to offset e, none where these are no offsets of it
 abbrev pub span : List ℕ → ℕ → ℕ → List ℕ
 span s a e = cond (leb e (length s) && leb a e) (take (e - a) (drop a s)) []
 

@@ -1,4 +1,4 @@
--- A text in a lent buffer: at a place of it, or at its front. Assumes nothing.
+-- A text in a lent buffer: at an offset of it, or at its front. Assumes nothing.
 use mathlib.Core.Path.{_≡_}
 use mathlib.Core.Bool.{cond}
 use mathlib.Core.List.{List, []}
@@ -8,11 +8,11 @@ use lib.ListN.{length}
 use lib.Seq.{sets}
 use Rattle.format.specs.Message.{ahead}
 
--- the text t where n bytes have room at place `at` of `out`, and else none
+-- the text t where n bytes have room at offset `at` of `out`, and else none
 abbrev pub placed : ℕ → List ℕ → ℕ → List ℕ → List ℕ
 placed n out at t = cond (leb (at + n) (length out)) t []
 
--- the text t stored at place `at` of `out`, and the place after it
+-- the text t stored at offset `at` of `out`, and the offset after it
 pub record Stores (out : List ℕ) (at : ℕ) (t : List ℕ) (end : ℕ) (left : List ℕ) : Type 0 where
   pub ends : end ≡ at + length t
   pub leaves : left ≡ sets out at t

@@ -36,7 +36,7 @@ fn report(body: &[u8]) -> u8
     answer.refusal()
 }
 
-// A record's line, with its kind's word. Where a line with that word might have no room, answers the same place and leaves
+// A record's line, with its kind's word. Where a line with that word might have no room, answers the same offset and leaves
 // every byte.
 pub fn entry(out: &mut [u8], at: usize, number: u64, kind: u16, body: &[u8]) -> usize
     ensures { λ r. ⌜ Stores (now (out .entry)) at

@@ -1,4 +1,4 @@
-// Lines of text in a lent buffer. Each part is written at a place of it, and answers the place after it.
+// Lines of text in a lent buffer. Each part is written at an offset of it, and answers the offset after it.
 ghost use mathlib.Core.List.{_∷_, []};
 ghost use mathlib.Core.Path.{_≡_};
 ghost use Prim.Native.Nat.{_+_, _%_, _≤_, _<_};
@@ -10,7 +10,7 @@ ghost use Rattle.daylog.specs.Stores.{placed, Stores};
 // All of the longest line but its word: two numbers of 20 digits, a code of 3, three spaces and the line feed.
 pub const COLUMNS: usize = 47;
 
-// A line: number, word, code and bytes. Where a line with that word might have no room, answers the same place and leaves
+// A line: number, word, code and bytes. Where a line with that word might have no room, answers the same offset and leaves
 // every byte.
 pub fn line(out: &mut [u8], at: usize, number: u64, word: &[u8], code: u8, bytes: u64) -> usize
     ensures { λ r. ⌜ Stores (now (out .entry)) at
@@ -41,7 +41,7 @@ fn decimal(out: &mut [u8], at: usize, number: u64) -> usize
     requires { ⌜ at + length (Text·decimal number) ≤ length (now out) ⌝ }
     ensures { λ r. ⌜ Stores (now (out .entry)) at (Text·decimal number) r (now (out .exit)) ⌝ }
 {
-    let end = at + places(number);
+    let end = at + digit_count(number);
     let mut last = end - 1;
     let mut rest = number;
     while rest >= 10 {
@@ -54,7 +54,7 @@ fn decimal(out: &mut [u8], at: usize, number: u64) -> usize
 }
 
 // How many decimal digits the number has.
-fn places(number: u64) -> usize
+fn digit_count(number: u64) -> usize
     ensures { λ r. ⌜ r ≡ length (Text·decimal number) ⌝ }
 {
     let mut count = 1;
@@ -73,7 +73,7 @@ fn digit(number: u64) -> u8
     48 + (number % 10) as u8
 }
 
-// A text as it is. Where there is no room for it, answers the same place and leaves every byte.
+// A text as it is. Where there is no room for it, answers the same offset and leaves every byte.
 pub fn text(out: &mut [u8], at: usize, bytes: &[u8]) -> usize
     ensures { λ r. ⌜ Stores (now (out .entry)) at
         (placed (length (now (bytes .entry))) (now (out .entry)) at (now (bytes .entry))) r (now (out .exit)) ⌝ }
@@ -84,7 +84,7 @@ pub fn text(out: &mut [u8], at: usize, bytes: &[u8]) -> usize
     at
 }
 
-// Whether `n` bytes have room at place `at` of `len` bytes.
+// Whether `n` bytes have room at offset `at` of `len` bytes.
 fn has_room(len: usize, at: usize, n: usize) -> bool
     ensures { λ r. ⌜ r ≡ leb (at + n) len ⌝ }
 {

@@ -28,7 +28,7 @@ pub fn accept(a: Place, b: Place, c: Place, d: Place, store: &mut [u8], packet: 
             let i = places::open_at(a, b, c, d, r.number);
             let free = places::free_at(a, b, c, d);
             if i < PLACES {
-                return placing::join(a, i, places::pick(a, b, c, d, i), store, r, content);
+                return placing::join(a, i, places::place_at(a, b, c, d, i), store, r, content);
             }
             placing::begin(a, free, store, r, content)
         },

@@ -30,7 +30,7 @@ pub fn ask(
     if at >= PLACES {
         return Turn::staying(a, Reply::Refused(format::UNKNOWN));
     }
-    let p = places::pick(a, b, c, d, at);
+    let p = places::place_at(a, b, c, d, at);
     answering::answer(a, at, p, store, notice, missing)
 }
 
@@ -46,7 +46,7 @@ pub fn drop(a: Place, b: Place, c: Place, d: Place, store: &[u8], number: u8) ->
     if at >= PLACES {
         return Turn::staying(a, Reply::Refused(format::UNKNOWN));
     }
-    let dropped = places::pick(a, b, c, d, at);
+    let dropped = places::place_at(a, b, c, d, at);
     let place = dropped.freed();
     Turn {
         at,

@@ -7,8 +7,8 @@ ghost use Rattle.distress.specs.Report.{reports, report, reportOf, answe
 ghost use Rattle.distress.specs.Promises.{Reads};
 ghost use Rattle.format.specs.Fmt.{also};
 ghost use Rattle.format.specs.Message.{fieldsOf};
-use walk::choosing::choose;
-use walk::choosing::none;
+use walk::choosing::choose_code;
+use walk::choosing::no_refusal;
 
 pub struct Report {
     pub mmsi: u32,
@@ -60,7 +60,7 @@ impl Report {
 
     pub const GREATEST: usize = Report::BITS / 8;
 
-    // A field to be corrected is named by its place among the paper's fields; the code before them and the fill behind may not be.
+    // A field to be corrected is named by its position among the paper's fields; the code before them and the fill behind may not be.
     pub const MMSI: usize = 1;
 
     pub const LONGITUDE: usize = 2;
@@ -109,7 +109,7 @@ pub fn fields(s: &[u8], lead: u8) -> Answer
     ensures { λ r. ⌜ r ≡ answerOf (also reportOf (fieldsOf report 17 17 lead (now (s .entry)))) ⌝ }
 {
     if s.len() != Report::LEAST {
-        return Answer::Refused(choose(none(lead), format::SIZE, lead));
+        return Answer::Refused(choose_code(no_refusal(lead), format::SIZE, lead));
     }
     let w = walk::walk::Walk::begin(lead, 0).code(s, 16, CODE);
     let w = w.num(s, 32, 0, 999_999_999);

@@ -4,11 +4,11 @@ pub mod Correct
 pub mod Whole
 pub mod Zero
 pub mod Tells
-pub mod Held
+pub mod Legal
 pub mod Past
 pub mod Extent
 pub mod First
-pub mod Places
+pub mod Offsets
 pub mod Spots
 pub mod Lead
 pub mod Answers

@@ -7,8 +7,8 @@ ghost use Rattle.format.specs.Message.{fieldsOf};
 ghost use Rattle.gljc.specs.Gljc.{gljc, recordOf, answerOf, numberOf};
 ghost use Rattle.gljc.specs.Promises.{Reads};
 ghost use Rattle.gljc.specs.declared.reading.Answer.the-variants.{Good, Refused};
-use walk::choosing::choose;
-use walk::choosing::none;
+use walk::choosing::choose_code;
+use walk::choosing::no_refusal;
 
 pub struct Gljc {
     pub address: u32,
@@ -49,7 +49,7 @@ impl Gljc {
 
     pub const GREATEST: usize = Gljc::BITS / 8;
 
-    // The fields that may be corrected, by their place among the frame's.
+    // The fields that may be corrected, by their position among the frame's.
     pub const ADDRESS: usize = 3;
 
     pub const MINUTES: usize = 4;
@@ -75,7 +75,7 @@ pub fn fields(s: &[u8], code: u8) -> Answer
     ensures { λ r. ⌜ r ≡ answerOf (also recordOf (fieldsOf gljc 11 11 code (now (s .entry)))) ⌝ }
 {
     if s.len() != SEALED {
-        return Answer::Refused(choose(none(code), format::SIZE, code));
+        return Answer::Refused(choose_code(no_refusal(code), format::SIZE, code));
     }
     let w = frame::head(s, code, LETTERS, LENGTH, LENGTH);
     let address = w.v as u32;

@@ -27,24 +27,24 @@ fn main() {
     }
 }
 
-// Reads the log behind the bytes that are held, lists what the buffer then has, and holds the rest, which is less than a
+// Reads the log behind the bytes that are waiting, lists what the buffer then has, and holds the rest, which is less than a
 // record. A proved loop has to end, and nothing says that a log does, so it counts down from a number that no run uses up.
 fn list_log(input: &mut [u8], text: &mut [u8]) {
     let mut number: u64 = 1;
-    let mut held = 0;
+    let mut waiting = 0;
     let mut turns = u64::MAX;
     while turns > 0 {
         turns -= 1;
-        let filled = fill(input, held);
+        let filled = fill(input, waiting);
         if !filled.is_read {
             return;
         }
         let have = filled.have;
-        if have == held {
-            finish(text, number, held as u64);
+        if have == waiting {
+            finish(text, number, waiting as u64);
             return;
         }
-        let seen = list_held(&input[..have], number, text);
+        let seen = list_window(&input[..have], number, text);
         if !seen.is_written {
             return;
         }
@@ -55,12 +55,12 @@ fn list_log(input: &mut [u8], text: &mut [u8]) {
             finish(text, number, left);
             return;
         }
-        held = daylog::keep(input, used, have);
+        waiting = daylog::keep(input, used, have);
     }
 }
 
 // Lists a window: as often as the text's buffer is full, it is written and the next records are listed.
-fn list_held(window: &[u8], number: u64, text: &mut [u8]) -> Seen
+fn list_window(window: &[u8], number: u64, text: &mut [u8]) -> Seen
     ensures { λ r. ⌜ r .used ≤ length (now (window .entry)) ⌝ }
 {
     let mut used = 0;
@@ -122,20 +122,20 @@ fn finish(text: &mut [u8], number: u64, left: u64) {
     put(&text[..made]);
 }
 
-// Reads once, behind the bytes that are held: none more at the end of the log. Says why where the read fails.
-fn fill(input: &mut [u8], held: usize) -> Filled
-    requires { ⌜ held ≤ length (now input) ⌝ }
+// Reads once, behind the bytes that are waiting: none more at the end of the log. Says why where the read fails.
+fn fill(input: &mut [u8], waiting: usize) -> Filled
+    requires { ⌜ waiting ≤ length (now input) ⌝ }
     ensures { λ r. ⌜ r .have ≤ length (now (input .entry)) ⌝ }
 {
-    let got = libc::read(STDIN_FILENO, &mut input[held..]);
+    let got = libc::read(STDIN_FILENO, &mut input[waiting..]);
     if got < 0 {
         os::fail(b"read");
         return Filled {
-            have: held,
+            have: waiting,
             is_read: false,
         };
     }
-    let have = held + io::count(got, &input[held..]);
+    let have = waiting + io::count(got, &input[waiting..]);
     Filled {
         have,
         is_read: true,

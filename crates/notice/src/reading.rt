@@ -7,7 +7,7 @@ ghost use Rattle.notice.specs.Notice.{notices, sizes};
 ghost use Rattle.notice.specs.Promises.{Reads, numberOf};
 ghost use Rattle.notice.specs.Steps.{openingOf, endingOf, unreadBy, courseOf};
 ghost use Rattle.packet.specs.Packet.{joined};
-use walk::choosing::choose;
+use walk::choosing::choose_code;
 use walk::walk::Walk;
 
 // The numbers of its areas stand beside the record in a row, one area behind another, and its text in a buffer: both are lent.
@@ -60,7 +60,7 @@ impl Notice {
     // What the packets of a notice can carry.
     pub const GREATEST: usize = packet::JOINED;
 
-    // The fields that may be corrected, by their place among the notice's: those of the head, and from AREAS on the numbers of its
+    // The fields that may be corrected, by their position among the notice's: those of the head, and from AREAS on the numbers of its
     // areas as they stand in the row (codes, latitudes, longitudes, radii and units).
     pub const SOURCE: usize = 0;
 
@@ -242,7 +242,7 @@ fn close(s: &[u8], w: Walk, english: bool) -> Ending
     }
     let rest = w.rest(s);
     let text = rest.v as usize;
-    let fault = choose(text::spoken(s, w.at, text, english), 0, format::RANGE);
+    let fault = choose_code(text::spoken(s, w.at, text, english), 0, format::RANGE);
     let walk = rest.wide(text * 8, fault).end(s);
     Ending { walk, text }
 }

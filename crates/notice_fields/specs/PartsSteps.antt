@@ -43,12 +43,12 @@ angleJudged n d most v r = judgedAs (anglePieced n d most v) r
 abbrev pub angleParted : List ℕ → ℕ → ℕ → Walk → Walk
 angleParted s d most r = parted s 7 0 99 (parted s 6 0 60 (parted s d 0 most (parted s 1 0 1 r)))
 
--- a walk at the bit `at`, with the refusal `code` at `place`, that has no value and seeks nothing
+-- a walk at the bit `at`, with the refusal `code` at `offset`, that has no value and seeks nothing
 abbrev pub bare : ℕ → ℕ → ℕ → Walk
-bare at code place = record { at = at; code = code; place = place; v = 0; seek = false; left = 0; spot = 0; width = 0 }
+bare at code offset = record { at = at; code = code; offset = offset; v = 0; seek = false; left = 0; spot = 0; width = 0 }
 
 abbrev pub angleRead : List ℕ → ℕ → ℕ → ℕ → Walk → Walk
-angleRead s n d most r = partwise s n (anglePieced n d most (got s (r .at) n)) (angleParted s d most (bare (r .at) (r .code) (r .place))) r
+angleRead s n d most r = partwise s n (anglePieced n d most (got s (r .at) n)) (angleParted s d most (bare (r .at) (r .code) (r .offset))) r
 
 abbrev pub latitudeRead : List ℕ → Walk → Walk
 latitudeRead s r = angleRead s latitudeBits 7 90 r

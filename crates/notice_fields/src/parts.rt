@@ -75,7 +75,7 @@ pub fn latitude(s: &[u8], w: Walk) -> Walk
     if bits::holds(s.len(), at, LATITUDE) {
         return judged_latitude(w, bits::get(s, at, LATITUDE));
     }
-    let parts = cut_angle(s, at, w.code, w.place, 7, 90);
+    let parts = cut_angle(s, at, w.code, w.offset, 7, 90);
     w.group(s, LATITUDE, parts)
 }
 
@@ -86,28 +86,28 @@ pub fn longitude(s: &[u8], w: Walk) -> Walk
     if bits::holds(s.len(), at, LONGITUDE) {
         return judged_longitude(w, bits::get(s, at, LONGITUDE));
     }
-    let parts = cut_angle(s, at, w.code, w.place, 8, 180);
+    let parts = cut_angle(s, at, w.code, w.offset, 8, 180);
     w.group(s, LONGITUDE, parts)
 }
 
-// An angle that is cut, at bit `at`, where `code` was refused at `place`. It takes no more of the walk than this, so that
+// An angle that is cut, at bit `at`, where `code` was refused at `offset`. It takes no more of the walk than this, so that
 // the walk over the points need not stand in memory for its sake.
-fn cut_angle(s: &[u8], at: usize, code: u8, place: usize, d: usize, most: u64) -> Walk
-    ensures { λ r. ⌜ r ≡ angleParted (now (s .entry)) d most (bare at code place) ⌝ }
+fn cut_angle(s: &[u8], at: usize, code: u8, offset: usize, d: usize, most: u64) -> Walk
+    ensures { λ r. ⌜ r ≡ angleParted (now (s .entry)) d most (bare at code offset) ⌝ }
 {
-    let w = unsought(at, code, place);
+    let w = unsought(at, code, offset);
     let degrees = w.part(s, 1, 0, 1).part(s, d, 0, most);
     degrees.part(s, 6, 0, MINUTES).part(s, 7, 0, HUNDREDTHS)
 }
 
-// A walk at bit `at`, where `code` was refused at `place`, that seeks no field.
-pub fn unsought(at: usize, code: u8, place: usize) -> Walk
-    ensures { λ r. ⌜ r ≡ bare at code place ⌝ }
+// A walk at bit `at`, where `code` was refused at `offset`, that seeks no field.
+pub fn unsought(at: usize, code: u8, offset: usize) -> Walk
+    ensures { λ r. ⌜ r ≡ bare at code offset ⌝ }
 {
     Walk {
         at,
         code,
-        place,
+        offset,
         v: 0,
         seek: false,
         left: 0,

@@ -8,8 +8,8 @@ ghost use Rattle.format.specs.Message.{fieldsOf};
 ghost use Rattle.packet.specs.Packet.{greatest, packet, packets, recordOf, answerOf, numberOf};
 ghost use Rattle.packet.specs.Promises.{Reads, Shows};
 ghost use Rattle.packet.specs.declared.reading.Answer.the-variants.{Good, Refused};
-use walk::choosing::choose;
-use walk::choosing::none;
+use walk::choosing::choose_code;
+use walk::choosing::no_refusal;
 
 // The content stands beside the record: in the packet that was read, or lent to be written.
 pub struct Packet {
@@ -61,7 +61,7 @@ impl Packet {
 
     pub const GREATEST: usize = Packet::CONTENT + PART;
 
-    // The fields that may be corrected, by their place among the packet's.
+    // The fields that may be corrected, by their position among the packet's.
     pub const LANGUAGE: usize = 2;
 
     pub const NUMBER: usize = 3;
@@ -123,7 +123,7 @@ pub fn lead(s: &[u8]) -> u8
 pub fn fields(s: &[u8], lead: u8) -> Answer
     ensures { λ r. ⌜ r ≡ answerOf (also recordOf (fieldsOf packet 5 greatest lead (now (s .entry)))) ⌝ }
 {
-    let other = choose(none(lead), format::SIZE, lead);
+    let other = choose_code(no_refusal(lead), format::SIZE, lead);
     if s.len() < Packet::LEAST {
         return Answer::Refused(other);
     }
@@ -140,7 +140,7 @@ pub fn fields(s: &[u8], lead: u8) -> Answer
     let number = w.v as u8;
     let w = w.num(s, 6, 1, MOST as u64);
     let total = w.v as u8;
-    let w = w.num(s, 6, 0, last(total));
+    let w = w.num(s, 6, 0, last_number(total));
     let own = w.v as u8;
     let w = w.rest(s).content(s, content).end(s);
     let r = Packet {
@@ -153,7 +153,7 @@ pub fn fields(s: &[u8], lead: u8) -> Answer
 }
 
 // The greatest own number of so many packets.
-pub fn last(total: u8) -> u64
+pub fn last_number(total: u8) -> u64
     ensures { λ r. ⌜ r ≡ total - 1 ⌝ }
 {
     if total == 0 {

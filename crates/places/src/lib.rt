@@ -264,7 +264,7 @@ pub fn free_at(a: Place, b: Place, c: Place, d: Place) -> usize
 }
 
 // Place number `i`; the last one for a greater number.
-pub fn pick(a: Place, b: Place, c: Place, d: Place, i: usize) -> Place
+pub fn place_at(a: Place, b: Place, c: Place, d: Place, i: usize) -> Place
     ensures { λ r. ⌜ r ≡ placeAt (a ∷ b ∷ c ∷ d ∷ []) (cond (ltb i 3) i 3) ⌝ }
 {
     if i == 0 {

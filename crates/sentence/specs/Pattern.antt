@@ -43,7 +43,7 @@ sameBytes (c ∷ s) (d ∷ t) = eqb c d && sameBytes s t
 abbrev pub addressGood : ℕ → Bool
 addressGood = between 1 2_097_151
 
--- the bytes from one place up to another
+-- the bytes from one offset up to another
 abbrev pub part : ℕ → ℕ → List ℕ → List ℕ
 part from to s = take (to - from) (drop from s)
 

@@ -33,10 +33,10 @@ unfoldable pub decimal : ℕ → ℕ → List ℕ
 decimal zero n = []
 decimal (suc k) n = cond (eqb n 0) [] (decimal k (n / 10) ++ (lower (n % 10) ∷ []))
 
--- ten places, of which those from `from` on are the digits of n and the others 0
-pub record Spells (n from : ℕ) (places : List ℕ) : Type 0 where
-  pub long : length places ≡ 10
-  pub figures : places ≡ replicate from 0 ++ decimal 10 n
+-- ten characters, of which those from `from` on are the digits of n and the others 0
+pub record Spells (n from : ℕ) (chars : List ℕ) : Type 0 where
+  pub long : length chars ≡ 10
+  pub figures : chars ≡ replicate from 0 ++ decimal 10 n
 
 -- the number that decimal digits spell after those that spell n
 unfoldable pub spelt : ℕ → List ℕ → ℕ

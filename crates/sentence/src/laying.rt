@@ -5,7 +5,7 @@ ghost use lib.ListN.{length};
 ghost use lib.Seq.{paste};
 ghost use Rattle.sentence.specs.Pattern.{Laid, opening, summedUp};
 
-// Puts the bytes of a part at a place of the buffer.
+// Puts the bytes of a part at an offset of the buffer.
 fn put(buf: &mut [u8], at: usize, part: &[u8])
     requires { ⌜ at + length (now part) ≤ length (now buf) ⌝ }
     ensures { λ _. ⌜ now (buf .exit) ≡ paste (now (buf .entry)) at (now (part .entry)) (length (now (part .entry))) ⌝ }

@@ -67,9 +67,9 @@ pub fn write(buf: &mut [u8], address: u32, r: Report) -> Sent
     }
     let figures = crate::spelling::decimal(address);
     let from = figures.from;
-    let places = figures.places;
+    let chars = figures.chars;
     let size = crate::laying::AROUND + 10 - from;
-    if crate::laying::lay(buf, &places[from..], bytes) {
+    if crate::laying::lay(buf, &chars[from..], bytes) {
         return Sent::Bytes(size);
     }
     Sent::Refused(format::ROOM)

@@ -54,25 +54,25 @@ pub fn all_digits(part: &[u8], base: u8) -> bool
     true
 }
 
-// Ten places, of which those from `from` on are a number's digits and the others 0.
+// Ten characters, of which those from `from` on are a number's digits and the others 0.
 pub struct Figures {
     pub from: usize,
-    pub places: [u8; 10],
+    pub chars: [u8; 10],
 }
 
 // The decimal digits of a number, last to first: none has more than ten.
 pub fn decimal(n: u32) -> Figures
-    ensures { λ r. ⌜ Spells n (r .from) (r .places) ⌝ }
+    ensures { λ r. ⌜ Spells n (r .from) (r .chars) ⌝ }
 {
-    let mut places = [0u8; 10];
+    let mut chars = [0u8; 10];
     let mut from = 10;
     let mut rest = n;
     while rest > 0 {
         from -= 1;
-        places[from] = figure((rest % 10) as u8, b'a');
+        chars[from] = figure((rest % 10) as u8, b'a');
         rest /= 10;
     }
-    Figures { from, places }
+    Figures { from, chars }
 }
 
 // The bytes that 34 hex digits spell, another byte counting 0; for any other count of them, zeros.

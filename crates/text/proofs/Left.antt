@@ -19,9 +19,9 @@ left s at n i = bytesAt s (at + i * 8) (n - i)
 module _ (s : List ℕ) (at n : ℕ) where
   pub left-all : left s at n 0 ≡ bytesAt s at n
   left-all =
-      let place : at + 0 * 8 ≡ at = omega arith in
+      let offset : at + 0 * 8 ≡ at = omega arith in
       let count : n - 0 ≡ n = omega arith in
-      rw (place, count)
+      rw (offset, count)
 
   pub left-none : (i : ℕ) → n ≤ i → left s at n i ≡ []
   unfolding bytesAt
@@ -33,8 +33,8 @@ module _ (s : List ℕ) (at n : ℕ) where
     unfolding bytesAt fieldAt
     left-next i h f =
         let count : n - i ≡ suc (n - (i + 1)) = omega arith in
-        let place : at + i * 8 + 8 ≡ at + (i + 1) * 8 = omega arith in
-        rw (f ∙ byte-across s at i low bytes e (omega arith), count, bytes-suc, drop-drop 8 (at + i * 8) (bitsOf s), place)
+        let offset : at + i * 8 + 8 ≡ at + (i + 1) * 8 = omega arith in
+        rw (f ∙ byte-across s at i low bytes e (omega arith), count, bytes-suc, drop-drop 8 (at + i * 8) (bitsOf s), offset)
 
 pub english-none : (g : Bool) → (g && english []) ≡ g
 unfolding english

@@ -8,10 +8,10 @@ use Rattle.format.specs.Fmt.{Spot, none, found}
 use Rattle.txhz.specs.declared.reading.Receipt.{Receipt}
 use Rattle.txhz.specs.declared.reading.Txhz.{Txhz}
 
--- the bytes of a receipt, from bit `at` on: fill where it is not held
+-- the bytes of a receipt, from bit `at` on: fill where it is not counted
 abbrev pub receiptSpots : Bool → ℕ → List Spot → List Spot
-receiptSpots held at l =
-    cond held (found at 8) none ∷ cond held (found (at + 8) 8) none ∷ cond held (found (at + 16) 8) none ∷ cond held (found (at + 24) 8) none ∷ l
+receiptSpots live at l =
+    cond live (found at 8) none ∷ cond live (found (at + 8) 8) none ∷ cond live (found (at + 16) 8) none ∷ cond live (found (at + 24) 8) none ∷ l
 
 -- the fields in bit order: where each that may be corrected stands, and its width
 abbrev pub spots : Txhz → List Spot

@@ -1,4 +1,4 @@
-// A frame TXHZ corrected in place, and sealed anew (paper 01, "Correcting a field").
+// A frame TXHZ corrected in@@offset, and sealed anew (paper 01, "Correcting a field").
 ghost use mathlib.Core.Path.{_≡_};
 ghost use mathlib.Core.Bool.{cond};
 ghost use lib.Dec.{ltb};
@@ -9,7 +9,7 @@ use crate::reading::fields;
 use crate::reading::read;
 
 // Where the fields stand in every frame.
-const PLACES: [usize; 26] = [
+const OFFSETS: [usize; 26] = [
     0,
     8,
     40,
@@ -44,7 +44,7 @@ pub fn correct(buf: &mut [u8], field: usize, value: u64) -> u8
 {
     let was = read(buf);
     let widths = table(was.count());
-    let spot = change::correcting::look_up(&PLACES, &widths, field);
+    let spot = change::correcting::look_up(&OFFSETS, &widths, field);
     let at = spot.at;
     let width = spot.width;
     let code = change::correcting::admits(was.refusal(), width, value);

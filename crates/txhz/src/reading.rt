@@ -9,8 +9,8 @@ ghost use Rattle.txhz.specs.Promises.{Reads};
 ghost use Rattle.txhz.specs.Steps.{slotRead, receiptRead};
 ghost use Rattle.txhz.specs.Txhz.{txhz, recordOf, answerOf, numberOf, countOf};
 ghost use Rattle.txhz.specs.declared.reading.Answer.the-variants.{Good, Refused};
-use walk::choosing::choose;
-use walk::choosing::none;
+use walk::choosing::choose_code;
+use walk::choosing::no_refusal;
 use walk::faults::range;
 
 pub struct Receipt {
@@ -76,7 +76,7 @@ impl Txhz {
 
     pub const GREATEST: usize = Txhz::BITS / 8;
 
-    // The fields that may be corrected, by their place among the frame's.
+    // The fields that may be corrected, by their position among the frame's.
     pub const ADDRESS: usize = 3;
 
     pub const RECEIVER: usize = 4;
@@ -112,7 +112,7 @@ pub fn fields(s: &[u8], code: u8) -> Answer
     ensures { λ r. ⌜ r ≡ answerOf (also recordOf (fieldsOf txhz 34 34 code (now (s .entry)))) ⌝ }
 {
     if s.len() != SEALED {
-        return Answer::Refused(choose(none(code), format::SIZE, code));
+        return Answer::Refused(choose_code(no_refusal(code), format::SIZE, code));
     }
     let w = frame::head(s, code, LETTERS, LENGTH, LENGTH);
     let address = w.v as u32;
@@ -152,17 +152,17 @@ struct Passed {
     receipt: Receipt,
 }
 
-// A receipt, which is fill where it is not held.
-fn read_receipt(w: walk::walk::Walk, s: &[u8], held: bool) -> Passed
-    ensures { λ r. ⌜ r ≡ receiptRead (now (s .entry)) held w ⌝ }
+// A receipt, which is fill where it is not counted.
+fn read_receipt(w: walk::walk::Walk, s: &[u8], live: bool) -> Passed
+    ensures { λ r. ⌜ r ≡ receiptRead (now (s .entry)) live w ⌝ }
 {
-    let w = read_slot(w, s, held, frame::HOUR);
+    let w = read_slot(w, s, live, frame::HOUR);
     let sent_hour = w.v as u8;
-    let w = read_slot(w, s, held, frame::MINUTE);
+    let w = read_slot(w, s, live, frame::MINUTE);
     let sent_minute = w.v as u8;
-    let w = read_slot(w, s, held, frame::HOUR);
+    let w = read_slot(w, s, live, frame::HOUR);
     let receipt_hour = w.v as u8;
-    let w = read_slot(w, s, held, frame::MINUTE);
+    let w = read_slot(w, s, live, frame::MINUTE);
     let receipt_minute = w.v as u8;
     let receipt = Receipt {
         sent_hour,
@@ -174,22 +174,22 @@ fn read_receipt(w: walk::walk::Walk, s: &[u8], held: bool) -> Passed
 }
 
 // A byte of a receipt: that which the walk's bit lies in. Receipts stand at whole bytes, and so the compiler knows it.
-fn read_slot(w: walk::walk::Walk, s: &[u8], held: bool, most: u64) -> walk::walk::Walk
-    ensures { λ r. ⌜ (r ≡ slotRead (now (s .entry)) held most w) × (r .v < 2 ^ 8) ⌝ }
+fn read_slot(w: walk::walk::Walk, s: &[u8], live: bool, most: u64) -> walk::walk::Walk
+    ensures { λ r. ⌜ (r ≡ slotRead (now (s .entry)) live most w) × (r .v < 2 ^ 8) ⌝ }
 {
     let at = w.at / 8 * 8;
-    let wrong = range(s, at, 8, 0, top(held, most), fault(held));
-    w.on(8, held, bits::get(s, at, 8), wrong, 0)
+    let wrong = range(s, at, 8, 0, top(live, most), fault(live));
+    w.on(8, live, bits::get(s, at, 8), wrong, 0)
 }
 
-fn top(held: bool, most: u64) -> u64
-    ensures { λ r. ⌜ r ≡ cond held most 0 ⌝ }
+fn top(live: bool, most: u64) -> u64
+    ensures { λ r. ⌜ r ≡ cond live most 0 ⌝ }
 {
-    if held { most } else { 0 }
+    if live { most } else { 0 }
 }
 
-fn fault(held: bool) -> u8
-    ensures { λ r. ⌜ r ≡ cond held 4 5 ⌝ }
+fn fault(live: bool) -> u8
+    ensures { λ r. ⌜ r ≡ cond live 4 5 ⌝ }
 {
-    if held { format::RANGE } else { format::FILL }
+    if live { format::RANGE } else { format::FILL }
 }

@@ -43,21 +43,21 @@ fn judged(r: Txhz) -> walk::walk::Walk
     judge_receipt(w, r.fifth, 4 < count)
 }
 
-// A receipt, which is kept fill where it is not held.
-fn judge_receipt(w: walk::walk::Walk, t: Receipt, held: bool) -> walk::walk::Walk
-    ensures { λ r. ⌜ r ≡ receiptJudged held t w ⌝ }
+// A receipt, which is kept fill where it is not counted.
+fn judge_receipt(w: walk::walk::Walk, t: Receipt, live: bool) -> walk::walk::Walk
+    ensures { λ r. ⌜ r ≡ receiptJudged live t w ⌝ }
 {
-    let w = judge_slot(w, t.sent_hour, held, frame::HOUR);
-    let w = judge_slot(w, t.sent_minute, held, frame::MINUTE);
-    let w = judge_slot(w, t.receipt_hour, held, frame::HOUR);
-    judge_slot(w, t.receipt_minute, held, frame::MINUTE)
+    let w = judge_slot(w, t.sent_hour, live, frame::HOUR);
+    let w = judge_slot(w, t.sent_minute, live, frame::MINUTE);
+    let w = judge_slot(w, t.receipt_hour, live, frame::HOUR);
+    judge_slot(w, t.receipt_minute, live, frame::MINUTE)
 }
 
 // A byte of a receipt.
-fn judge_slot(w: walk::walk::Walk, v: u8, held: bool, most: u64) -> walk::walk::Walk
-    ensures { λ r. ⌜ r ≡ slotJudged held v most w ⌝ }
+fn judge_slot(w: walk::walk::Walk, v: u8, live: bool, most: u64) -> walk::walk::Walk
+    ensures { λ r. ⌜ r ≡ slotJudged live v most w ⌝ }
 {
-    if held {
+    if live {
         return w.value(8, v as u64, 0, most);
     }
     w.fill_value(8, v as u64)

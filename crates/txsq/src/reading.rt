@@ -65,7 +65,7 @@ impl Txsq {
     // Where the content begins.
     pub const CONTENT: usize = 17;
 
-    // The fields that may be corrected, by their place among the frame's.
+    // The fields that may be corrected, by their position among the frame's.
     pub const ADDRESS: usize = 3;
 
     pub const CATEGORY: usize = 5;

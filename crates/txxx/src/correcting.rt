@@ -1,4 +1,4 @@
-// A frame TXXX corrected in place, and sealed anew (paper 01, "Correcting a field").
+// A frame TXXX corrected in@@offset, and sealed anew (paper 01, "Correcting a field").
 ghost use mathlib.Core.Path.{_≡_};
 ghost use mathlib.Core.Bool.{cond};
 ghost use Prim.Native.Nat.{_-_, _*_};
@@ -17,8 +17,8 @@ pub fn correct(buf: &mut [u8], field: usize, value: u64) -> u8
     ensures { λ code. ⌜ Corrects txxxs (now (buf .entry)) field value code (now (buf .exit)) ⌝ }
 {
     let was = read(buf);
-    // All but the mark stand in the same places in every frame.
-    let places = [
+    // All but the mark stand in the same offsets in every frame.
+    let offsets = [
         0,
         8,
         40,
@@ -32,7 +32,7 @@ pub fn correct(buf: &mut [u8], field: usize, value: u64) -> u8
         144,
         mark(buf.len()),
     ];
-    let spot = change::correcting::look_up(&places, &WIDTHS, field);
+    let spot = change::correcting::look_up(&offsets, &WIDTHS, field);
     let at = spot.at;
     let width = spot.width;
     let code = change::correcting::admits(was.refusal(), width, value);

@@ -64,7 +64,7 @@ impl Txxx {
 
     pub const TAIL: usize = 2;
 
-    // The fields that may be corrected, by their place among the frame's.
+    // The fields that may be corrected, by their position among the frame's.
     pub const ADDRESS: usize = 3;
 
     pub const CLASS: usize = 4;

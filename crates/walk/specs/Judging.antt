@@ -17,12 +17,12 @@ filled w v r = onward w false v (cond (leb 0 v && leb v 0) 0 5) 0 r
 abbrev pub signedlyValued : ℕ → ℕ → ℕ → ℕ → ℕ → ℕ → Walk → Walk
 signedlyValued w v full top bottom none r = onward w true v (cond (ltb v full) (cond (leb v top || leb bottom v || eqb v none) 0 4) 4) 0 r
 
--- past w bits with the fault c, however many they are: a caller's bytes may be more than a machine's place can tell
+-- past w bits with the fault c, however many they are: a caller's bytes may be more than a machine's offset can tell
 unfoldable pub beyond : ℕ → ℕ → Walk → Walk
 beyond w c r = record {
   at = r .at + w;
   code = cond (eqb (r .code) 0) c (r .code);
-  place = cond (eqb (r .code) 0) (r .at) (r .place);
+  offset = cond (eqb (r .code) 0) (r .at) (r .offset);
   v = 0;
   seek = r .seek;
   left = r .left;

@@ -36,7 +36,7 @@ unfoldable pub parted : List ℕ → ℕ → ℕ → ℕ → Walk → Walk
 parted s w lo hi r = record {
   at = (r .at + w) % 2 ^ 64;
   code = cond (eqb (r .code) 0) (ranging s (r .at) w lo hi 4) (r .code);
-  place = cond (eqb (r .code) 0) (r .at) (r .place);
+  offset = cond (eqb (r .code) 0) (r .at) (r .offset);
   v = r .v;
   seek = r .seek;
   left = r .left;
@@ -49,7 +49,7 @@ unfoldable pub grouped : List ℕ → ℕ → Walk → Walk → Walk
 grouped s w p r = let n = onward w true (got s (r .at) w) 0 0 r in record {
   at = n .at;
   code = p .code;
-  place = p .place;
+  offset = p .offset;
   v = n .v;
   seek = n .seek;
   left = n .left;
@@ -71,7 +71,7 @@ unfoldable pub ended : List ℕ → Walk → Walk
 ended s r = record {
   at = r .at;
   code = cond (eqb (r .code) 0) (closes s (r .at)) (r .code);
-  place = cond (eqb (r .code) 0) ((r .at + cond (eqb (closes s (r .at)) 5) 0 (pad (r .at))) % 2 ^ 64) (r .place);
+  offset = cond (eqb (r .code) 0) ((r .at + cond (eqb (closes s (r .at)) 5) 0 (pad (r .at))) % 2 ^ 64) (r .offset);
   v = 0;
   seek = false;
   left = 0;

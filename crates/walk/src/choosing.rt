@@ -4,13 +4,13 @@ ghost use mathlib.Core.Path.{_≡_};
 ghost use Prim.Native.Nat.{_-_};
 ghost use lib.Dec.{eqb, leb};
 
-pub fn none(code: u8) -> bool
+pub fn no_refusal(code: u8) -> bool
     ensures { λ r. ⌜ r ≡ eqb code 0 ⌝ }
 {
     code == 0
 }
 
-pub fn last(left: usize) -> bool
+pub fn is_zero(left: usize) -> bool
     ensures { λ r. ⌜ r ≡ eqb left 0 ⌝ }
 {
     left == 0
@@ -29,20 +29,20 @@ pub fn not(a: bool) -> bool
 }
 
 // Of two refusal numbers.
-pub fn choose(yes: bool, a: u8, b: u8) -> u8
+pub fn choose_code(yes: bool, a: u8, b: u8) -> u8
     ensures { λ r. ⌜ r ≡ cond yes a b ⌝ }
 {
     if yes { a } else { b }
 }
 
-// Of two places or sizes.
-pub fn pick(yes: bool, m: usize, n: usize) -> usize
+// Of two offsets or sizes.
+pub fn choose_offset(yes: bool, m: usize, n: usize) -> usize
     ensures { λ r. ⌜ r ≡ cond yes m n ⌝ }
 {
     if yes { m } else { n }
 }
 
-pub fn less(n: usize) -> usize
+pub fn one_less(n: usize) -> usize
     ensures { λ r. ⌜ r ≡ n - 1 ⌝ }
 {
     if n == 0 { 0 } else { n - 1 }

@@ -2,10 +2,10 @@
 ghost use mathlib.Core.Path.{_≡_};
 ghost use Prim.Native.Nat.{_-_, _/_, _%_, _^_};
 ghost use Rattle.walk.specs.Pieces.{unpieced, pieced, unlessZero};
-use crate::choosing::choose;
+use crate::choosing::choose_code;
+use crate::choosing::choose_offset;
 use crate::choosing::inside;
-use crate::choosing::none;
-use crate::choosing::pick;
+use crate::choosing::no_refusal;
 
 // A number made of parts, judged one by one from its highest bits down.
 pub struct Pieces {
@@ -36,15 +36,15 @@ impl Pieces {
     pub fn piece(self, w: usize, lo: u64, hi: u64) -> Self
         ensures { λ r. ⌜ r ≡ pieced w lo hi self ⌝ }
     {
-        let clear = none(self.code);
+        let clear = no_refusal(self.code);
         let left = minus(self.left, w);
         let u = below(above(self.v, left), w);
         Pieces {
             v: self.v,
             width: self.width,
             left,
-            code: choose(clear, inside(u, lo, hi, format::RANGE), self.code),
-            into: pick(clear, minus(self.width, self.left), self.into),
+            code: choose_code(clear, inside(u, lo, hi, format::RANGE), self.code),
+            into: choose_offset(clear, minus(self.width, self.left), self.into),
         }
     }
 
@@ -57,7 +57,7 @@ impl Pieces {
             v: self.v,
             width: self.width,
             left: self.left,
-            code: choose(zero, 0, self.code),
+            code: choose_code(zero, 0, self.code),
             into: self.into,
         }
     }

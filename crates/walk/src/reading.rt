@@ -5,9 +5,9 @@ ghost use Prim.Native.Nat.{_^_, _<_};
 ghost use Rattle.walk.specs.Faults.{wholly};
 ghost use Rattle.walk.specs.Reading.{given, carried, blanked, ranged, signedly, parted, grouped, ended};
 ghost use Rattle.walk.specs.Walk.{onward};
-use crate::choosing::choose;
-use crate::choosing::none;
-use crate::choosing::pick;
+use crate::choosing::choose_code;
+use crate::choosing::choose_offset;
+use crate::choosing::no_refusal;
 use crate::faults::clear;
 use crate::faults::closing;
 use crate::faults::lies;
@@ -56,7 +56,7 @@ impl Walk {
             w,
             false,
             bits::get(s, at, w),
-            choose(there, fault, format::SIZE),
+            choose_code(there, fault, format::SIZE),
             0,
         )
     }
@@ -66,7 +66,10 @@ impl Walk {
         ensures { λ r. ⌜ r ≡ carried (now (s .entry)) w self ⌝ }
     {
         let at = self.at;
-        self.wide(w as usize, choose(lies(s.len(), at, w), 0, format::SIZE))
+        self.wide(
+            w as usize,
+            choose_code(lies(s.len(), at, w), 0, format::SIZE),
+        )
     }
 
     // A fixed code.
@@ -118,11 +121,11 @@ impl Walk {
         ensures { λ r. ⌜ r ≡ parted (now (s .entry)) w lo hi self ⌝ }
     {
         let at = self.at;
-        let clear = none(self.code);
+        let clear = no_refusal(self.code);
         Walk {
             at: std::num::wrapping_add_usize(at, w),
-            code: choose(clear, range(s, at, w, lo, hi, format::RANGE), self.code),
-            place: pick(clear, at, self.place),
+            code: choose_code(clear, range(s, at, w, lo, hi, format::RANGE), self.code),
+            offset: choose_offset(clear, at, self.offset),
             v: self.v,
             seek: self.seek,
             left: self.left,
@@ -140,7 +143,7 @@ impl Walk {
         Walk {
             at: all.at,
             code: parts.code,
-            place: parts.place,
+            offset: parts.offset,
             v: all.v,
             seek: all.seek,
             left: all.left,
@@ -154,18 +157,18 @@ impl Walk {
         ensures { λ r. ⌜ r ≡ ended (now (s .entry)) self ⌝ }
     {
         let at = self.at;
-        let clear = none(self.code);
+        let clear = no_refusal(self.code);
         let fault = closing(s, at);
         let into = past(fault, at);
         Walk {
             at,
-            code: choose(clear, fault, self.code),
-            place: pick(clear, std::num::wrapping_add_usize(at, into), self.place),
+            code: choose_code(clear, fault, self.code),
+            offset: choose_offset(clear, std::num::wrapping_add_usize(at, into), self.offset),
             v: 0,
             seek: false,
             left: 0,
             spot: self.spot,
-            width: pick(self.seek, 0, self.width),
+            width: choose_offset(self.seek, 0, self.width),
         }
     }
 }

@@ -1,21 +1,21 @@
-// The walk over a message's fields, in bit order: it carries its own place, and the first refusal sticks.
+// The walk over a message's fields, in bit order: it carries its own offset, and the first refusal sticks.
 ghost use mathlib.Core.Bool.{false};
 ghost use mathlib.Core.Path.{_≡_};
 ghost use Rattle.walk.specs.Walk.{begun, onward};
 use crate::choosing::both;
-use crate::choosing::choose;
-use crate::choosing::last;
-use crate::choosing::less;
-use crate::choosing::none;
+use crate::choosing::choose_code;
+use crate::choosing::choose_offset;
+use crate::choosing::is_zero;
+use crate::choosing::no_refusal;
 use crate::choosing::not;
-use crate::choosing::pick;
+use crate::choosing::one_less;
 
 pub struct Walk {
     // The bit where the next field starts.
     pub at: usize,
     // The first refusal, 0 for none, and its bit.
     pub code: u8,
-    pub place: usize,
+    pub offset: usize,
     // The value of the field just walked.
     pub v: u64,
     // Whether a field is still sought, and how many fields before it are left.
@@ -34,7 +34,7 @@ impl Walk {
         Walk {
             at: 0,
             code,
-            place: 0,
+            offset: 0,
             v: 0,
             seek: true,
             left: want,
@@ -48,17 +48,17 @@ impl Walk {
         ensures { λ r. ⌜ r ≡ onward w free v fault into self ⌝ }
     {
         let at = self.at;
-        let clear = none(self.code);
-        let hit = both(self.seek, last(self.left));
+        let clear = no_refusal(self.code);
+        let hit = both(self.seek, is_zero(self.left));
         Walk {
             at: std::num::wrapping_add_usize(at, w),
-            code: choose(clear, fault, self.code),
-            place: pick(clear, std::num::wrapping_add_usize(at, into), self.place),
+            code: choose_code(clear, fault, self.code),
+            offset: choose_offset(clear, std::num::wrapping_add_usize(at, into), self.offset),
             v,
-            seek: both(self.seek, not(last(self.left))),
-            left: less(self.left),
-            spot: pick(hit, at, self.spot),
-            width: pick(hit, pick(free, w, 0), self.width),
+            seek: both(self.seek, not(is_zero(self.left))),
+            left: one_less(self.left),
+            spot: choose_offset(hit, at, self.spot),
+            width: choose_offset(hit, choose_offset(free, w, 0), self.width),
         }
     }
 

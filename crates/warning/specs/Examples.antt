@@ -40,7 +40,7 @@ gale-refused : writeMessage warnings (valuesOf (galeFrom 9)) ≡ refused 4 124
 unfolding writeMessage warnings warning valuesAs spellTime write writeField walk wide valueOf bit digits
 gale-refused = refl
 
--- the same place and time, for 12 hours; 40 km around, half a nautical mile
+-- the same offset and time, for 12 hours; 40 km around, half a nautical mile
 abbrev fogSeen : ℕ → Warning
 fogSeen visibility = record {
   repeat = 0;

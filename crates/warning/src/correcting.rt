@@ -1,4 +1,4 @@
-// A warning corrected in place (paper 01, "Correcting a field").
+// A warning corrected in@@offset (paper 01, "Correcting a field").
 ghost use Rattle.bits.specs.Bits.{fieldAt};
 ghost use Rattle.format.specs.Promises.{Corrects};
 ghost use Rattle.warning.specs.Warning.{warnings};
@@ -7,7 +7,7 @@ use crate::reading::fields;
 use crate::reading::read;
 
 // Where the fields stand in every warning that has them, their widths, and the warning type that has them, 0 for all.
-const PLACES: [usize; 27] = [
+const OFFSETS: [usize; 27] = [
     0,
     6,
     8,
@@ -103,7 +103,7 @@ pub fn correct(buf: &mut [u8], field: usize, value: u64) -> u8
 {
     let was = read(buf);
     let kind = bits::get(buf, 56, 4);
-    let spot = change::correcting::look_up_of(&PLACES, &WIDTHS, &KINDS, field, kind as usize);
+    let spot = change::correcting::look_up_of(&OFFSETS, &WIDTHS, &KINDS, field, kind as usize);
     let at = spot.at;
     let width = spot.width;
     let code = change::correcting::admits(was.refusal(), width, value);

@@ -8,8 +8,8 @@ ghost use Rattle.warning.specs.Promises.{Reads};
 ghost use Rattle.warning.specs.Warning.{warning, warnings, recordOf, answerOf, numberOf};
 ghost use Rattle.warning.specs.declared.reading.Answer.the-variants.{Good, Refused};
 pub use ais_common::head::AUTHORITY;
-use walk::choosing::choose;
-use walk::choosing::none;
+use walk::choosing::choose_code;
+use walk::choosing::no_refusal;
 
 pub struct Warning {
     pub repeat: u8,
@@ -117,7 +117,7 @@ pub fn fields(s: &[u8], lead: u8) -> Answer
     ensures { λ r. ⌜ r ≡ answerOf (also recordOf (fieldsOf warning 23 23 lead (now (s .entry)))) ⌝ }
 {
     if s.len() != Warning::LEAST {
-        return Answer::Refused(choose(none(lead), format::SIZE, lead));
+        return Answer::Refused(choose_code(no_refusal(lead), format::SIZE, lead));
     }
     let w = walk::walk::Walk::begin(lead, 0).code(s, 6, MESSAGE);
     let w = w.num(s, 2, 0, 3);

@@ -21,18 +21,18 @@ where-true : (b : Bool) (x y z : ℕ) → (b ≡ true → x ≡ y) → cond b x 
 where-true true x y z f = f refl
 where-true false x y z f = refl
 
-module _ (a : Asked) (start place w : ℕ) (s : List ℕ) where
+module _ (a : Asked) (start offset w : ℕ) (s : List ℕ) where
   abbrev pub lead : ℕ
-  lead = leads a (headOf start place w) s
+  lead = leads a (headOf start offset w) s
 
   -- what passes has its kind's size
   pub sized : lead ≡ 0 → length s ≡ a .bytes
   unfolding told
-  sized e = let (l, u) = led-between 23 (a .bytes) (a .bytes) (λ s. handled a (headOf start place w s)) s e in omega arith
+  sized e = let (l, u) = led-between 23 (a .bytes) (a .bytes) (λ s. handled a (headOf start offset w s)) s e in omega arith
 
   -- a message of that kind, of application n, leaves them its size alone
   pub leaves-size : (n : ℕ) → 23 ≤ length s → start + 16 ≤ 184 → fieldAt s 0 6 ≡ a .message → fieldAt s start 10 ≡ 412 → fieldAt s (start + 10) 6 ≡ n
-      → a .application ≡ application n → between 1 (a .choices) (fieldAt s place w) ≡ true → lead ≡ cond (between (a .bytes) (a .bytes) (length s)) 0 1
+      → a .application ≡ application n → between 1 (a .choices) (fieldAt s offset w) ≡ true → lead ≡ cond (between (a .bytes) (a .bytes) (length s)) 0 1
   unfolding told
   leaves-size n long fits message authority number is choice =
       let joined = field-join s start 10 6 (omega arith) in
@@ -40,13 +40,13 @@ module _ (a : Asked) (start place w : ℕ) (s : List ℕ) where
       rw (le-leb 23 (length s) long, eq-eqb (fieldAt s 0 6) (a .message) message, eq-eqb (fieldAt s start 16) (a .application) applied, choice)
 
   -- its head, got from within the smallest size
-  pub got-lead : (h : Head) → h .message ≡ got s 0 6 → h .application ≡ got s start 16 → h .choice ≡ got s place w
-      → start + 16 ≤ 184 → w ≤ 32 → place + w ≤ 184 → told a (length s) h ≡ lead
+  pub got-lead : (h : Head) → h .message ≡ got s 0 6 → h .application ≡ got s start 16 → h .choice ≡ got s offset w
+      → start + 16 ≤ 184 → w ≤ 32 → offset + w ≤ 184 → told a (length s) h ≡ lead
   unfolding told
   got-lead h em ea ec fits narrow there =
       where-true (leb 23 (length s)) _ _ 1 (λ e.
       let long = leb-true 23 (length s) e in
       let m = em ∙ got-fits s 0 6 (lit≤ tt) (omega arith) in
       let p = ea ∙ got-fits s start 16 (lit≤ tt) (omega arith) in
-      let c = ec ∙ got-fits s place w narrow (omega arith) in
+      let c = ec ∙ got-fits s offset w narrow (omega arith) in
       rw (m, p, c))

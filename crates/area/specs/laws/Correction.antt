@@ -22,8 +22,8 @@ use Rattle.area.specs.declared.reading.shapes.Shape.the-variants.{Circle
 
 -- ---- the table of the fields' numbers
 
-abbrev pub places : List ℕ
-places = 0 ∷ 6 ∷ 8 ∷ 38 ∷ 40 ∷ 70 ∷ 88 ∷ 94 ∷ 122 ∷ 204 ∷ 224 ∷ 238 ∷ 149 ∷ 149 ∷ 177 ∷ []
+abbrev pub offsets : List ℕ
+offsets = 0 ∷ 6 ∷ 8 ∷ 38 ∷ 40 ∷ 70 ∷ 88 ∷ 94 ∷ 122 ∷ 204 ∷ 224 ∷ 238 ∷ 149 ∷ 149 ∷ 177 ∷ []
 
 abbrev pub widths : List ℕ
 widths = 0 ∷ 2 ∷ 30 ∷ 2 ∷ 30 ∷ 1 ∷ 4 ∷ 28 ∷ 27 ∷ 20 ∷ 14 ∷ 4 ∷ 7 ∷ 28 ∷ 27 ∷ []
@@ -41,22 +41,22 @@ along r = go (r .shape)
     go (Rectangle b) = refl
 
 -- the table has the fields of either kind
-tabled : (t : Kind) → (length places ≡ length (ofKinds (typeOf t) kinds widths)) × (picks (spots t) (fields t) ≡ rows places (ofKinds (typeOf t) kinds widths))
+tabled : (t : Kind) → (length offsets ≡ length (ofKinds (typeOf t) kinds widths)) × (picks (spots t) (fields t) ≡ rows offsets (ofKinds (typeOf t) kinds widths))
 unfolding picks rows ofKinds
 tabled circle = (refl, refl)
 tabled rectangle = (refl, refl)
 
 -- the field of number n, looked up for an area whose shape has the number k
-module _ (k n : ℕ) {p w : ℕ} (looked-up : (p ≡ getD places n 0) × (w ≡ ofKind k (getD kinds n 0) (getD widths n 0))) where
+module _ (k n : ℕ) {p w : ℕ} (looked-up : (p ≡ getD offsets n 0) × (w ≡ ofKind k (getD kinds n 0) (getD widths n 0))) where
   pub stands : (r : Area) → k ≡ typeOf (shapeKind (r .shape)) → spot (areas .fmt) [] (valuesOf r) (getD (fields (shapeKind (r .shape))) n 0) ≡ standing p w
   stands r e =
       let t = shapeKind (r .shape) in
       let l : w ≡ ofKind (typeOf t) (getD kinds n 0) (getD widths n 0) = looked-up .1 ∙ ap (λ k. ofKind k (getD kinds n 0) (getD widths n 0)) e in
-      named-stands (fields t) places widths kinds (typeOf t) n (looked-up .0, l) (areas .fmt) (valuesOf r) (tabled t .0) (ap (λ l. getD l 0 none) (along r)) (ap (λ l. picks l (fields t)) (along r) ∙ tabled t .1)
+      named-stands (fields t) offsets widths kinds (typeOf t) n (looked-up .0, l) (areas .fmt) (valuesOf r) (tabled t .0) (ap (λ l. getD l 0 none) (along r)) (ap (λ l. picks l (fields t)) (along r) ∙ tabled t .1)
 
   pub thin : w ≤ 32
   unfolding slim
-  thin = named-slim (fields circle) places widths kinds k n {p = p} looked-up refl
+  thin = named-slim (fields circle) offsets widths kinds k n {p = p} looked-up refl
 
 pub spotted : (r : Area) (i : ℕ) → spot (areas .fmt) [] (valuesOf r) i ≡ spotOf (shapeKind (r .shape)) i
 spotted r i = spot-along (areas .fmt) (valuesOf r) i ∙ ap (λ t. getD t i none) (along r)

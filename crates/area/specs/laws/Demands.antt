@@ -19,7 +19,7 @@ use Rattle.format.specs.Words.{_‥_, num, fill, wide}
 use Rattle.format.specs.laws.Answers.{good-read}
 use Rattle.format.specs.laws.Entries.{entries}
 use Rattle.format.specs.laws.Family.{Family, one-size, written-front, read-written, read-values, correction-none, corrected-as-written}
-use Rattle.format.specs.laws.Held.{Held, exactly, ranged}
+use Rattle.format.specs.laws.Legal.{Legal, exactly, ranged}
 use Rattle.format.specs.laws.Whole.{was}
 use Rattle.format.specs.laws.Zero.{Judged, Counted, only-numbered}
 use Rattle.ais_common.specs.Time.{shortTime, spellTime, timeOf, spellShort, shortOf}
@@ -29,7 +29,7 @@ use Rattle.area.specs.Area.{tail, area, areas, valuesAs, valuesOf, recor
 use Rattle.area.specs.Changed.{spotOf, fields, fieldOf, changed}
 use Rattle.area.specs.Promises.{Reads}
 use Rattle.area.specs.Shapes.{Kind, circle, rectangle, kindOf, typeOf, shape, shapeKind, shapeValues, shapeOf}
-use Rattle.area.specs.laws.Correction.{places, widths, kinds, stands, spotted, changed-values}
+use Rattle.area.specs.laws.Correction.{offsets, widths, kinds, stands, spotted, changed-values}
 use Rattle.area.specs.laws.Sound.{front, bytes, shape-at, sound}
 use Rattle.area.specs.laws.Told.{recorded, kind-type}
 use Rattle.area.specs.laws.Walking.{Narrow, shape-numbered}
@@ -49,14 +49,14 @@ count r = go (r .shape)
     go (Circle b) = tt
     go (Rectangle b) = tt
 
--- what is held behind the shape's number fits its bits
-fits : (b : Shape) (h : List ℕ) (t u a : ℕ) → Held (shape (kindOf (typeOf (shapeKind b))) tail) h (shapeValues b (t ∷ u ∷ a ∷ 0 ∷ [])) → Narrow b × (t < 2 ^ 20) × (u < 2 ^ 14)
+-- what is legal behind the shape's number fits its bits
+fits : (b : Shape) (h : List ℕ) (t u a : ℕ) → Legal (shape (kindOf (typeOf (shapeKind b))) tail) h (shapeValues b (t ∷ u ∷ a ∷ 0 ∷ [])) → Narrow b × (t < 2 ^ 20) × (u < 2 ^ 14)
 unfolding wide
 fits (Circle b) h t u a g = ((g .0, g .2 .0), g .2 .2 .2 .2 .0, g .2 .2 .2 .2 .2 .0)
 fits (Rectangle b) h t u a g = ((g .0, g .2 .0, g .2 .2 .0, g .2 .2 .2 .0), g .2 .2 .2 .2 .0, g .2 .2 .2 .2 .2 .0)
 
 -- the record of a record's values is that record
-same-record : (r : Area) → Held area [] (valuesOf r) → recordOf (valuesOf r) ≡ r
+same-record : (r : Area) → Legal area [] (valuesOf r) → recordOf (valuesOf r) ≡ r
 unfolding area valuesAs
 same-record r h =
     let b = r .shape in
@@ -87,7 +87,7 @@ type-kind t lo hi = go (eqb t 1) refl
     go false e = let n = eqb-false t 1 e in omega (arith, n, lo, hi)
 
 -- accepted values behind the shape's number are those of its shape and the times
-behind : (t : Kind) (vs h : List ℕ) → Held (shape t tail) h (entries 11 8 vs)
+behind : (t : Kind) (vs h : List ℕ) → Legal (shape t tail) h (entries 11 8 vs)
     → (shapeKind (shapeOf t vs) ≡ t) × (shapeValues (shapeOf t vs) (spellTime (timeOf (getD vs 15 0)) ∷ spellShort (shortOf (getD vs 16 0)) ∷ getD vs 17 0 ∷ 0 ∷ []) ≡ entries 11 8 vs)
 unfolding entries wide
 behind circle vs h g =
@@ -113,7 +113,7 @@ behind rectangle vs h g =
     (refl, λ y. east y ∷ north y ∷ east2 y ∷ north2 y ∷ first y ∷ second y ∷ getD vs 17 0 ∷ sym fill y ∷ [])
 
 -- accepted values are those of their record
-same-values : (vs : List ℕ) → Held area [] vs → valuesOf (recordOf vs) ≡ vs
+same-values : (vs : List ℕ) → Legal area [] vs → valuesOf (recordOf vs) ≡ vs
 unfolding valuesAs recordOf entries
 same-values vs h =
     let f = front vs h in
@@ -181,7 +181,7 @@ unfolding areas valuesAs
 shape-number s r fine e = let m = read-values family s r fine e .0 in shape-at s (valuesOf r) (was areas s (valuesOf r) m .walked)
 
 -- the field of number n, looked up by the shape's number k that the code found there, stands where the table says
-pub looked-stands : (s : List ℕ) (n : ℕ) {k p w : ℕ} → Bytes s → k ≡ got s 92 2 → (p ≡ getD places n 0) × (w ≡ ofKind k (getD kinds n 0) (getD widths n 0))
+pub looked-stands : (s : List ℕ) (n : ℕ) {k p w : ℕ} → Bytes s → k ≡ got s 92 2 → (p ≡ getD offsets n 0) × (w ≡ ofKind k (getD kinds n 0) (getD widths n 0))
     → (r : Area) → readRecord areas recordOf s ≡ accepted r → spot (areas .fmt) [] (valuesOf r) (fieldOf (fieldAt s 92 2) n) ≡ standing p w
 unfolding areas
 looked-stands s n {k} fine is l r e =

@@ -12,10 +12,10 @@ use Rattle.bits.specs.laws.Bytes.{length-bits}
 use Rattle.format.specs.Fmt.{accepted, read}
 use Rattle.format.specs.Message.{Sound, between}
 use Rattle.format.specs.Words.{_‥_, only, wide, kept}
-use Rattle.format.specs.laws.Entries.{Long, entries, held-entries}
+use Rattle.format.specs.laws.Entries.{Long, entries, legal-entries}
 use Rattle.format.specs.laws.Extent.{extent, extent-laid}
-use Rattle.format.specs.laws.Held.{Held, held, passed, exactly}
-use Rattle.format.specs.laws.Places.{value-at, choice-at}
+use Rattle.format.specs.laws.Legal.{Legal, legal, passed, exactly}
+use Rattle.format.specs.laws.Offsets.{value-at, choice-at}
 use Rattle.format.specs.laws.Round.{read-write}
 use Rattle.area.specs.Area.{asked, tail, area, areas}
 use Rattle.area.specs.Shapes.{Kind, circle, rectangle, kindOf, shape}
@@ -36,13 +36,13 @@ pub record Front (vs : List ℕ) : Type 0 where
   pub application-is : getD vs 8 0 ≡ 11
   pub shape-is : between 1 2 (getD vs 10 0) ≡ true
   pub before : List ℕ
-  pub holds : Held (shape (kindOf (getD vs 10 0)) tail) before (entries 11 8 vs)
+  pub holds : Legal (shape (kindOf (getD vs 10 0)) tail) before (entries 11 8 vs)
 
-pub front : (vs : List ℕ) → Held area [] vs → Front vs
+pub front : (vs : List ℕ) → Legal area [] vs → Front vs
 unfolding area entries
 front vs h =
-    let is = held-entries area 19 vs (λ v. long (kindOf v)) h in
-    let g = subst (Held area []) (sym is) h in
+    let is = legal-entries area 19 vs (λ v. long (kindOf v)) h in
+    let g = subst (Legal area []) (sym is) h in
     let g6 = g .2 .2 .2 .2 .2 .2 in
     let g7 = g6 .2 in
     let g8 = g7 .2 in
@@ -74,7 +74,7 @@ extent-area vs =
 
 module _ (s vs : List ℕ) (e : read area [] 0 (bitsOf s) ≡ accepted vs) where
   abbrev begins : Front vs
-  begins = front vs (held area [] 0 vs (bitsOf s) (read-write area [] 0 vs (bitsOf s) e))
+  begins = front vs (legal area [] 0 vs (bitsOf s) (read-write area [] 0 vs (bitsOf s) e))
 
   pub bytes : length s ≡ 31
   bytes =

@@ -1,4 +1,4 @@
--- Fields read and put, at every place and width: the message as the bits before, of and after the field. Assumes nothing.
+-- Fields read and put, at every offset and width: the message as the bits before, of and after the field. Assumes nothing.
 use mathlib.Core.Bool.{Bool}
 use mathlib.Core.List.{List, _∷_, _++_, append-assoc}
 use mathlib.Core.Path.{_≡_, sym, ap, _∙_}
@@ -39,7 +39,7 @@ part-first : (xs ys : List Bool) (at w : ℕ) → at + w ≤ length xs → take 
 part-first xs ys at w h =
     rw (drop-append-le at xs ys (omega arith), take-append-le w (drop at xs) ys (simp length-drop (omega arith)))
 
--- a part that starts past the place n is a part of what follows n
+-- a part that starts past the offset n is a part of what follows n
 part-past : (n at w : ℕ) (l : List Bool) → n ≤ at → take w (drop at l) ≡ take w (drop (at - n) (drop n l))
 part-past n at w l h = rw (drop-drop (at - n) n l, add-sub-of-le h)
 

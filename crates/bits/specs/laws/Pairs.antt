@@ -29,6 +29,6 @@ byte-pair s k (suc j) bytes h fits =
 pub byte-across : (s : List ℕ) (at i low : ℕ) → Bytes s → low ≡ (at + 7) / 8 → at + (i + 1) * 8 ≤ length s * 8
     → acrossOf (getD s (at / 8 + i) 0) (getD s (low + i) 0) at ≡ fieldAt s (at + i * 8) 8
 byte-across s at i low bytes e fits =
-    let place : at + i * 8 ≡ (at / 8 + i) * 8 + at % 8 = omega arith in
+    let offset : at + i * 8 ≡ (at / 8 + i) * 8 + at % 8 = omega arith in
     let end : low + i ≡ at / 8 + i + (at % 8 + 7) / 8 = omega arith in
-    rw (end, ← byte-pair s (at / 8 + i) (at % 8) bytes (omega arith) (omega arith), place)
+    rw (end, ← byte-pair s (at / 8 + i) (at % 8) bytes (omega arith) (omega arith), offset)

@@ -1,4 +1,4 @@
--- The numbers of a good packet are its record's and its content's place and size; a refused one has its refusal. Assumes nothing.
+-- The numbers of a good packet are its record's and its content's offset and size; a refused one has its refusal. Assumes nothing.
 use mathlib.Core.Path.{_≡_, refl, sym, ap, _∙_}
 use mathlib.Core.List.{List}
 use Prim.Native.Nat.{ℕ, _-_, _≤_}

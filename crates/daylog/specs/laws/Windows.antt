@@ -138,12 +138,12 @@ roomy : (out t : List ℕ) → 55 ≤ length out → roomed out t ≡ t
 roomy out t h = rw (le-leb 55 (length out) h)
 
 -- The texts of a run of the calls, one after the other, are the listing.
-pub run-lists : {n : ℕ} {held rest text : List ℕ} → Run n held rest text → text ≡ listingFrom n (held ++ rest)
-run-lists (reads {n = n} {held = held} {rest = rest} chunk r) = run-lists r ∙ ap (listingFrom n) (append-assoc held chunk rest)
-run-lists (lists {n = n} {held = held} {rest = rest} {out = out} {left = left} {r = r} p x) =
-    ap (λ l. take (r .made) left ++ l) (run-lists x) ∙ sym (list-window held n out r left p rest)
-run-lists (cut {n = n} {held = held} {out = out} e h p) = text-made p ∙ roomy out (endingOf n (length held)) h ∙ sym (short-end held n e) ∙ ap (listingFrom n) (sym (append-nil held))
-run-lists (bad {n = n} {held = held} {rest = rest} {out = out} e h p) = text-made p ∙ roomy out (endingOf n (length (held ++ rest))) h ∙ sym (bad-end held n e rest)
+pub run-lists : {n : ℕ} {waiting rest text : List ℕ} → Run n waiting rest text → text ≡ listingFrom n (waiting ++ rest)
+run-lists (reads {n = n} {waiting = waiting} {rest = rest} chunk r) = run-lists r ∙ ap (listingFrom n) (append-assoc waiting chunk rest)
+run-lists (lists {n = n} {waiting = waiting} {rest = rest} {out = out} {left = left} {r = r} p x) =
+    ap (λ l. take (r .made) left ++ l) (run-lists x) ∙ sym (list-window waiting n out r left p rest)
+run-lists (cut {n = n} {waiting = waiting} {out = out} e h p) = text-made p ∙ roomy out (endingOf n (length waiting)) h ∙ sym (short-end waiting n e) ∙ ap (listingFrom n) (sym (append-nil waiting))
+run-lists (bad {n = n} {waiting = waiting} {rest = rest} {out = out} e h p) = text-made p ∙ roomy out (endingOf n (length (waiting ++ rest))) h ∙ sym (bad-end waiting n e rest)
 
 -- from the heading on, over a log of any length
 pub program-lists : (log out : List ℕ) (made : ℕ) (left text : List ℕ) → 55 ≤ length out → Heads out made left → Run 1 [] log text

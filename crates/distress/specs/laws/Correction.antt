@@ -13,14 +13,14 @@ use Rattle.distress.specs.Changed.{spotOf, changed}
 use Rattle.distress.specs.Report.{report, reports, valuesOf}
 use Rattle.distress.specs.declared.reading.Report.{Report}
 
-abbrev pub places : List ℕ
-places = 0 ∷ 16 ∷ 48 ∷ 73 ∷ 97 ∷ 102 ∷ 107 ∷ 113 ∷ 120 ∷ 129 ∷ 133 ∷ []
+abbrev pub offsets : List ℕ
+offsets = 0 ∷ 16 ∷ 48 ∷ 73 ∷ 97 ∷ 102 ∷ 107 ∷ 113 ∷ 120 ∷ 129 ∷ 133 ∷ []
 
 abbrev pub widths : List ℕ
 widths = 0 ∷ 32 ∷ 25 ∷ 24 ∷ 5 ∷ 5 ∷ 6 ∷ 7 ∷ 9 ∷ 4 ∷ 0 ∷ []
 
 -- where each field stands is the same in every report, and so the table that the code looks in
-pub along : (r : Report) → spotsAlong (reports .fmt) [] (valuesOf r) 0 ≡ rows places widths
+pub along : (r : Report) → spotsAlong (reports .fmt) [] (valuesOf r) 0 ≡ rows offsets widths
 unfolding reports report valuesOf spotsAlong rows
 along r = refl
 

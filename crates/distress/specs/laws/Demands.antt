@@ -9,9 +9,9 @@ use Rattle.format.specs.Fmt.{accepted, found}
 use Rattle.format.specs.Message.{writeMessage}
 use Rattle.format.specs.Promises.{readRecord, Writes, Corrects}
 use Rattle.format.specs.laws.Answers.{good-read}
-use Rattle.format.specs.laws.Entries.{entries, held-entries}
+use Rattle.format.specs.laws.Entries.{entries, legal-entries}
 use Rattle.format.specs.laws.Family.{Family, one-size, written-front, accepted-correction, corrected-as-written}
-use Rattle.format.specs.laws.Held.{Held, exactly}
+use Rattle.format.specs.laws.Legal.{Legal, exactly}
 use Rattle.walk.specs.laws.Sign.{spell-int}
 use Rattle.format.specs.laws.Zero.{Judged, only-numbered}
 use Rattle.distress.specs.Changed.{spotOf, changed}
@@ -45,11 +45,11 @@ judged = (
 )
 
 -- accepted values are those of their record: the code, the fill and the two signs are as they must be
-same-values : (vs : List ℕ) → Held report [] vs → valuesOf (reportOf vs) ≡ vs
+same-values : (vs : List ℕ) → Legal report [] vs → valuesOf (reportOf vs) ≡ vs
 unfolding report valuesOf reportOf entries
 same-values vs h =
-    let e = held-entries report 11 vs tt h in
-    let g = subst (Held report []) (sym e) h in
+    let e = legal-entries report 11 vs tt h in
+    let g = subst (Legal report []) (sym e) h in
     let z = g .2 .2 .2 .2 .2 .2 .2 .2 .2 .2 in
     let code = exactly 16 1 0xBDC1 _ (getD vs 0 0) (g .0) (g .1) in
     let fill = exactly 3 4 0 _ (getD vs 10 0) (z .0) (z .1) in
@@ -86,7 +86,7 @@ written-reads s r t w = sym (ap answerOf (written-front family s r t 17 tt w (lo
 
 -- A correction changes the field's bits alone.
 pub correction-bits : (s : List ℕ) (i v : ℕ) (t : List ℕ) (e : Corrects reports s i v 0 t) → let c = accepted-correction family s i v t e in
-    t ≡ putAt s (c .place) (c .width) v
+    t ≡ putAt s (c .offset) (c .width) v
 unfolding reports
 correction-bits s i v t e = accepted-correction family s i v t e .changed
 

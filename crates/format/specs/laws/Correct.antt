@@ -91,7 +91,7 @@ lay-set (bytes f) h at (u ∷ us) b (suc i) v p w e s l =
     let h = lay-set (f u) (u ∷ h) at us b i v p w (y .0) s l in
     record { laid = rw (h .laid) (sized-at u at _ (rw (h .long) (y .1))); long = h .long }
 
--- A field's place lies within the bits.
+-- A field's offset lies within the bits.
 pub spot-within : (f : Fmt) (h : List ℕ) (at : ℕ) (vs : List ℕ) (b : List Bool) (i p w : ℕ)
     → lay f at vs ≡ accepted b → spot f h vs i ≡ found p w → p + w ≤ length b
 unfolding lay spot

@@ -1,4 +1,4 @@
--- The code corrects in place: it changes the field's bits, reads the fields again, puts the old bits back where they are refused, and makes the seal anew. Assumes nothing.
+-- The code corrects in@@offset: it changes the field's bits, reads the fields again, puts the old bits back where they are refused, and makes the seal anew. Assumes nothing.
 use mathlib.Core.Path.{_≡_, refl, sym, ap, _∙_}
 use mathlib.Core.Bool.{Bool, true, false, cond}
 use mathlib.Core.List.{List, []}
@@ -107,8 +107,8 @@ module _ (l : Layout) (ok : Sound l) (numbers : Judged (l .fmt)) (s : List ℕ) 
         correct-narrow l ok s vs i v p w (fits .read-so) (fits .spot-so) (fits .narrow)
         ∙ ap (λ b. also (λ us. sealed (l .seal) b) (read (l .fmt) [] 0 (bitsOf b))) (sym body-so)
 
-    held : l .seal ≡ true → 0 < length s
-    held = filled l ok s vs (was l s vs (fits .read-so))
+    nonempty : l .seal ≡ true → 0 < length s
+    nonempty = filled l ok s vs (was l s vs (fits .read-so))
 
     long : length t ≡ length s
     long = ap length put-so ∙ length-put s p w v
@@ -128,10 +128,10 @@ module _ (l : Layout) (ok : Sound l) (numbers : Judged (l .fmt)) (s : List ℕ) 
             let z = eqb-true d 0 e in
             let (us, o) = accepted-by (read (l .fmt) [] 0 (bitsOf (body (l .seal) t))) again (λ q. read-zero (l .fmt) [] 0 (bitsOf (body (l .seal) t)) q numbers) z in
             let a = accepts s (answer-so ∙ ap (also (λ us. sealed (l .seal) (body (l .seal) t))) o) in
-            let k : reclosed (l .seal) u ≡ sealed (l .seal) (body (l .seal) t) = ap (reclosed (l .seal)) (settled .1 ∙ rw e refl) ∙ reclosed-body (l .seal) t (λ y. omega (arith, held y, long)) in
+            let k : reclosed (l .seal) u ≡ sealed (l .seal) (body (l .seal) t) = ap (reclosed (l .seal)) (settled .1 ∙ rw e refl) ∙ reclosed-body (l .seal) t (λ y. omega (arith, nonempty y, long)) in
             (settled .0 ∙ z ∙ a .0, closes ∙ k ∙ a .1)
         end false e =
             let (q, o) = refused-by (read (l .fmt) [] 0 (bitsOf (body (l .seal) t))) again (eqb-false d 0 e) in
             let a = refuses {s = s} (answer-so ∙ ap (also (λ us. sealed (l .seal) (body (l .seal) t))) o) in
-            let k : reclosed (l .seal) u ≡ s = ap (reclosed (l .seal)) (settled .1 ∙ rw e back) ∙ reclosed-body (l .seal) s held ∙ whole-again l ok s vs (was l s vs (fits .read-so)) in
+            let k : reclosed (l .seal) u ≡ s = ap (reclosed (l .seal)) (settled .1 ∙ rw e back) ∙ reclosed-body (l .seal) s nonempty ∙ whole-again l ok s vs (was l s vs (fits .read-so)) in
             (settled .0 ∙ a .0, closes ∙ k ∙ a .1)

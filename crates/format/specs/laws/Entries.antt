@@ -4,7 +4,7 @@ use mathlib.Core.List.{List, [], _∷_}
 use Prim.Native.Nat.{ℕ, zero, suc}
 use lib.ListN.{length, getD}
 use Rattle.format.specs.Fmt.{Fmt, end, field, choice, bytes}
-use Rattle.format.specs.laws.Held.{Held}
+use Rattle.format.specs.laws.Legal.{Legal}
 
 -- f has n fields, whatever decides it
 abbrev pub Long : Fmt → ℕ → Type 0
@@ -18,19 +18,19 @@ Long (bytes f) zero = ⊥
 Long (bytes f) (suc n) = (v : ℕ) → Long (f v) n
 
 -- accepted values are as many as the fields
-held-long : (f : Fmt) (h : List ℕ) (n : ℕ) (vs : List ℕ) → Long f n → Held f h vs → length vs ≡ n
-held-long end h zero [] z e = refl
-held-long end h (suc n) vs z e = absurd z
-held-long end h zero (v ∷ vs) z e = absurd e
-held-long (field w j m f) h zero vs z e = absurd z
-held-long (field w j m f) h (suc n) [] z e = absurd e
-held-long (field w j m f) h (suc n) (v ∷ vs) z e = ap suc (held-long f (v ∷ h) n vs z (e .2))
-held-long (choice w j f) h zero vs z e = absurd z
-held-long (choice w j f) h (suc n) [] z e = absurd e
-held-long (choice w j f) h (suc n) (v ∷ vs) z e = ap suc (held-long (f v) (v ∷ h) n vs (z v) (e .2))
-held-long (bytes f) h zero vs z e = absurd z
-held-long (bytes f) h (suc n) [] z e = absurd e
-held-long (bytes f) h (suc n) (v ∷ vs) z e = ap suc (held-long (f v) (v ∷ h) n vs (z v) e)
+legal-long : (f : Fmt) (h : List ℕ) (n : ℕ) (vs : List ℕ) → Long f n → Legal f h vs → length vs ≡ n
+legal-long end h zero [] z e = refl
+legal-long end h (suc n) vs z e = absurd z
+legal-long end h zero (v ∷ vs) z e = absurd e
+legal-long (field w j m f) h zero vs z e = absurd z
+legal-long (field w j m f) h (suc n) [] z e = absurd e
+legal-long (field w j m f) h (suc n) (v ∷ vs) z e = ap suc (legal-long f (v ∷ h) n vs z (e .2))
+legal-long (choice w j f) h zero vs z e = absurd z
+legal-long (choice w j f) h (suc n) [] z e = absurd e
+legal-long (choice w j f) h (suc n) (v ∷ vs) z e = ap suc (legal-long (f v) (v ∷ h) n vs (z v) (e .2))
+legal-long (bytes f) h zero vs z e = absurd z
+legal-long (bytes f) h (suc n) [] z e = absurd e
+legal-long (bytes f) h (suc n) (v ∷ vs) z e = ap suc (legal-long (f v) (v ∷ h) n vs (z v) e)
 
 -- the n entries from number k on
 unfoldable pub entries : ℕ → ℕ → List ℕ → List ℕ
@@ -48,8 +48,8 @@ all-entries [] = refl
 all-entries (v ∷ vs) = ap (v ∷_) (shifted v 0 (length vs) vs ∙ all-entries vs)
 
 -- Accepted values are the list of their entries, behind any others.
-pub entries-behind : (f : Fmt) (h : List ℕ) (n : ℕ) (vs : List ℕ) → Long f n → Held f h vs → entries 0 n vs ≡ vs
-entries-behind f h n vs z e = ap (λ n. entries 0 n vs) (sym (held-long f h n vs z e)) ∙ all-entries vs
+pub entries-behind : (f : Fmt) (h : List ℕ) (n : ℕ) (vs : List ℕ) → Long f n → Legal f h vs → entries 0 n vs ≡ vs
+entries-behind f h n vs z e = ap (λ n. entries 0 n vs) (sym (legal-long f h n vs z e)) ∙ all-entries vs
 
-pub held-entries : (f : Fmt) (n : ℕ) (vs : List ℕ) → Long f n → Held f [] vs → entries 0 n vs ≡ vs
-held-entries f n vs z e = entries-behind f [] n vs z e
+pub legal-entries : (f : Fmt) (n : ℕ) (vs : List ℕ) → Long f n → Legal f [] vs → entries 0 n vs ≡ vs
+legal-entries f n vs z e = entries-behind f [] n vs z e

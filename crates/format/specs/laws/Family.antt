@@ -13,7 +13,7 @@ use Rattle.bits.specs.laws.Fields.{length-put, bits-put}
 use Rattle.format.specs.Fmt.{Out, accepted, refused, orBad, check, also, spot, none, found}
 use Rattle.format.specs.Message.{Layout, Sound, body, codeOf, leaves, into, readMessage, writeMessage, correctMessage}
 use Rattle.format.specs.Promises.{readRecord, Writes, Corrects}
-use Rattle.format.specs.laws.Held.{Held, held}
+use Rattle.format.specs.laws.Legal.{Legal, legal}
 use Rattle.format.specs.laws.Round.{clash, also-inv, read-write}
 use Rattle.format.specs.laws.Whole.{was, body-sealed, made, write-read-message, read-write-message, correct-wide, Corrected, corrected, same-size}
 use Rattle.format.specs.laws.Zero.{Judged, Counted, no-zero-message, read-zero-message, correct-zero}
@@ -23,9 +23,9 @@ pub record Family (l : Layout) (R : Type 0) (Lent : R → Type 0) (valuesOf : R 
   pub sound : Sound l
   pub judged : Judged (l .fmt)
   pub counted : (r : R) → Lent r → Counted (l .fmt) 0 (valuesOf r)
-  pub same-record : (r : R) → Lent r → Held (l .fmt) [] (valuesOf r) → recordOf (valuesOf r) ≡ r
-  pub same-values : (vs : List ℕ) → Held (l .fmt) [] vs → valuesOf (recordOf vs) ≡ vs
-  pub can-lend : (vs : List ℕ) → Held (l .fmt) [] vs → Lent (recordOf vs)
+  pub same-record : (r : R) → Lent r → Legal (l .fmt) [] (valuesOf r) → recordOf (valuesOf r) ≡ r
+  pub same-values : (vs : List ℕ) → Legal (l .fmt) [] vs → valuesOf (recordOf vs) ≡ vs
+  pub can-lend : (vs : List ℕ) → Legal (l .fmt) [] vs → Lent (recordOf vs)
   pub changes : (r : R) (i v p w : ℕ) → Lent r → spot (l .fmt) [] (valuesOf r) i ≡ found p w → v < 2 ^ w
       → (valuesOf (changed i v r) ≡ set (valuesOf r) i v) × Lent (changed i v r)
 
@@ -68,7 +68,7 @@ roomy u m h = rw (le-leb (length m) (length u) h) refl
 module _ {l : Layout} {R : Type 0} {Lent : R → Type 0} {valuesOf : R → List ℕ} {recordOf : List ℕ → R} {changed : ℕ → ℕ → R → R} (F : Family l R Lent valuesOf recordOf changed) where
   -- The values that reading accepts are those of their record.
   pub record-values : (s vs : List ℕ) → readMessage l s ≡ accepted vs → valuesOf (recordOf vs) ≡ vs
-  record-values s vs e = F .same-values vs (held (l .fmt) [] 0 vs _ (read-write (l .fmt) [] 0 vs _ (was l s vs e .walked)))
+  record-values s vs e = F .same-values vs (legal (l .fmt) [] 0 vs _ (read-write (l .fmt) [] 0 vs _ (was l s vs e .walked)))
 
   -- ---- no number 0 but for success
 
@@ -95,7 +95,7 @@ module _ {l : Layout} {R : Type 0} {Lent : R → Type 0} {valuesOf : R → List 
   pub written-record : (r : R) (m : List ℕ) → Lent r → writeMessage l (valuesOf r) ≡ accepted m → readRecord l recordOf m ≡ accepted r
   written-record r m k e =
       ap (λ o. also recordOf o) (write-read-message l (F .sound) m (valuesOf r) e)
-      ∙ ap accepted (F .same-record r k (held (l .fmt) [] 0 (valuesOf r) _ (made l m (valuesOf r) e .wrote)))
+      ∙ ap accepted (F .same-record r k (legal (l .fmt) [] 0 (valuesOf r) _ (made l m (valuesOf r) e .wrote)))
 
   pub written-read : (s : List ℕ) (r : R) (t : List ℕ) → Lent r → Writes l s 0 t (valuesOf r) → Wrote r s t
   written-read s r t k (z, x) = go (writeMessage l (valuesOf r)) refl z x
@@ -123,7 +123,7 @@ module _ {l : Layout} {R : Type 0} {Lent : R → Type 0} {valuesOf : R → List 
     read-values =
         let (vs, e, k) = also-inv recordOf (readMessage l s) good in
         let m = read-write-message l (F .sound) s vs fine e in
-        let h = held (l .fmt) [] 0 vs _ (made l s vs m .wrote) in
+        let h = legal (l .fmt) [] 0 vs _ (made l s vs m .wrote) in
         (e ∙ ap accepted (sym (ap valuesOf (sym k) ∙ F .same-values vs h)), subst Lent k (F .can-lend vs h))
 
     pub read-writes : writeMessage l (valuesOf r) ≡ accepted s
@@ -183,9 +183,9 @@ module _ {l : Layout} {R : Type 0} {Lent : R → Type 0} {valuesOf : R → List 
 
   -- Nothing outside the field and the seal differs: the body's bits are those before, with the field's made v, and the size is the same.
   pub correction-bits : (s : List ℕ) (i v : ℕ) (t : List ℕ) (e : Corrects l s i v 0 t) → let c = accepted-correction s i v t e in
-      (bitsOf (body (l .seal) t) ≡ splice (c .place) (c .width) v (bitsOf (body (l .seal) s))) × (length (body (l .seal) t) ≡ length (body (l .seal) s))
+      (bitsOf (body (l .seal) t) ≡ splice (c .offset) (c .width) v (bitsOf (body (l .seal) s))) × (length (body (l .seal) t) ≡ length (body (l .seal) s))
   correction-bits s i v t e =
       let c = accepted-correction s i v t e in
       let b = body (l .seal) s in
-      let is : body (l .seal) t ≡ putAt b (c .place) (c .width) v = ap (body (l .seal)) (c .changed) ∙ body-sealed (l .seal) (putAt b (c .place) (c .width) v) in
-      (ap bitsOf is ∙ bits-put b (c .place) (c .width) (c .within) v, ap length is ∙ length-put b (c .place) (c .width) v)
+      let is : body (l .seal) t ≡ putAt b (c .offset) (c .width) v = ap (body (l .seal)) (c .changed) ∙ body-sealed (l .seal) (putAt b (c .offset) (c .width) v) in
+      (ap bitsOf is ∙ bits-put b (c .offset) (c .width) (c .within) v, ap length is ∙ length-put b (c .offset) (c .width) v)

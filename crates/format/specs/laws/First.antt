@@ -13,7 +13,7 @@ use Rattle.format.specs.Fmt.{Out, accepted, Judge, Fmt, field, orBad, re
 use Rattle.format.specs.Message.{Layout, led, between}
 use Rattle.format.specs.Words.{_‥_, only}
 use Rattle.format.specs.laws.Extent.{Plain, span-laid}
-use Rattle.format.specs.laws.Held.{Held, held, exactly}
+use Rattle.format.specs.laws.Legal.{Legal, legal, exactly}
 use Rattle.format.specs.laws.Round.{checked, passed, also-inv, read-write}
 
 -- A field in front is there, and what is behind it is read.
@@ -37,7 +37,7 @@ unfolding read fieldAt
 opens w c n m f s vs e =
     let o = opened w (only w (suc c) (n ‥ n)) [] 0 (bitsOf s) _ vs e in
     let g = field w (only w (suc c) (n ‥ n)) m f in
-    let h = subst (Held g []) (o .front) (held g [] 0 vs (bitsOf s) (read-write g [] 0 vs (bitsOf s) e)) in
+    let h = subst (Legal g []) (o .front) (legal g [] 0 vs (bitsOf s) (read-write g [] 0 vs (bitsOf s) e)) in
     exactly w c n [] (valueOf (take w (bitsOf s))) (h .0) (h .1)
 
 -- an accepted message of a flat layout has its bytes

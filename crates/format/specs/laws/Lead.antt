@@ -10,7 +10,7 @@ use lib.ListN.{length, take, getD}
 use Rattle.bits.specs.Xor.{xorOf}
 use Rattle.bits.specs.Bits.{bitsOf}
 use Rattle.format.specs.Fmt.{Out, bad, Fmt, refused, orBad, check, read}
-use Rattle.format.specs.laws.Held.{ranged}
+use Rattle.format.specs.laws.Legal.{ranged}
 use Rattle.format.specs.Message.{Layout, fault, between, fieldsOf, body, sealFault, firstOf, first, codeOf, readMessage}
 
 -- Where the first tests refused, that is the answer.

@@ -6,7 +6,7 @@ use native.Mathlib.Omega.{arith}
 use lib.ListN.{length, set}
 use Rattle.format.specs.Fmt.{Fmt, end, field, choice, bytes, found, spot}
 use Rattle.format.specs.laws.Correct.{later-inv, none-clash}
-use Rattle.format.specs.laws.Held.{Held}
+use Rattle.format.specs.laws.Legal.{Legal}
 use Rattle.format.specs.laws.Zero.{Counted}
 
 -- past the values us of f, none of them a count of bytes, stands g
@@ -39,12 +39,12 @@ past-then (choice w j f) g k (v ∷ us) vs e x = past-then (f v) g k us vs e x
 past-then (bytes f) g k (v ∷ us) vs e x = absurd e
 
 -- accepted values behind us are those of g
-pub past-held : (f g : Fmt) (h us vs : List ℕ) → Past f us g → Held f h (us ++ vs) → (h′ : List ℕ) × Held g h′ vs
-past-held f g h [] vs e x = (h, subst (λ f. Held f h vs) e x)
-past-held end g h (v ∷ us) vs e x = absurd e
-past-held (field w j m f) g h (v ∷ us) vs e x = past-held f g (v ∷ h) us vs e (x .2)
-past-held (choice w j f) g h (v ∷ us) vs e x = past-held (f v) g (v ∷ h) us vs e (x .2)
-past-held (bytes f) g h (v ∷ us) vs e x = absurd e
+pub past-legal : (f g : Fmt) (h us vs : List ℕ) → Past f us g → Legal f h (us ++ vs) → (h′ : List ℕ) × Legal g h′ vs
+past-legal f g h [] vs e x = (h, subst (λ f. Legal f h vs) e x)
+past-legal end g h (v ∷ us) vs e x = absurd e
+past-legal (field w j m f) g h (v ∷ us) vs e x = past-legal f g (v ∷ h) us vs e (x .2)
+past-legal (choice w j f) g h (v ∷ us) vs e x = past-legal (f v) g (v ∷ h) us vs e (x .2)
+past-legal (bytes f) g h (v ∷ us) vs e x = absurd e
 
 pub past-filled : (f g : Fmt) (us vs : List ℕ) → Past f us g → Filled g vs → Filled f (us ++ vs)
 past-filled f g [] vs e x = subst (λ f. Filled f vs) (sym e) x
@@ -81,15 +81,15 @@ past-found (bytes f) g h (v ∷ us) vs i e l s = absurd e
 
 -- ---- as many values as fields
 
-pub held-filled : (f : Fmt) (h vs : List ℕ) → Held f h vs → Filled f vs
-held-filled end h [] x = tt
-held-filled end h (v ∷ vs) x = absurd x
-held-filled (field w j m f) h [] x = absurd x
-held-filled (field w j m f) h (v ∷ vs) x = held-filled f (v ∷ h) vs (x .2)
-held-filled (choice w j f) h [] x = absurd x
-held-filled (choice w j f) h (v ∷ vs) x = held-filled (f v) (v ∷ h) vs (x .2)
-held-filled (bytes f) h [] x = absurd x
-held-filled (bytes f) h (v ∷ vs) x = held-filled (f v) (v ∷ h) vs x
+pub legal-filled : (f : Fmt) (h vs : List ℕ) → Legal f h vs → Filled f vs
+legal-filled end h [] x = tt
+legal-filled end h (v ∷ vs) x = absurd x
+legal-filled (field w j m f) h [] x = absurd x
+legal-filled (field w j m f) h (v ∷ vs) x = legal-filled f (v ∷ h) vs (x .2)
+legal-filled (choice w j f) h [] x = absurd x
+legal-filled (choice w j f) h (v ∷ vs) x = legal-filled (f v) (v ∷ h) vs (x .2)
+legal-filled (bytes f) h [] x = absurd x
+legal-filled (bytes f) h (v ∷ vs) x = legal-filled (f v) (v ∷ h) vs x
 
 -- a correction changes no value that decides, and so not how many there are
 pub filled-set : (f : Fmt) (h vs : List ℕ) (i v : ℕ) {p w : ℕ} → Filled f vs → spot f h vs i ≡ found p w → Filled f (set vs i v)

@@ -79,7 +79,7 @@ spelled-entry spell of spotOf i v {p} {w} e l k q u s back old = go (eqb i k) re
         back (rw n at l)
     go false z = refl
 
--- ---- a table of places and widths, in which code looks a field up
+-- ---- a table of offsets and widths, in which code looks a field up
 
 -- the spots of the table's rows
 unfoldable pub rows : List ℕ → List ℕ → List Spot

@@ -161,15 +161,15 @@ module _ (l : Layout) (ok : Sound l) where
   -- it is read as them, and its body differs from the message's in that field's bits alone.
   pub record Corrected (s : List ℕ) (i v : ℕ) (t : List ℕ) : Type 0 where
     pub values : List ℕ
-    pub place : ℕ
+    pub offset : ℕ
     pub width : ℕ
     pub before : readMessage l s ≡ accepted values
-    pub there : spot (l .fmt) [] values i ≡ found place width
+    pub there : spot (l .fmt) [] values i ≡ found offset width
     pub wrote : writeMessage l (set values i v) ≡ accepted t
     pub reads : readMessage l t ≡ accepted (set values i v)
-    pub changed : t ≡ sealed (l .seal) (putAt (body (l .seal) s) place width v)
+    pub changed : t ≡ sealed (l .seal) (putAt (body (l .seal) s) offset width v)
     pub narrow : v < 2 ^ width
-    pub within : place + width ≤ length (body (l .seal) s) * 8
+    pub within : offset + width ≤ length (body (l .seal) s) * 8
 
   module _ (s vs : List ℕ) (i v p w : ℕ) (e : readMessage l s ≡ accepted vs) (x : spot (l .fmt) [] vs i ≡ found p w) where
     pub spot-fits : p + w ≤ length (body (l .seal) s) * 8
@@ -218,7 +218,7 @@ module _ (l : Layout) (ok : Sound l) where
           let (us, u, c) = also-inv (λ us. sealed (l .seal) (putAt (body (l .seal) s) p w v)) (read (l .fmt) [] 0 (bitsOf (putAt (body (l .seal) s) p w v))) (sym (correct-narrow s vs i v p w r x n) ∙ e) in
           record {
             values = vs;
-            place = p;
+            offset = p;
             width = w;
             before = r;
             there = x;
@@ -234,13 +234,13 @@ module _ (l : Layout) (ok : Sound l) where
   same-size s i v t e =
       let c = corrected s i v t e in
       ap length (c .changed)
-      ∙ length-sealed (l .seal) (putAt (body (l .seal) s) (c .place) (c .width) v) (body (l .seal) s) (length-put (body (l .seal) s) (c .place) (c .width) v)
+      ∙ length-sealed (l .seal) (putAt (body (l .seal) s) (c .offset) (c .width) v) (body (l .seal) s) (length-put (body (l .seal) s) (c .offset) (c .width) v)
       ∙ ap length (whole-again s (c .values) (was l s (c .values) (c .before)))
 
   pub corrected-bits : (s : List ℕ) (i v : ℕ) (t : List ℕ) (e : correctMessage l s i v ≡ accepted t) → let c = corrected s i v t e in
-      bitsOf (body (l .seal) t) ≡ splice (c .place) (c .width) v (bitsOf (body (l .seal) s))
+      bitsOf (body (l .seal) t) ≡ splice (c .offset) (c .width) v (bitsOf (body (l .seal) s))
   corrected-bits s i v t e =
       let c = corrected s i v t e in
       ap (λ x. bitsOf (body (l .seal) x)) (c .changed)
-      ∙ ap bitsOf (body-sealed (l .seal) (putAt (body (l .seal) s) (c .place) (c .width) v))
-      ∙ bits-put (body (l .seal) s) (c .place) (c .width) (c .within) v
+      ∙ ap bitsOf (body-sealed (l .seal) (putAt (body (l .seal) s) (c .offset) (c .width) v))
+      ∙ bits-put (body (l .seal) s) (c .offset) (c .width) (c .within) v

@@ -14,7 +14,7 @@ use Rattle.bits.specs.laws.Fields.{field-front}
 use Rattle.format.specs.Fmt.{accepted, Fault, good, bad, Fmt, read}
 use Rattle.format.specs.Message.{Sound, body, sealFault, firstOf}
 use Rattle.format.specs.laws.First.{opened}
-use Rattle.format.specs.laws.Held.{Held, held, exactly}
+use Rattle.format.specs.laws.Legal.{Legal, legal, exactly}
 use Rattle.format.specs.laws.Round.{read-write}
 use Rattle.frame.specs.Frame.{frame, frames, leads}
 
@@ -36,7 +36,7 @@ module _ (letters lo hi : ℕ) (f : Fmt) where
       let o3 = opened 16 _ _ 40 (drop 32 (drop 8 b)) _ (o2 .rest) (o2 .after) in
       let o4 = opened 24 _ _ 56 (drop 16 (drop 32 (drop 8 b))) _ (o3 .rest) (o3 .after) in
       let all = o1 .front ∙ ap (valueOf (take 8 b) ∷_) (o2 .front ∙ ap (valueOf (take 32 (drop 8 b)) ∷_) (o3 .front ∙ ap (valueOf (take 16 (drop 32 (drop 8 b))) ∷_) (o4 .front))) in
-      let g = subst (Held (frame letters lo hi f) []) all (held (frame letters lo hi f) [] 0 vs b (read-write (frame letters lo hi f) [] 0 vs b e)) in
+      let g = subst (Legal (frame letters lo hi f) []) all (legal (frame letters lo hi f) [] 0 vs b (read-write (frame letters lo hi f) [] 0 vs b e)) in
       let dollar = exactly 8 1 0x24 [] (valueOf (take 8 b)) (g .0) (g .1) in
       let named = exactly 32 1 letters _ (valueOf (take 32 (drop 8 b))) (g .2 .0) (g .2 .1) in
       let length = ap (λ x. valueOf (take 16 x)) (drop-drop 32 8 b) in

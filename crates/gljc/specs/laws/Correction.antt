@@ -11,14 +11,14 @@ use Rattle.gljc.specs.Changed.{spotOf, changed}
 use Rattle.gljc.specs.Gljc.{letters, gljc, gljcs, valuesOf}
 use Rattle.gljc.specs.declared.reading.Gljc.{Gljc}
 
-abbrev pub places : List ℕ
-places = 0 ∷ 8 ∷ 40 ∷ 56 ∷ 80 ∷ []
+abbrev pub offsets : List ℕ
+offsets = 0 ∷ 8 ∷ 40 ∷ 56 ∷ 80 ∷ []
 
 abbrev pub widths : List ℕ
 widths = 0 ∷ 0 ∷ 0 ∷ 24 ∷ 8 ∷ []
 
 -- where each field stands is the same in every frame, and so the table that the code looks in
-pub along : (r : Gljc) → spotsAlong (gljcs .fmt) [] (valuesOf r) 0 ≡ rows places widths
+pub along : (r : Gljc) → spotsAlong (gljcs .fmt) [] (valuesOf r) 0 ≡ rows offsets widths
 unfolding gljcs gljc valuesOf spotsAlong rows
 along r = refl
 

@@ -9,10 +9,10 @@ use Rattle.listing.proofs.list_log.Statement.{statement}
 use Rattle.listing.proofs.list_log.Tie as tie
 
 abbrev Inv-loop : tie.InvT-loop
-Inv-loop input₀ text₀ number₀ held₀ turns₀ input text number held turns = (length input ≡ length input₀) × (length text ≡ length text₀) × (held ≤ length input)
+Inv-loop input₀ text₀ number₀ waiting₀ turns₀ input text number waiting turns = (length input ≡ length input₀) × (length text ≡ length text₀) × (waiting ≤ length input)
 
 abbrev μ-loop : tie.MeasureT-loop
-μ-loop input₀ text₀ number₀ held₀ turns₀ input text number held turns = turns
+μ-loop input₀ text₀ number₀ waiting₀ turns₀ input text number waiting turns = turns
 
 loop-holds : tie.Need-loop-holds Inv-loop μ-loop
 loop-holds c = search needs
@@ -44,14 +44,14 @@ same-length-4 c = search needs
 returns-2 : tie.Need-returns-2 Inv-loop μ-loop
 returns-2 c = search needs
 
-slice-reshare-prefix-list-held : tie.Need-slice-reshare-prefix-list-held Inv-loop μ-loop
-slice-reshare-prefix-list-held c = search needs
+slice-reshare-prefix-list-waiting : tie.Need-slice-reshare-prefix-list-waiting Inv-loop μ-loop
+slice-reshare-prefix-list-waiting c = search needs
 
-slice-aggregate-list-held : tie.Need-slice-aggregate-list-held Inv-loop μ-loop
-slice-aggregate-list-held c = simp length-take (omega arith)
+slice-aggregate-list-waiting : tie.Need-slice-aggregate-list-waiting Inv-loop μ-loop
+slice-aggregate-list-waiting c = simp length-take (omega arith)
 
-list-held-requires : tie.Need-list-held-requires Inv-loop μ-loop
-list-held-requires c κs = tt
+list-window-requires : tie.Need-list-window-requires Inv-loop μ-loop
+list-window-requires c κs = tt
 
 same-length-5 : tie.Need-same-length-5 Inv-loop μ-loop
 same-length-5 c = search needs
@@ -63,10 +63,10 @@ returns-3 : tie.Need-returns-3 Inv-loop μ-loop
 returns-3 c = search needs
 
 sub-is-bad : tie.Need-sub-is-bad Inv-loop μ-loop
-sub-is-bad c = omega (arith, simp length-take at (c .before .before .before .before .list-held .ensures))
+sub-is-bad c = omega (arith, simp length-take at (c .before .before .before .before .list-waiting .ensures))
 
 part-is-bad-start : tie.Need-part-is-bad-start Inv-loop μ-loop
-part-is-bad-start c = omega (arith, simp length-take at (c .before .before .before .before .before .list-held .ensures))
+part-is-bad-start c = omega (arith, simp length-take at (c .before .before .before .before .before .list-waiting .ensures))
 
 part-is-bad-end : tie.Need-part-is-bad-end Inv-loop μ-loop
 part-is-bad-end c = search needs
@@ -75,7 +75,7 @@ is-bad-requires : tie.Need-is-bad-requires Inv-loop μ-loop
 is-bad-requires c κs = tt
 
 sub-left-in-all : tie.Need-sub-left-in-all Inv-loop μ-loop
-sub-left-in-all c = omega (arith, simp length-take at (c .before .before .before .before .before .before .before .before .before .list-held .ensures))
+sub-left-in-all c = omega (arith, simp length-take at (c .before .before .before .before .before .before .before .before .before .list-waiting .ensures))
 
 left-in-all-requires : tie.Need-left-in-all-requires Inv-loop μ-loop
 left-in-all-requires c κs = tt
@@ -105,7 +105,7 @@ loop-again c =
     let f = w .before .before .before .before .before .before .before .before in
     let l = f .before .before .before in (
       k .keep .kept .0 ∙ f .fill .kept .0 ∙ l .loop .inv .0,
-      w .list-held .kept .1 .1 .0 ∙ l .loop .inv .1,
+      w .list-waiting .kept .1 .1 .0 ∙ l .loop .inv .1,
       omega (arith, k .keep .kept .0, made-within (k .keep .ensures) (k .keep .kept .0)),
     )
 
@@ -134,9 +134,9 @@ list-log-spec =
     same-length-3
     same-length-4
     returns-2
-    slice-reshare-prefix-list-held
-    slice-aggregate-list-held
-    list-held-requires
+    slice-reshare-prefix-list-waiting
+    slice-aggregate-list-waiting
+    list-window-requires
     same-length-5
     same-length-6
     returns-3

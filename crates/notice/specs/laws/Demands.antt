@@ -14,7 +14,7 @@ use Rattle.format.specs.Fmt.{Out, accepted, refused, check, orBad, none, found,
 use Rattle.format.specs.Message.{codeOf, leaves, readMessage, ahead}
 use Rattle.format.specs.Promises.{answered, readRecord, Writes, Corrects}
 use Rattle.format.specs.laws.Family.{Family, written-read, read-written, record-values, accepted-correction, correction-none, corrected-as-written}
-use Rattle.format.specs.laws.Held.{Held, held}
+use Rattle.format.specs.laws.Legal.{Legal, legal}
 use Rattle.format.specs.laws.Round.{also-inv, read-write}
 use Rattle.format.specs.laws.Runs.{run-value}
 use Rattle.format.specs.laws.Whole.{was}
@@ -67,7 +67,7 @@ text-values : (n v : ℕ) → v < 2 ^ (n * 8) → texted (textOf n v) ≡ n ∷ 
 unfolding textOf
 text-values n v l = ap₂ (λ a b. a ∷ b ∷ []) (length-bytes n (digits (n * 8) v)) (run-value n v l)
 
-same-values : (english : Bool) (vs : List ℕ) → Held (notice english) [] vs → valuesOf (recordOf vs) ≡ vs
+same-values : (english : Bool) (vs : List ℕ) → Legal (notice english) [] vs → valuesOf (recordOf vs) ≡ vs
 unfolding valuesOf
 same-values english vs h =
     let l = listed english vs h in
@@ -75,7 +75,7 @@ same-values english vs h =
     ∙ ap₂ (λ us ws. headed (headOf vs) (us ++ ws)) (told-exact (headOf vs .count) (l .row) (l .exact)) (text-values (l .size) (l .number) (l .narrow))
     ∙ sym (l .is)
 
-can-lend : (english : Bool) (vs : List ℕ) → Held (notice english) [] vs → Lent (recordOf vs)
+can-lend : (english : Bool) (vs : List ℕ) → Legal (notice english) [] vs → Lent (recordOf vs)
 unfolding textOf
 can-lend english vs h = let l = listed english vs h in subst⁻¹ Lent (record-is english vs l) (l .exact, bytes-below (l .size) _)
 
@@ -157,7 +157,7 @@ module _ (english : Bool) (s row text : List ℕ) (a : Told) (row′ text′ : L
   count-stays v = corrected-none 7 v (head-spotted english (wholeOf a row′ text′) 7 (lit< tt))
 
 -- A correction changes the field's bits alone.
-pub correction-bits : (english : Bool) (s : List ℕ) (i v : ℕ) (t : List ℕ) (e : Corrects (notices english) s i v 0 t) → let c = accepted-correction (family english) s i v t e in t ≡ putAt s (c .place) (c .width) v
+pub correction-bits : (english : Bool) (s : List ℕ) (i v : ℕ) (t : List ℕ) (e : Corrects (notices english) s i v 0 t) → let c = accepted-correction (family english) s i v t e in t ≡ putAt s (c .offset) (c .width) v
 unfolding notices
 correction-bits english s i v t e = accepted-correction (family english) s i v t e .changed
 
@@ -167,11 +167,11 @@ unfolding notices
 expiry-bits english s v t e =
     let c = accepted-correction (family english) s 6 v t e in
     let same = record-values (family english) s (c .values) (c .before) in
-    let there : found 38 21 ≡ found (c .place) (c .width) =
+    let there : found 38 21 ≡ found (c .offset) (c .width) =
     sym (head-spotted english (recordOf (c .values)) 6 (lit< tt)) ∙ ap (λ vs. spot (notice english) [] vs 6) same ∙ c .there in
-    let place : c .place ≡ 38 = cc in
+    let offset : c .offset ≡ 38 = cc in
     let width : c .width ≡ 21 = cc in
-    (c .changed ∙ ap₂ (λ p w. putAt s p w v) place width, omega (arith, c .within, place, width))
+    (c .changed ∙ ap₂ (λ p w. putAt s p w v) offset width, omega (arith, c .within, offset, width))
 
 -- An expiry that was corrected leaves the areas' count, four bits at 59, and every other bit: what stands before its own 21 bits, and what stands behind them.
 pub expiry-leaves-count : (english : Bool) (s : List ℕ) (v : ℕ) (t : List ℕ) → Corrects (notices english) s 6 v 0 t
@@ -191,7 +191,7 @@ pub accepted-text : (english : Bool) (s : List ℕ) (x : Whole) → readRecord (
 unfolding notices
 accepted-text english s x e =
     let (vs, m, k) = also-inv recordOf (readMessage (notices english) s) e in
-    let h = held (notice english) [] 0 vs _ (read-write (notice english) [] 0 vs _ (was (notices english) s vs m .walked)) in
+    let h = legal (notice english) [] 0 vs _ (read-write (notice english) [] 0 vs _ (was (notices english) s vs m .walked)) in
     let l = listed english vs h in
     ap (λ (x : Whole). inLanguage english (x .1 .1)) (sym k ∙ record-is english vs l) ∙ l .spoken
 

@@ -65,10 +65,10 @@ same-judged {o} w c r small x = record {
     zero-is false e z = z
 
     go : (t : Bool) → eqb k 0 ≡ t
-        → cond (eqb k 0) (accepted (x .laid)) (refused k (cond (eqb (r .code) 0) (r .at) (r .place)))
-        ≡ cond (eqb (cond (eqb k 0) 0 k) 0) (accepted (x .laid)) (refused (cond (eqb k 0) 0 k) (cond (eqb k 0) ((r .at + 0) % 2 ^ 64) (cond (eqb (r .code) 0) ((r .at + 0) % 2 ^ 64) (r .place))))
+        → cond (eqb k 0) (accepted (x .laid)) (refused k (cond (eqb (r .code) 0) (r .at) (r .offset)))
+        ≡ cond (eqb (cond (eqb k 0) 0 k) 0) (accepted (x .laid)) (refused (cond (eqb k 0) 0 k) (cond (eqb k 0) ((r .at + 0) % 2 ^ 64) (cond (eqb (r .code) 0) ((r .at + 0) % 2 ^ 64) (r .offset))))
     go true e = rw e refl
-    go false e = rw (e, e) (ap (λ a. refused k (cond (eqb (r .code) 0) a (r .place))) (sym here))
+    go false e = rw (e, e) (ap (λ a. refused k (cond (eqb (r .code) 0) a (r .offset))) (sym here))
 
 pub text-judged : {o : Out (List Bool)} (english : Bool) (t : List ℕ) (c : ℕ) {r q : Walk} → Bytes t → r .at < 2 ^ 64 → c ≡ cond (inLanguage english t) 0 4 → q ≡ onward 0 false 0 c 0 r
     → Going o (text english end) (texted t) r → Judged o (beyond (length t * 8) 0 q)

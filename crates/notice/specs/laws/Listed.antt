@@ -9,8 +9,8 @@ use Rattle.bits.specs.Bits.{digits, bytesOf}
 use Rattle.format.specs.Fmt.{good, end}
 use Rattle.format.specs.Words.{unless}
 use Rattle.format.specs.laws.Extent.{extent-lay}
-use Rattle.format.specs.laws.Held.{Held}
-use Rattle.format.specs.laws.Past.{Filled, past-held, past-counted, held-filled}
+use Rattle.format.specs.laws.Legal.{Legal}
+use Rattle.format.specs.laws.Past.{Filled, past-legal, past-counted, legal-filled}
 use Rattle.format.specs.laws.Zero.{Counted}
 use Rattle.notice_fields.specs.Areas.{areas}
 use Rattle.notice_fields.specs.Row.{areasLong, areasTold}
@@ -64,19 +64,19 @@ pub record Listed (english : Bool) (vs : List ℕ) : Type 0 where
   pub narrow : number < 2 ^ (size * 8)
   pub spoken : inLanguage english (textOf size number) ≡ true
 
-pub listed : (english : Bool) (vs : List ℕ) → Held (notice english) [] vs → Listed english vs
+pub listed : (english : Bool) (vs : List ℕ) → Legal (notice english) [] vs → Listed english vs
 unfolding notice textOf
 listed english vs h =
     let r = headOf vs in
     let n = r .count in
     let us = drop 8 vs in
-    let head = eight english vs (held-filled (notice english) [] vs h) in
-    let g = subst (Held (notice english) []) head h .2 .2 .2 .2 .2 .2 .2 .2 in
-    let (enough, y) = areas-filled n us (text english end) (held-filled (rest english n) _ us g) in
+    let head = eight english vs (legal-filled (notice english) [] vs h) in
+    let g = subst (Legal (notice english) []) head h .2 .2 .2 .2 .2 .2 .2 .2 in
+    let (enough, y) = areas-filled n us (text english end) (legal-filled (rest english n) _ us g) in
     let (size, number, last) = two english (drop (areasLong n us) us) y in
     let row = areasTold n us in
     let whole : us ≡ row ++ (size ∷ number ∷ []) = sym (take-append-drop (areasLong n us) us) ∙ (λ i. sym (first-take (areasLong n us) us enough) i ++ last i) in
-    let (h′, t) = past-held (rest english n) (text english end) _ row (size ∷ number ∷ []) (areas-past n us (text english end)) (subst (Held (rest english n) _) whole g) in
+    let (h′, t) = past-legal (rest english n) (text english end) _ row (size ∷ number ∷ []) (areas-past n us (text english end)) (subst (Legal (rest english n) _) whole g) in
     record { row = row; size = size; number = number; is = head ∙ ap (headed r) whole; exact = exact-told n us; narrow = t .0; spoken = faultless (inLanguage english (bytesOf size (digits (size * 8) number))) (t .1) }
   where
     faultless : (x : Bool) → unless x 4 0 ≡ good → x ≡ true

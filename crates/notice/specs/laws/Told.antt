@@ -151,7 +151,7 @@ module _ (english : Bool) (i : ℕ) (s : List ℕ) (f : Course) (d : f ≡ cours
       ap (also recordOf) (x .walked .so ∙ clear (f .walk) _ k)
       ∙ ap accepted (told (f .notice) (areasAt s (f .notice .count) front) (bytesAt s (f .at) (f .text)) (bytes-run s (f .at) (f .text)))
 
-  pub walked-bad : (f .walk .code ≡ 0 → ⊥) → readMessage (notices english) s ≡ refused (f .walk .code) (f .walk .place)
+  pub walked-bad : (f .walk .code ≡ 0 → ⊥) → readMessage (notices english) s ≡ refused (f .walk .code) (f .walk .offset)
   walked-bad n = x .walked .so ∙ stuck (f .walk) _ n
 
   -- the code of reading is the walk's

@@ -5,7 +5,7 @@ ghost use Rattle.packet.specs.Packet.{joined};
 ghost use Rattle.notice.specs.Making.{HeadJudged, NoticeJudged, HeadPut, NoticePut};
 use crate::reading::Notice;
 use notice_fields::making::Stepped;
-use walk::choosing::choose;
+use walk::choosing::choose_code;
 use walk::walk::Walk;
 
 // The values in bit order, the text by itself, and how many numbers of the row were asked for.
@@ -22,7 +22,7 @@ pub(crate) fn judged(r: Notice, areas: &[u32], text: &[u8], english: bool) -> St
     let all = notice_fields::making::judge(areas, r.count);
     let next = all.next;
     let behind = all.walk;
-    let fault = choose(text::spoken(text, 0, text.len(), english), 0, format::RANGE);
+    let fault = choose_code(text::spoken(text, 0, text.len(), english), 0, format::RANGE);
     let walk = behind.wide(0, fault);
     Stepped { walk, next }
 }

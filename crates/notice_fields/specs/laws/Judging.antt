@@ -90,9 +90,9 @@ module _ (row : List ℕ) (k : ℕ) (r : Walk) (reach : r .at + areaMost < 2 ^ 6
   behind-near = valued-near r 3 kind 0 4
 
   -- past the kind, then what it holds
-  held : (m : ℕ) (j : Kind) {q : Walk} {us : List ℕ} → kindOf kind ≡ j → JudgesAlong (inside j) (λ f. f) behind us q → JudgesAlong (areas (suc m)) (areas m) r (kind ∷ us) q
+  under-kind : (m : ℕ) (j : Kind) {q : Walk} {us : List ℕ} → kindOf kind ≡ j → JudgesAlong (inside j) (λ f. f) behind us q → JudgesAlong (areas (suc m)) (areas m) r (kind ∷ us) q
   unfolding areas
-  held m j {q} {us} e x =
+  under-kind m j {q} {us} e x =
       let y = judges-decide {r = r} 3 (omega arith) 0 4 (lit< tt) kind (λ k f. inside (kindOf k) (areas m f)) refl in
       let z = subst⁻¹ (λ j. JudgesAlong (inside j) (λ f. f) behind us q) e x in
       let a = judges-then y (judges-under (areas m) z) in
@@ -101,7 +101,7 @@ module _ (row : List ℕ) (k : ℕ) (r : Walk) (reach : r .at + areaMost < 2 ^ 6
   sea-is : kindOf kind ≡ sea → AreaIs row k r (insideJudged sea row k behind)
   unfolding insideJudged
   sea-is e = let c = getD row (k + 1) 0 in record {
-    along = λ m. told-as (sym (sea-from row k e)) (held m sea e (judges-num 8 (omega (arith, behind-near)) 0 255 (lit< tt) c refl));
+    along = λ m. told-as (sym (sea-from row k e)) (under-kind m sea e (judges-num 8 (omega (arith, behind-near)) 0 255 (lit< tt) c refl));
     near = omega (arith, behind-near, valued-near behind 8 c 0 255);
     next = λ z. ap (k +_) (sym (sea-long row k e));
   }
@@ -117,7 +117,7 @@ module _ (row : List ℕ) (k : ℕ) (r : Walk) (reach : r .at + areaMost < 2 ^ 6
       let near-a = valued-near p 10 x 0 1_023 in
       record {
         along = λ m. told-as (sym (circle-from row k e))
-            (held m circle e (judges-then (judges-under (λ f. num 10 (0 ‥ 1_023) ▹ num 2 (0 ‥ 3) ▹ f) (ps .along))
+            (under-kind m circle e (judges-then (judges-under (λ f. num 10 (0 ‥ 1_023) ▹ num 2 (0 ‥ 3) ▹ f) (ps .along))
             (judges-then (judges-under (num 2 (0 ‥ 3)) (judges-num 10 (omega (arith, behind-near, ps .near)) 0 1_023 (lit< tt) x refl)) (judges-num 2 (omega (arith, behind-near, ps .near, near-a)) 0 3 (lit< tt) y refl))));
         near = omega (arith, behind-near, ps .near, near-a, valued-near a 2 y 0 3);
         next = λ z. ap (k +_) (sym (circle-long row k e));
@@ -145,12 +145,12 @@ module _ (row : List ℕ) (k : ℕ) (r : Walk) (reach : r .at + areaMost < 2 ^ 6
           let few = valued-between behind 4 n l 15 refl (eqb-true (c .code) 0 t) .1 in
           let ps = points-are row n (k + 2) c (omega (arith, behind-near, near-c, few)) in
           record {
-            along = λ m. told-as (sym (several-from row k l e)) (held m (several l) e (judges-then counted (ps .along)));
+            along = λ m. told-as (sym (several-from row k l e)) (under-kind m (several l) e (judges-then counted (ps .along)));
             near = omega (arith, behind-near, near-c, ps .near, few);
             next = λ z. omega (arith, several-long row k l e);
           }
       go false t = record {
-        along = λ m. told-as (sym (several-from row k l e)) (held m (several l) e (judges-then counted (judges-refused (eqb-false (c .code) 0 t))));
+        along = λ m. told-as (sym (several-from row k l e)) (under-kind m (several l) e (judges-then counted (judges-refused (eqb-false (c .code) 0 t))));
         near = omega (arith, behind-near, near-c);
         next = λ z. absurd (eqb-false (c .code) 0 t z);
       }

@@ -1,4 +1,4 @@
--- An expiry and an angle, read and judged: where the code stands behind it, its value and its place. Latitude and longitude are one law over the degrees. Assumes nothing.
+-- An expiry and an angle, read and judged: where the code stands behind it, its value and its offset. Latitude and longitude are one law over the degrees. Assumes nothing.
 use mathlib.Core.Path.{_≡_, refl, sym, ap, _∙_}
 use mathlib.Core.Bool.{Bool, true, false}
 use mathlib.Core.List.{List, [], _∷_}
@@ -71,9 +71,9 @@ moment-passes s h at r reach here =
     part-end (part-step s at 21 15 6 0 59 (lit≤ tt) (lit< tt) (lit≤ tt) _ [] reach p4 refl)
 
 angle-passes : (n d most : ℕ) (s : List ℕ) (h : List ℕ) (at : ℕ) (r : Walk) → 14 + d ≡ n → 0 < d → n ≤ 32 → at + n < 2 ^ 64 → r .at ≡ at
-    → Passes r (walk (angle d most) 0 h (take n (drop at (bitsOf s)))) at (angleParted s d most (bare (r .at) (r .code) (r .place)))
+    → Passes r (walk (angle d most) 0 h (take n (drop at (bitsOf s)))) at (angleParted s d most (bare (r .at) (r .code) (r .offset)))
 angle-passes n d most s h at r all some small reach here =
-    let p0 = part-start (bare (r .at) (r .code) (r .place)) at (take n (drop at (bitsOf s))) (angle d most) h here in
+    let p0 = part-start (bare (r .at) (r .code) (r .offset)) at (take n (drop at (bitsOf s))) (angle d most) h here in
     let p1 = part-step s at n 0 1 0 1 (omega (arith, all)) (lit< tt) (lit≤ tt) h _ reach p0 refl in
     let p2 = part-step s at n 1 d 0 most (omega (arith, all)) some (omega (arith, all, small)) _ _ reach p1 refl in
     let p3 = part-step s at n (1 + d) 6 0 60 (omega (arith, all)) (lit< tt) (lit≤ tt) _ _ reach p2 refl in
@@ -89,7 +89,7 @@ module _ {o : Out (List ℕ)} {all : Fmt} {i : ℕ} {s : List ℕ} {h : List ℕ
   angle-read : (n d most : ℕ) → wide (angle d most) ≡ n → 14 + d ≡ n → 0 < d → n ≤ 32 → at + n < 2 ^ 64 → Reading o all i s (field n (walk (angle d most) 0) free f) h at k r
       → q ≡ angleRead s n d most r → Reading o all i s f (q .v ∷ h) (at + n) (λ vs. k (q .v ∷ vs)) q
   angle-read n d most parts long some small reach e x =
-      step-parts n (angle d most) (angleParted s d most (bare (r .at) (r .code) (r .place))) parts (omega (arith, long)) small reach (λ _. refl)
+      step-parts n (angle d most) (angleParted s d most (bare (r .at) (r .code) (r .offset))) parts (omega (arith, long)) small reach (λ _. refl)
       (angle-passes n d most s h at r long some small reach (e .here)) (angle-pieces n d most h (got s (r .at) n) parts) e x
 
   pub latitude-read : at + latitudeBits < 2 ^ 64 → Reading o all i s (latitude f) h at k r → q ≡ latitudeRead s r → Reading o all i s f (q .v ∷ h) (at + latitudeBits) (λ vs. k (q .v ∷ vs)) q
@@ -100,7 +100,7 @@ module _ {o : Out (List ℕ)} {all : Fmt} {i : ℕ} {s : List ℕ} {h : List ℕ
   unfolding wide
   longitude-read reach e d = angle-read longitudeBits 8 180 refl refl (lit< tt) (lit≤ tt) reach e d
 
--- ---- the value and the place behind it
+-- ---- the value and the offset behind it
 
 module _ (s : List ℕ) (r : Walk) {q : Walk} where
   pub expiry-v : q ≡ expiryRead s r → q .v ≡ got s (r .at) 21
@@ -109,11 +109,11 @@ module _ (s : List ℕ) (r : Walk) {q : Walk} where
 
   pub angle-v : (n d most : ℕ) → q ≡ angleRead s n d most r → q .v ≡ got s (r .at) n
   unfolding pieced
-  angle-v n d most x = parts-v s n (anglePieced n d most (got s (r .at) n)) (angleParted s d most (bare (r .at) (r .code) (r .place))) r refl x
+  angle-v n d most x = parts-v s n (anglePieced n d most (got s (r .at) n)) (angleParted s d most (bare (r .at) (r .code) (r .offset))) r refl x
 
   pub angle-at : (n d most : ℕ) → q ≡ angleRead s n d most r → q .at ≡ (r .at + n) % 2 ^ 64
   unfolding pieced
-  angle-at n d most x = parts-at s n (anglePieced n d most (got s (r .at) n)) (angleParted s d most (bare (r .at) (r .code) (r .place))) r refl x
+  angle-at n d most x = parts-at s n (anglePieced n d most (got s (r .at) n)) (angleParted s d most (bare (r .at) (r .code) (r .offset))) r refl x
 
   pub latitude-v : q ≡ latitudeRead s r → q .v ≡ got s (r .at) latitudeBits
   latitude-v d = angle-v latitudeBits 7 90 d
@@ -136,7 +136,7 @@ module _ (s : List ℕ) (r : Walk) (n d most : ℕ) {there : Bool} {q : Walk} (i
   pub angle-whole : {v : ℕ} → there ≡ true → q ≡ angleJudged n d most v r → v ≡ got s (r .at) n → (q ≡ angleRead s n d most r) × (q .v < 2 ^ n)
   angle-whole t e v = fits (by-number _ (sym is ∙ t) (e ∙ ap (λ v. angleJudged n d most v r) v))
 
-  pub angle-cut : {p : Walk} → there ≡ false → q ≡ grouped s n p r → p ≡ angleParted s d most (bare (r .at) (r .code) (r .place)) → (q ≡ angleRead s n d most r) × (q .v < 2 ^ n)
+  pub angle-cut : {p : Walk} → there ≡ false → q ≡ grouped s n p r → p ≡ angleParted s d most (bare (r .at) (r .code) (r .offset)) → (q ≡ angleRead s n d most r) × (q .v < 2 ^ n)
   angle-cut t e p = fits (by-parts _ (sym is ∙ t) (e ∙ ap (λ p. grouped s n p r) p))
 
 -- ---- their refusals are numbers of the paper

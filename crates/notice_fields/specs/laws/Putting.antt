@@ -35,7 +35,7 @@ narrow : (w : ℕ) {j : Judge} {g : ℕ → Fmt} {s t : List ℕ} {b : List Bool
 unfolding write
 narrow w {j} {g} {at = at} {v} {vs} x = written w j (x .before) at v (write (g v) (v ∷ x .before) (at + w) vs) (x .left) (x .todo) .narrow
 
--- told in another way, and ending at another name of the place
+-- told in another way, and ending at another name of the offset
 told-as : {g g′ : Fmt → Fmt} {at : ℕ} {us vs t u : List ℕ} {a b : ℕ} → us ≡ vs → a ≡ b → PutsAlong g g′ at us t a u → PutsAlong g g′ at vs t b u
 told-as {g} {g′} {at} {us} {vs} {t} {u} {a} {b} e p x = subst (λ l. PutsAlong g g′ at l t b u) e (subst (λ p. PutsAlong g g′ at us t p u) p x)
 
@@ -79,13 +79,13 @@ module _ (row : List ℕ) (k at : ℕ) (t : List ℕ) where
       record { on = λ v. a .on v }
 
   -- then what it holds
-  held : (m : ℕ) (j : Kind) {to : ℕ} {q us : List ℕ} → kindOf kind ≡ j → PutsAlong (inside j) (λ f. f) (at + 3) us behind to q → PutsAlong (areas (suc m)) (areas m) at (kind ∷ us) t to q
-  held m j e x = let a = puts-then (opened m j e) (puts-under (areas m) x) in record { on = λ v. a .on v }
+  under-kind : (m : ℕ) (j : Kind) {to : ℕ} {q us : List ℕ} → kindOf kind ≡ j → PutsAlong (inside j) (λ f. f) (at + 3) us behind to q → PutsAlong (areas (suc m)) (areas m) at (kind ∷ us) t to q
+  under-kind m j e x = let a = puts-then (opened m j e) (puts-under (areas m) x) in record { on = λ v. a .on v }
 
   sea-is : kindOf kind ≡ sea → AreaIs row k at t (insidePut sea row k at behind)
   unfolding insidePut
   sea-is e = record {
-    along = λ m. told-as (sym (sea-from row k e)) (omega arith) (held m sea e (puts-num behind (at + 3) 8 (lit≤ tt) (getD row (k + 1) 0) (0 ‥ 255)));
+    along = λ m. told-as (sym (sea-from row k e)) (omega arith) (under-kind m sea e (puts-num behind (at + 3) 8 (lit≤ tt) (getD row (k + 1) 0) (0 ‥ 255)));
     next = λ m f vs x. ap (k +_) (sym (sea-long row k e));
   }
 
@@ -99,7 +99,7 @@ module _ (row : List ℕ) (k at : ℕ) (t : List ℕ) where
       let one : at + 3 + 1 * pointBits ≡ at + 3 + pointBits = omega arith in
       record {
         along = λ m. told-as (sym (circle-from row k e)) (omega arith)
-            (held m circle e (puts-then (puts-under (λ f. num 10 (0 ‥ 1_023) ▹ num 2 (0 ‥ 3) ▹ f) (told-as refl one (points-along row 1 (k + 1) (at + 3) behind)))
+            (under-kind m circle e (puts-then (puts-under (λ f. num 10 (0 ‥ 1_023) ▹ num 2 (0 ‥ 3) ▹ f) (told-as refl one (points-along row 1 (k + 1) (at + 3) behind)))
             (puts-then (puts-under (num 2 (0 ‥ 3)) (puts-num p (at + 3 + pointBits) 10 (lit≤ tt) x (0 ‥ 1_023))) (puts-num q (at + 3 + pointBits + 10) 2 (lit≤ tt) y (0 ‥ 3)))));
         next = λ m f vs x. ap (k +_) (sym (circle-long row k e));
       }
@@ -107,7 +107,7 @@ module _ (row : List ℕ) (k at : ℕ) (t : List ℕ) where
   several-is : (l : ℕ) → kindOf kind ≡ several l → AreaIs row k at t (insidePut (several l) row k at behind)
   unfolding insidePut
   several-is l e = record {
-    along = λ m. told-as (sym (several-from row k l e)) refl (held m (several l) e (record { on = λ x. counted (narrow 4 x) .on x }));
+    along = λ m. told-as (sym (several-from row k l e)) refl (under-kind m (several l) e (record { on = λ x. counted (narrow 4 x) .on x }));
     next = λ m f vs {s} {b} x.
         let y = opened m (several l) e .on (subst (λ us. Putting s b (areas (suc m) f) at (us ++ vs) t) (several-from row k l e) x) in
         omega (arith, few (narrow 4 y), several-long row k l e);

@@ -47,8 +47,8 @@ module _ (s row : List ℕ) {now : List ℕ} (k : ℕ) where
 
 -- an area's kind a is stored, and then what it holds
 module _ (s row : List ℕ) (k at : ℕ) {a : ℕ} (kind : a ≡ got s at 3) where
-  held : (is : Kind) → kindOf a ≡ is → {t : List ℕ} → t ≡ sets (set row k a) (k + 1) (insideAt is s (at + 3)) → t ≡ sets row k (areaAt s at)
-  held is e {t} d =
+  under-kind : (is : Kind) → kindOf a ≡ is → {t : List ℕ} → t ≡ sets (set row k a) (k + 1) (insideAt is s (at + 3)) → t ≡ sets row k (areaAt s at)
+  under-kind is e {t} d =
       d ∙ ap (λ i. sets (set row k a) i (insideAt is s (at + 3))) (add-one k)
       ∙ ap (λ is. sets row k (a ∷ insideAt is s (at + 3))) (sym e)
       ∙ ap (λ a. sets row k (a ∷ insideAt (kindOf a) s (at + 3))) kind
@@ -66,14 +66,14 @@ module _ (s row : List ℕ) (k at : ℕ) {a : ℕ} (kind : a ≡ got s at 3) whe
   several-long z o x = long (several (leastOf a)) (kind-several z o) ∙ omega (arith, points-long s (got s (at + 3) 4) (at + 3 + 4), x)
 
   pub sea-stored : {b : ℕ} → a ≡ 0 → b ≡ got s (at + 3) 8 → set (set row k a) (k + 1) b ≡ sets row k (areaAt s at)
-  sea-stored e x = held sea (kind-sea e) (ap (set (set row k a) (k + 1)) x)
+  sea-stored e x = under-kind sea (kind-sea e) (ap (set (set row k a) (k + 1)) x)
 
   pub circle-stored : {t : List ℕ} {b c : ℕ} → a ≡ 3 → t ≡ sets (set row k a) (k + 1) (pointsAt s 1 (at + 3)) → b ≡ got s (at + 3 + pointBits) 10 → c ≡ got s (at + 3 + pointBits + 10) 2
       → set (set t (k + 3) b) (k + 4) c ≡ sets row k (areaAt s at)
   circle-stored {t} {b} {c} e d x y =
       let three : k + 3 ≡ k + 1 + length (pointsAt s 1 (at + 3)) = omega (arith, points-long s 1 (at + 3)) in
       let four : k + 4 ≡ suc (k + 3) = omega arith in
-      held circle (kind-circle e)
+      under-kind circle (kind-circle e)
       (ap (λ i. set (set t (k + 3) b) i c) four
       ∙ ap (λ l. sets l (k + 3) (b ∷ c ∷ [])) d
       ∙ sets-on (set row k a) (k + 1) (pointsAt s 1 (at + 3)) (b ∷ c ∷ []) three
@@ -83,5 +83,5 @@ module _ (s row : List ℕ) (k at : ℕ) {a : ℕ} (kind : a ≡ got s at 3) whe
   several-stored {t} {n} z o x d =
       let two : k + 2 ≡ suc (k + 1) = omega arith in
       let seven : at + 7 ≡ at + 3 + 4 = omega arith in
-      held (several (leastOf a)) (kind-several z o)
+      under-kind (several (leastOf a)) (kind-several z o)
       (d ∙ ap₂ (λ i p. sets (set (set row k a) (k + 1) n) i (pointsAt s n p)) two seven ∙ ap (λ n. sets (set row k a) (k + 1) (n ∷ pointsAt s n (at + 3 + 4))) x)

@@ -29,7 +29,7 @@ valued {s} {g} {g′} {r} {r′} e a = subst (λ l. Along s g g′ r l r′) e a
 -- ---- points
 
 module _ (s : List ℕ) (r : Walk) (reach : r .at + pointBits < 2 ^ 64) where
-  -- the place does not hang on refusals
+  -- the offset does not hang on refusals
   latitude-here : latitudeRead s r .at ≡ r .at + latitudeBits
   latitude-here = latitude-at s r refl ∙ mod-eq-of-lt (omega arith)
 
@@ -95,12 +95,12 @@ inside-along s {g} {vs} next circle r reach rest =
     let b = ranged s 2 true 0 3 4 a in
     let here : w .at ≡ r .at + pointBits = e ∙ omega arith in
     let radius : a .v ≡ got s (r .at + pointBits) 10 = ranged-v s w 10 true 0 1_023 4 refl ∙ ap (λ p. got s p 10) here in
-    let place : a .at ≡ r .at + pointBits + 10 = ranged-at s w 10 true 0 1_023 4 refl (omega (arith, here)) ∙ omega (arith, here) in
-    let unit : b .v ≡ got s (r .at + pointBits + 10) 2 = ranged-v s a 2 true 0 3 4 refl ∙ ap (λ p. got s p 2) place in
-    let behind : b .at ≡ r .at + (pointBits + 12) = ranged-at s a 2 true 0 3 4 refl (omega (arith, place)) ∙ omega (arith, place) in
+    let offset : a .at ≡ r .at + pointBits + 10 = ranged-at s w 10 true 0 1_023 4 refl (omega (arith, here)) ∙ omega (arith, here) in
+    let unit : b .v ≡ got s (r .at + pointBits + 10) 2 = ranged-v s a 2 true 0 3 4 refl ∙ ap (λ p. got s p 2) offset in
+    let behind : b .at ≡ r .at + (pointBits + 12) = ranged-at s a 2 true 0 3 4 refl (omega (arith, offset)) ∙ omega (arith, offset) in
     valued (ap₂ (λ a b. a ∷ b ∷ vs) radius unit)
     (then (under (λ f. num 2 (0 ‥ 3) (g f)) (along-num 10 (lit< tt) (lit≤ tt) (omega (arith, here)) 0 1_023 refl))
-    (then (under g (along-num 2 (lit< tt) (lit≤ tt) (omega (arith, place)) 0 3 refl)) (rest b behind))))
+    (then (under g (along-num 2 (lit< tt) (lit≤ tt) (omega (arith, offset)) 0 3 refl)) (rest b behind))))
 inside-along s {g} {vs} next (several l) r reach rest =
     let q = ranged s 4 false l 15 4 r in
     let v : q .v ≡ got s (r .at) 4 = ranged-v s r 4 false l 15 4 refl in

@@ -17,10 +17,10 @@ use Rattle.format.specs.Words.{any, _‥_, ago}
 use Rattle.format.specs.laws.Entries.{entries}
 use Rattle.format.specs.laws.Extent.{extent, extent-laid}
 use Rattle.format.specs.laws.Family.{written-record}
-use Rattle.format.specs.laws.Held.{Held, held, passed, ranged, passes}
+use Rattle.format.specs.laws.Legal.{Legal, legal, passed, ranged, passes}
 use Rattle.format.specs.laws.Round.{read-write}
 use Rattle.format.specs.laws.Whole.{was}
-use Rattle.format.specs.laws.Written.{held-message}
+use Rattle.format.specs.laws.Written.{legal-message}
 use Rattle.packet.specs.Packet.{version, mostPackets, partBytes, greatest, packet, packets, valuesOf, recordOf}
 use Rattle.packet.specs.laws.Demands.{counted, family, good as reads-good}
 use Rattle.packet.specs.laws.Shown.{shown}
@@ -42,7 +42,7 @@ within : (lo hi v : ℕ) → lo ≤ v → v ≤ hi → (leb lo v && leb v hi) �
 within lo hi v a b = rw (le-leb lo v a, le-leb v hi b) refl
 
 -- its values are good
-pub fit-held : (r : Packet) (c : List ℕ) → Fit r c → Held packet [] (valuesOf (r, c))
+pub fit-held : (r : Packet) (c : List ℕ) → Fit r c → Legal packet [] (valuesOf (r, c))
 unfolding packet valuesOf
 fit-held r c x =
     let language = x .language in
@@ -78,7 +78,7 @@ fit-held r c x =
 pub fit-written : (r : Packet) (c : List ℕ) → Fit r c → (m : List ℕ) × (writeMessage packets (valuesOf (r, c)) ≡ accepted m) × (length m ≡ 4 + length c)
 unfolding packets packet valuesOf
 fit-written r c x =
-    let (b, e, is) = held-message packets (valuesOf (r, c)) refl (fit-held r c x) (counted (r, c)) in
+    let (b, e, is) = legal-message packets (valuesOf (r, c)) refl (fit-held r c x) (counted (r, c)) in
     let n : length b / 8 ≡ 4 + length c = ap (_/ 8) (extent-laid packet [] 0 (valuesOf (r, c)) b e) ∙ omega arith in
     let m = bytesOf (length b / 8) b in
     let long : length m ≡ 4 + length c = length-bytes (length b / 8) b ∙ n in
@@ -99,8 +99,8 @@ read-fit s x e = go (readMessage packets s) refl e
     fields vs o =
         let b = bitsOf s in
         let w = read-write packet [] 0 vs b (was packets s vs o .walked) in
-        let h = held packet [] 0 vs b w in
-        let g = subst (Held packet []) (sym (listed vs h)) h in
+        let h = legal packet [] 0 vs b w in
+        let g = subst (Legal packet []) (sym (listed vs h)) h in
         let g2 = g .2 .2 in
         let g4 = g2 .2 .2 in
         let n = getD vs 6 0 in

@@ -12,14 +12,14 @@ use Rattle.packet.specs.Changed.{spotOf, changed}
 use Rattle.packet.specs.Packet.{version, packet, packets, valuesOf}
 use Rattle.packet.specs.declared.reading.Packet.{Packet}
 
-abbrev pub places : List ℕ
-places = 0 ∷ 8 ∷ 11 ∷ 12 ∷ 20 ∷ 26 ∷ 32 ∷ 32 ∷ []
+abbrev pub offsets : List ℕ
+offsets = 0 ∷ 8 ∷ 11 ∷ 12 ∷ 20 ∷ 26 ∷ 32 ∷ 32 ∷ []
 
 abbrev pub widths : List ℕ
 widths = 0 ∷ 0 ∷ 1 ∷ 8 ∷ 6 ∷ 6 ∷ 0 ∷ 0 ∷ []
 
 -- where each field stands is the same in every packet, and so the table that the code looks in
-pub along : (r : Packet × List ℕ) → spotsAlong (packets .fmt) [] (valuesOf r) 0 ≡ rows places widths
+pub along : (r : Packet × List ℕ) → spotsAlong (packets .fmt) [] (valuesOf r) 0 ≡ rows offsets widths
 unfolding packets packet valuesOf spotsAlong rows
 along r = refl
 

@@ -13,7 +13,7 @@ use Rattle.format.specs.laws.Answers.{good-shown}
 use Rattle.format.specs.laws.Entries.{entries}
 use Rattle.format.specs.laws.Extent.{extent-lay, extent-laid}
 use Rattle.format.specs.laws.Family.{Family, written-front, read-written, accepted-correction, corrected-as-written}
-use Rattle.format.specs.laws.Held.{Held, exactly}
+use Rattle.format.specs.laws.Legal.{Legal, exactly}
 use Rattle.format.specs.laws.Runs.{run-again, run-value}
 use Rattle.format.specs.laws.Whole.{made}
 use Rattle.format.specs.laws.Zero.{Judged, Counted, only-numbered}
@@ -35,11 +35,11 @@ unfolding packet valuesOf
 counted r = (tt, λ b e. ap (_/ 8) (extent-lay _ 32 _ b e) ∙ omega arith)
 
 -- accepted values are those of their record and content
-same-values : (vs : List ℕ) → Held packet [] vs → valuesOf (recordOf vs) ≡ vs
+same-values : (vs : List ℕ) → Legal packet [] vs → valuesOf (recordOf vs) ≡ vs
 unfolding packet valuesOf recordOf entries
 same-values vs h =
     let e = listed vs h in
-    let g = subst (Held packet []) (sym e) h in
+    let g = subst (Legal packet []) (sym e) h in
     let kind = exactly 8 1 0xE1 _ (getD vs 0 0) (g .0) (g .1) in
     let edition = exactly 3 1 version _ (getD vs 1 0) (g .2 .0) (g .2 .1) in
     let n = getD vs 6 0 in
@@ -84,7 +84,7 @@ pub read-writes-back : (s : List ℕ) (r : Packet) (c : List ℕ) → Bytes s �
 read-writes-back s r c fine a b = read-written family s (r, c) fine (good s r c a b)
 
 -- A correction changes the field's bits alone.
-pub correction-bits : (s : List ℕ) (i v : ℕ) (t : List ℕ) (e : Corrects packets s i v 0 t) → let c = accepted-correction family s i v t e in t ≡ putAt s (c .place) (c .width) v
+pub correction-bits : (s : List ℕ) (i v : ℕ) (t : List ℕ) (e : Corrects packets s i v 0 t) → let c = accepted-correction family s i v t e in t ≡ putAt s (c .offset) (c .width) v
 unfolding packets
 correction-bits s i v t e = accepted-correction family s i v t e .changed
 

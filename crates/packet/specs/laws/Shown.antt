@@ -11,8 +11,8 @@ use Rattle.format.specs.Fmt.{accepted, end, read}
 use Rattle.format.specs.Words.{any, only, kept}
 use Rattle.format.specs.laws.Entries.{entries}
 use Rattle.format.specs.laws.Extent.{extent, extent-laid}
-use Rattle.format.specs.laws.Held.{held}
-use Rattle.format.specs.laws.Places.{value-at}
+use Rattle.format.specs.laws.Legal.{legal}
+use Rattle.format.specs.laws.Offsets.{value-at}
 use Rattle.format.specs.laws.Round.{read-write}
 use Rattle.format.specs.laws.Runs.{run-stands}
 use Rattle.format.specs.laws.Showing.{shows-none, shows-values}
@@ -37,7 +37,7 @@ module _ (s : List ℕ) {a : Answer} {n : ℕ} (reads : Reads s a) (number : n �
       let b = bitsOf s in
       let walked : read packet [] 0 b ≡ accepted vs = was packets s vs e .walked in
       let w = read-write packet [] 0 vs b walked in
-      let h = held packet [] 0 vs b w in
+      let h = legal packet [] 0 vs b w in
       let n = getD vs 6 0 in
       let size : length s ≡ 4 + n = omega (arith, extent-laid packet [] 0 vs b w ∙ ap (extent packet 0) (sym (listed vs h)), length-bits s) in
       let is = value-at 7 packet (entries 0 8 vs) b (walked ∙ ap accepted (sym (listed vs h))) (n * 8) (only (n * 8) 4 any) kept end refl in

@@ -10,26 +10,26 @@ use Rattle.bits.specs.Bits.{bitsOf, fieldAt}
 use Rattle.format.specs.Fmt.{accepted, read}
 use Rattle.format.specs.Message.{Sound, codeOf, readMessage}
 use Rattle.format.specs.Words.{_‥_, only, kept}
-use Rattle.format.specs.laws.Entries.{entries, held-entries}
+use Rattle.format.specs.laws.Entries.{entries, legal-entries}
 use Rattle.format.specs.laws.First.{led-between}
-use Rattle.format.specs.laws.Held.{Held, held, exactly}
+use Rattle.format.specs.laws.Legal.{Legal, legal, exactly}
 use Rattle.format.specs.laws.Lead.{read-led}
-use Rattle.format.specs.laws.Places.{value-at}
+use Rattle.format.specs.laws.Offsets.{value-at}
 use Rattle.format.specs.laws.Round.{read-write}
 use Rattle.packet.specs.Packet.{version, greatest, packet, packets}
 
 -- accepted values, entry by entry
-pub listed : (vs : List ℕ) → Held packet [] vs → entries 0 8 vs ≡ vs
+pub listed : (vs : List ℕ) → Legal packet [] vs → entries 0 8 vs ≡ vs
 unfolding packet
-listed vs h = held-entries packet 8 vs (λ n. tt) h
+listed vs h = legal-entries packet 8 vs (λ n. tt) h
 
 -- the code and the version are in front
 pub named : (s vs : List ℕ) → read packet [] 0 (bitsOf s) ≡ accepted vs → (fieldAt s 0 8 ≡ 0xE1) × (fieldAt s 8 3 ≡ version)
 unfolding packet entries fieldAt
 named s vs e =
     let b = bitsOf s in
-    let h = held packet [] 0 vs b (read-write packet [] 0 vs b e) in
-    let g = subst (Held packet []) (sym (listed vs h)) h in
+    let h = legal packet [] 0 vs b (read-write packet [] 0 vs b e) in
+    let g = subst (Legal packet []) (sym (listed vs h)) h in
     let kind = exactly 8 1 0xE1 _ (getD vs 0 0) (g .0) (g .1) in
     let edition = exactly 3 1 version _ (getD vs 1 0) (g .2 .0) (g .2 .1) in (
       sym (value-at 0 packet vs b e 8 (only 8 2 (0xE1 ‥ 0xE1)) kept _ refl) ∙ kind,

@@ -3,7 +3,7 @@ use crate::reading::CODE;
 use crate::reading::MOST;
 use crate::reading::Packet;
 use crate::reading::VERSION;
-use crate::reading::last;
+use crate::reading::last_number;
 ghost use Prim.Native.Nat.{ℕ, _*_};
 ghost use mathlib.Core.List.{List, []};
 ghost use lib.ListN.{length};
@@ -23,7 +23,7 @@ pub(crate) fn judged(r: Packet) -> walk::walk::Walk
     let w = w.value(1, r.language as u64, 0, 1);
     let w = w.value(8, r.number as u64, 0, 255);
     let w = w.value(6, r.total as u64, 1, MOST as u64);
-    w.value(6, r.own as u64, 0, last(r.total))
+    w.value(6, r.own as u64, 0, last_number(r.total))
 }
 
 pub(crate) fn put(buf: &mut [u8], r: Packet, content: &[u8])

@@ -23,12 +23,12 @@ report c = reported (replicate 17 0) (c .before .before .before .before .before 
 
 -- the digits that are laid down are the address's
 digits : (c : tie.After-decimal) → let d = c .decimal .result in
-    take (10 - d .from) (drop (d .from) (d .places)) ≡ decimal 7 (c .before .before .before .before .before .before .before .before .args .address)
+    take (10 - d .from) (drop (d .from) (d .chars)) ≡ decimal 7 (c .before .before .before .before .before .before .before .before .args .address)
 digits c =
     let d = c .decimal in
     let g = c .before .before .before .before .before in
     let l = d .ensures .long in
-    take-all (10 - d .result .from) (drop (d .result .from) (d .result .places)) (omega (arith, length-drop (d .result .from) (d .result .places)))
+    take-all (10 - d .result .from) (drop (d .result .from) (d .result .chars)) (omega (arith, length-drop (d .result .from) (d .result .chars)))
     ∙ spells-digits (d .ensures)
     ∙ decimal-wide 3 7 (g .before .before .before .args .address) (omega arith)
 

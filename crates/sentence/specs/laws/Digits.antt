@@ -29,7 +29,7 @@ pub value-high : (c : ℕ) → 97 ≤ c → c ≤ 102 → digitValue c ≡ c - 8
 unfolding digitValue
 value-high c l h = rw (le-leb 48 c (omega arith), lt-leb c 57 (omega arith), le-leb 97 c l, le-leb c 102 h)
 
--- a digit has a letter's or a figure's place, and another byte counts 16
+-- a digit has a letter's or a figure's offset, and another byte counts 16
 pub data Digit (c : ℕ) : Type 0 where
   low : 48 ≤ c → c ≤ 57 → Digit c
   high : 97 ≤ c → c ≤ 102 → Digit c
@@ -166,19 +166,19 @@ decimal-digits (suc k) zero = rw decimal-none refl
 decimal-digits (suc k) (suc n) =
     rw (decimal-next k (suc n) (omega arith), all-append 10 (decimal k (suc n / 10)) (lower (suc n % 10) ∷ []), decimal-digits k (suc n / 10), digit-small (suc n), lt-ltb (suc n % 10) 10 (omega arith))
 
--- more places than a number has digits make no difference
+-- more chars than a number has digits make no difference
 pub decimal-wide : (j k n : ℕ) → n < 10 ^ k → decimal (k + j) n ≡ decimal k n
 decimal-wide j zero n h = let e : n ≡ 0 = omega arith in rw (e, decimal-none, decimal-none)
 decimal-wide j (suc k) zero h = rw (decimal-none, decimal-none)
 decimal-wide j (suc k) (suc n) h =
     rw (suc-add k j, decimal-next (k + j) (suc n) (omega arith), decimal-next k (suc n) (omega arith), decimal-wide j k (suc n / 10) (tenth-small k (suc n) h))
 
--- where the digits stand among ten places
-module _ {n from : ℕ} {places : List ℕ} (s : Spells n from places) where
+-- where the digits stand among ten characters
+module _ {n from : ℕ} {chars : List ℕ} (s : Spells n from chars) where
   pub spells-from : from + length (decimal 10 n) ≡ 10
   spells-from = omega (arith, s .long, ap length (s .figures), length-append (replicate from 0) (decimal 10 n), length-replicate {A = ℕ} from 0)
 
-  pub spells-digits : drop from places ≡ decimal 10 n
+  pub spells-digits : drop from chars ≡ decimal 10 n
   spells-digits = ap (drop from) (s .figures) ∙ drop-at (replicate from 0) (decimal 10 n) from (length-replicate from 0)
 
 -- what digits with no zero in front spell is at least 1

@@ -1,4 +1,4 @@
--- One turn of each loop: what is left to do from place i is one thing done, and what is left from i + 1. Assumes nothing.
+-- One turn of each loop: what is left to do from offset i is one thing done, and what is left from i + 1. Assumes nothing.
 use mathlib.Core.Bool.{_&&_}
 use mathlib.Core.List.{List, [], _∷_, _++_, append-assoc, append-nil}
 use mathlib.Core.Path.{_≡_, refl, sym, ap, _∙_}
@@ -39,23 +39,23 @@ store-turn done i v left all h e = rw (add-one i, take-suc-set done i v h, appen
 pub store-end : (done : List ℕ) (i : ℕ) (left all : List ℕ) → length done ≤ i → left ≡ [] → take i done ++ left ≡ all → done ≡ all
 store-end done i left all h q e = sym (rw (take-all i done h, q, append-nil) refl) ∙ e
 
--- decimal digits go last to first, into the places before those that stand
-pub place-left : (from rest : ℕ) → 0 < rest → rest < 10 ^ from → 0 < from
-place-left zero rest s h = absurd (omega arith)
-place-left (suc k) rest s h = omega arith
+-- decimal digits go last to first, into the chars before those that stand
+pub offset-left : (from rest : ℕ) → 0 < rest → rest < 10 ^ from → 0 < from
+offset-left zero rest s h = absurd (omega arith)
+offset-left (suc k) rest s h = omega arith
 
-pub decimal-turn : (from rest : ℕ) (places all : List ℕ) → 0 < rest → rest < 10 ^ from → from ≤ length places → decimal from rest ++ drop from places ≡ all
-    → (rest / 10 < 10 ^ (from - 1)) × (decimal (from - 1) (rest / 10) ++ drop (from - 1) (set places (from - 1) (lower (rest % 10))) ≡ all)
-decimal-turn zero rest places all some small h e = absurd (omega arith)
-decimal-turn (suc j) rest places all some small h e =
+pub decimal-turn : (from rest : ℕ) (chars all : List ℕ) → 0 < rest → rest < 10 ^ from → from ≤ length chars → decimal from rest ++ drop from chars ≡ all
+    → (rest / 10 < 10 ^ (from - 1)) × (decimal (from - 1) (rest / 10) ++ drop (from - 1) (set chars (from - 1) (lower (rest % 10))) ≡ all)
+decimal-turn zero rest chars all some small h e = absurd (omega arith)
+decimal-turn (suc j) rest chars all some small h e =
     let v = lower (rest % 10) in
     let q : suc j - 1 ≡ j = omega arith in (
       rw q (tenth-small j rest small),
-      rw (q, set-split places j v (omega arith), drop-at (take j places) (v ∷ drop (suc j) places) j (length-take-le j places (omega arith)))
-          (sym (append-snoc (decimal j (rest / 10)) v (drop (suc j) places)) ∙ ap (λ x. x ++ drop (suc j) places) (sym (decimal-next j rest some)) ∙ e),
+      rw (q, set-split chars j v (omega arith), drop-at (take j chars) (v ∷ drop (suc j) chars) j (length-take-le j chars (omega arith)))
+          (sym (append-snoc (decimal j (rest / 10)) v (drop (suc j) chars)) ∙ ap (λ x. x ++ drop (suc j) chars) (sym (decimal-next j rest some)) ∙ e),
     )
 
--- the places before them stay 0
+-- the chars before them stay 0
 shorter : (j : ℕ) (l : List ℕ) → take (suc j) l ≡ replicate (suc j) 0 → take j l ≡ replicate j 0
 shorter zero l e = refl
 shorter (suc j) [] e = let z : _≡_ {A = ℕ} 0 1 = cc in absurd (omega arith)
@@ -65,8 +65,8 @@ shorter (suc j) (x ∷ l) e =
     let r = shorter j l t in
     cc
 
-pub blank-turn : (from : ℕ) (places : List ℕ) (v : ℕ) → take from places ≡ replicate from 0 → take (from - 1) (set places (from - 1) v) ≡ replicate (from - 1) 0
-blank-turn zero places v e = refl
-blank-turn (suc j) places v e =
+pub blank-turn : (from : ℕ) (chars : List ℕ) (v : ℕ) → take from chars ≡ replicate from 0 → take (from - 1) (set chars (from - 1) v) ≡ replicate (from - 1) 0
+blank-turn zero chars v e = refl
+blank-turn (suc j) chars v e =
     let q : suc j - 1 ≡ j = omega arith in
-    rw (q, take-set-le j places j v (omega arith)) (shorter j places e)
+    rw (q, take-set-le j chars j v (omega arith)) (shorter j chars e)

@@ -17,8 +17,8 @@ use Rattle.txhz.specs.declared.reading.Answer.{Answer}
 use Rattle.txhz.specs.declared.reading.Receipt.{Receipt}
 use Rattle.txhz.specs.declared.reading.Txhz.{Txhz}
 
-abbrev pub places : List ℕ
-places =
+abbrev pub offsets : List ℕ
+offsets =
     0 ∷ 8 ∷ 40 ∷ 56 ∷ 80 ∷ 104
     ∷ 112 ∷ 120 ∷ 128 ∷ 136 ∷ 144 ∷ 152 ∷ 160 ∷ 168 ∷ 176 ∷ 184 ∷ 192 ∷ 200 ∷ 208 ∷ 216 ∷ 224 ∷ 232 ∷ 240 ∷ 248 ∷ 256 ∷ 264 ∷ []
 
@@ -29,9 +29,9 @@ each f n =
     none ∷ none ∷ none ∷ found 56 24 ∷ found 80 24 ∷ found 104 8 ∷ of 0 112 (of 1 144 (of 2 176 (of 3 208 (of 4 240 []))))
 
 -- where each field stands, as in the table that the code looks in
-pub along : (r : Txhz) → spotsAlong (txhzs .fmt) [] (valuesOf r) 0 ≡ rows places (tableOf (r .count))
+pub along : (r : Txhz) → spotsAlong (txhzs .fmt) [] (valuesOf r) 0 ≡ rows offsets (tableOf (r .count))
 unfolding txhzs txhz valuesOf spotsAlong rows tableOf
-along r i = each (λ held at. where-row held at 7 i) (r .count)
+along r i = each (λ live at. where-row live at 7 i) (r .count)
 
 -- no field that may be corrected is wider than 32 bits
 slim-table : (n : ℕ) → slim (tableOf n) ≡ true
@@ -45,26 +45,26 @@ slim-table n =
     receipt : (k : ℕ) (l : List ℕ) → slim l ≡ true → slim (wide k n l) ≡ true
     receipt k l e = go (ltb k n)
       where
-        go : (held : Bool) → slim (let w : ℕ = cond held 8 0 in w ∷ w ∷ w ∷ w ∷ l) ≡ true
+        go : (live : Bool) → slim (let w : ℕ = cond live 8 0 in w ∷ w ∷ w ∷ w ∷ l) ≡ true
         go true = e
         go false = e
 
 -- The field i looked up in the table t of as many receipts as the answer of reading s counts.
-module _ (s : List ℕ) (i : ℕ) {was : Answer} {n p w : ℕ} {t : List ℕ} (read-so : Reads s was) (counts : n ≡ countOf was) (table : t ≡ tableOf n) (looked-up : (p ≡ getD places i 0) × (w ≡ getD t i 0)) where
+module _ (s : List ℕ) (i : ℕ) {was : Answer} {n p w : ℕ} {t : List ℕ} (read-so : Reads s was) (counts : n ≡ countOf was) (table : t ≡ tableOf n) (looked-up : (p ≡ getD offsets i 0) × (w ≡ getD t i 0)) where
   pub looked-stands : (r : Txhz) → readRecord txhzs recordOf s ≡ accepted r → spot (txhzs .fmt) [] (valuesOf r) i ≡ standing p w
   unfolding tableOf
   looked-stands r e =
       let same : t ≡ tableOf (r .count) = table ∙ ap tableOf (counts ∙ ap countOf read-so ∙ ap (λ o. countOf (answerOf o)) e) in
-      table-stands places (tableOf (r .count)) i (looked-up .0, looked-up .1 ∙ ap (λ t. getD t i 0) same) (txhzs .fmt) (valuesOf r) refl (along r)
+      table-stands offsets (tableOf (r .count)) i (looked-up .0, looked-up .1 ∙ ap (λ t. getD t i 0) same) (txhzs .fmt) (valuesOf r) refl (along r)
 
   pub looked-slim : w ≤ 32
-  looked-slim = table-slim places (tableOf n) i {p = p} (looked-up .0, looked-up .1 ∙ ap (λ t. getD t i 0) table) (slim-table n)
+  looked-slim = table-slim offsets (tableOf n) i {p = p} (looked-up .0, looked-up .1 ∙ ap (λ t. getD t i 0) table) (slim-table n)
 
 pub spotted : (r : Txhz) (i : ℕ) → spot (txhzs .fmt) [] (valuesOf r) i ≡ spotOf r i
 unfolding rows tableOf
-spotted r i = spot-along (txhzs .fmt) (valuesOf r) i ∙ ap (λ t. getD t i none) (along r ∙ (λ y. each (λ held at. told held at y) (r .count)))
+spotted r i = spot-along (txhzs .fmt) (valuesOf r) i ∙ ap (λ t. getD t i none) (along r ∙ (λ y. each (λ live at. told live at y) (r .count)))
   where
-    told : (held : Bool) (at : ℕ) → standing at (cond held 8 0) ≡ cond held (found at 8) none
+    told : (live : Bool) (at : ℕ) → standing at (cond live 8 0) ≡ cond live (found at 8) none
     told true at = refl
     told false at = refl
 

@@ -12,10 +12,10 @@ use Rattle.frame.specs.laws.Sound.{frame-sound}
 use Rattle.format.specs.Fmt.{accepted, end, read, found}
 use Rattle.format.specs.Promises.{readRecord, Writes, Corrects}
 use Rattle.format.specs.laws.Answers.{good-read}
-use Rattle.format.specs.laws.Entries.{entries, held-entries}
+use Rattle.format.specs.laws.Entries.{entries, legal-entries}
 use Rattle.format.specs.laws.Extent.{extent-laid}
 use Rattle.format.specs.laws.Family.{Family, one-size, written-front, read-written, corrected-as-written}
-use Rattle.format.specs.laws.Held.{Held, held, exactly}
+use Rattle.format.specs.laws.Legal.{Legal, legal, exactly}
 use Rattle.format.specs.laws.Round.{read-write}
 use Rattle.format.specs.laws.Zero.{Judged, only-numbered}
 use Rattle.txhz.specs.Changed.{spotOf, changed}
@@ -27,11 +27,11 @@ use Rattle.txhz.specs.declared.reading.Txhz.{Txhz}
 use Rattle.txhz.specs.declared.reading.Answer.the-variants.{Good, Refused}
 
 -- accepted values are those of their record: `$`, letters and length are as they must be
-same-values : (vs : List ℕ) → Held txhz [] vs → valuesOf (recordOf vs) ≡ vs
+same-values : (vs : List ℕ) → Legal txhz [] vs → valuesOf (recordOf vs) ≡ vs
 unfolding txhz valuesOf recordOf entries
 same-values vs h =
-    let e = held-entries txhz 26 vs tt h in
-    let g = subst (Held txhz []) (sym e) h in
+    let e = legal-entries txhz 26 vs tt h in
+    let g = subst (Legal txhz []) (sym e) h in
     let dollar = exactly 8 1 0x24 _ (getD vs 0 0) (g .0) (g .1) in
     let named = exactly 32 1 letters _ (getD vs 1 0) (g .2 .0) (g .2 .1) in
     let long = exactly 16 0 35 _ (getD vs 2 0) (g .2 .2 .0) (g .2 .2 .1) in
@@ -44,7 +44,7 @@ unfolding txhz valuesOf
 long b vs e =
     let w = read-write txhz [] 0 vs b e in
     let n = extent-laid txhz [] 0 vs b w in
-    let d : getD vs 2 0 ≡ 35 = sym (ap (λ vs. getD vs 2 0) (same-values vs (held txhz [] 0 vs b w))) in
+    let d : getD vs 2 0 ≡ 35 = sym (ap (λ vs. getD vs 2 0) (same-values vs (legal txhz [] 0 vs b w))) in
     (omega (arith, n, d), omega (arith, d))
 
 numbers : Judged txhz

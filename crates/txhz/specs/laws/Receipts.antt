@@ -23,17 +23,17 @@ use Rattle.txhz.specs.Txhz.{counted, slot, receipt, times}
 use Rattle.txhz.specs.declared.reading.Passed.{Passed}
 use Rattle.txhz.specs.declared.reading.Receipt.{Receipt}
 
--- a byte's fault, by whether its receipt is held
+-- a byte's fault, by whether its receipt is counted
 abbrev faultOf : Bool → ℕ → ℕ → ℕ
-faultOf held most v = cond held (cond (leb 0 v && leb v most) 0 4) (cond (leb 0 v && leb v 0) 0 5)
+faultOf live most v = cond live (cond (leb 0 v && leb v most) 0 4) (cond (leb 0 v && leb v 0) 0 5)
 
-slot-tells : (held : Bool) (most : ℕ) (h : List ℕ) → Tells 8 (λ b. cond held (only 8 4 (0 ‥ most) h b) (only 8 5 (0 ‥ 0) h b)) (faultOf held most)
-slot-tells held most h = cond-tells 8 held (only-tells 8 3 (0 ‥ most) h) (only-tells 8 4 (0 ‥ 0) h)
+slot-tells : (live : Bool) (most : ℕ) (h : List ℕ) → Tells 8 (λ b. cond live (only 8 4 (0 ‥ most) h b) (only 8 5 (0 ‥ 0) h b)) (faultOf live most)
+slot-tells live most h = cond-tells 8 live (only-tells 8 3 (0 ‥ most) h) (only-tells 8 4 (0 ‥ 0) h)
 
 -- behind each byte of the receipt the count stands one field further back
-behind : (k a b c : ℕ) (h : List ℕ) (held : Bool) → held ≡ counted k (4 * k) h
-    → (held ≡ counted k (4 * k + 1) (a ∷ h)) × (held ≡ counted k (4 * k + 2) (b ∷ a ∷ h)) × (held ≡ counted k (4 * k + 3) (c ∷ b ∷ a ∷ h))
-behind k a b c h held is =
+behind : (k a b c : ℕ) (h : List ℕ) (live : Bool) → live ≡ counted k (4 * k) h
+    → (live ≡ counted k (4 * k + 1) (a ∷ h)) × (live ≡ counted k (4 * k + 2) (b ∷ a ∷ h)) × (live ≡ counted k (4 * k + 3) (c ∷ b ∷ a ∷ h))
+behind k a b c h live is =
     let one : suc (4 * k) ≡ 4 * k + 1 = omega arith in
     let two : suc (suc (4 * k)) ≡ 4 * k + 2 = omega arith in
     let three : suc (suc (suc (4 * k))) ≡ 4 * k + 3 = omega arith in
@@ -42,10 +42,10 @@ behind k a b c h held is =
 -- ---- read
 
 module _ {o : Out (List ℕ)} {all : Fmt} {i : ℕ} {s : List ℕ} {f : Fmt} where
-  slot-read : {h : List ℕ} {at : ℕ} {vs : List ℕ → List ℕ} {r g : Walk} (k back most : ℕ) (held : Bool) → at + 8 < 2 ^ 64 → at % 8 ≡ 0 → held ≡ counted k back h
-      → Reading o all i s (slot k back most f) h at vs r → g ≡ slotRead s held most r → Reading o all i s f (g .v ∷ h) (at + 8) (λ l. vs (g .v ∷ l)) g
+  slot-read : {h : List ℕ} {at : ℕ} {vs : List ℕ → List ℕ} {r g : Walk} (k back most : ℕ) (live : Bool) → at + 8 < 2 ^ 64 → at % 8 ≡ 0 → live ≡ counted k back h
+      → Reading o all i s (slot k back most f) h at vs r → g ≡ slotRead s live most r → Reading o all i s f (g .v ∷ h) (at + 8) (λ l. vs (g .v ∷ l)) g
   unfolding onward
-  slot-read {h} {at} {vs} {r} k back most held reach whole is e d =
+  slot-read {h} {at} {vs} {r} k back most live reach whole is e d =
       let here : r .at / 8 * 8 ≡ at = omega (arith, e .here, whole) in
       subst⁻¹ (λ g. Reading o all i s f (g .v ∷ h) (at + 8) (λ l. vs (g .v ∷ l)) g)
       (d ∙ ap (λ x. slotRead s x most r) is ∙ same (counted k back h) ∙ ap (λ a. onward 8 (counted k back h) (got s a 8) (cond (within (length s) a 8) (faultOf (counted k back h) most (got s a 8)) 1) 0 r) here)
@@ -55,17 +55,17 @@ module _ {o : Out (List ℕ)} {all : Fmt} {i : ℕ} {s : List ℕ} {f : Fmt} whe
       same true = refl
       same false = refl
 
-pub receipt-read : {o : Out (List ℕ)} {all : Fmt} {i : ℕ} {s : List ℕ} {f : Fmt} {h : List ℕ} {at : ℕ} {vs : List ℕ → List ℕ} {r : Walk} {g : Passed} (k : ℕ) (held : Bool) → at + 32 < 2 ^ 64 → at % 8 ≡ 0 → held ≡ counted k (4 * k) h
-    → Reading o all i s (receipt k f) h at vs r → g ≡ receiptRead s held r
+pub receipt-read : {o : Out (List ℕ)} {all : Fmt} {i : ℕ} {s : List ℕ} {f : Fmt} {h : List ℕ} {at : ℕ} {vs : List ℕ → List ℕ} {r : Walk} {g : Passed} (k : ℕ) (live : Bool) → at + 32 < 2 ^ 64 → at % 8 ≡ 0 → live ≡ counted k (4 * k) h
+    → Reading o all i s (receipt k f) h at vs r → g ≡ receiptRead s live r
     → let t = g .receipt in Reading o all i s f (t .«receipt_minute» ∷ t .«receipt_hour» ∷ t .«sent_minute» ∷ t .«sent_hour» ∷ h) (at + 8 + 8 + 8 + 8) (λ l. vs (times t l)) (g .walk)
 unfolding receiptRead
-receipt-read {o} {all} {i} {s} {f} {h} {at} {vs} {r} k held reach whole is e d =
-    let t = receiptRead s held r .receipt in
-    let (is1, is2, is3) = behind k (t .«sent_hour») (t .«sent_minute») (t .«receipt_hour») h held is in
-    let r1 = slot-read k (4 * k) 23 held (omega arith) whole is e refl in
-    let r2 = slot-read k (4 * k + 1) 59 held (omega arith) (omega (arith, whole)) is1 r1 refl in
-    let r3 = slot-read k (4 * k + 2) 23 held (omega arith) (omega (arith, whole)) is2 r2 refl in
-    let r4 = slot-read k (4 * k + 3) 59 held (omega arith) (omega (arith, whole)) is3 r3 refl in
+receipt-read {o} {all} {i} {s} {f} {h} {at} {vs} {r} k live reach whole is e d =
+    let t = receiptRead s live r .receipt in
+    let (is1, is2, is3) = behind k (t .«sent_hour») (t .«sent_minute») (t .«receipt_hour») h live is in
+    let r1 = slot-read k (4 * k) 23 live (omega arith) whole is e refl in
+    let r2 = slot-read k (4 * k + 1) 59 live (omega arith) (omega (arith, whole)) is1 r1 refl in
+    let r3 = slot-read k (4 * k + 2) 23 live (omega arith) (omega (arith, whole)) is2 r2 refl in
+    let r4 = slot-read k (4 * k + 3) 59 live (omega arith) (omega (arith, whole)) is3 r3 refl in
     subst⁻¹ (λ g. let t = g .receipt in Reading o all i s f (t .«receipt_minute» ∷ t .«receipt_hour» ∷ t .«sent_minute» ∷ t .«sent_hour» ∷ h) (at + 8 + 8 + 8 + 8) (λ l. vs (times t l)) (g .walk)) d r4
 
 -- ---- judged
@@ -74,9 +74,9 @@ receipt-read {o} {all} {i} {s} {f} {h} {at} {vs} {r} k held reach whole is e d =
 abbrev pub Narrow : Receipt → Type 0
 Narrow t = (t .«sent_hour» < 2 ^ 8) × (t .«sent_minute» < 2 ^ 8) × (t .«receipt_hour» < 2 ^ 8) × (t .«receipt_minute» < 2 ^ 8)
 
-slot-judged : {o : Out (List Bool)} {f : Fmt} {h : List ℕ} {at v : ℕ} {vs : List ℕ} {r g : Walk} (k back most : ℕ) (held : Bool) → at + 8 < 2 ^ 64 → v < 2 ^ 8 → held ≡ counted k back h
-    → Judging o (slot k back most f) h at (v ∷ vs) r → g ≡ slotJudged held v most r → Judging o f (v ∷ h) (at + 8) vs g
-slot-judged {h = h} {v = v} {r = r} k back most held reach small is e d =
+slot-judged : {o : Out (List Bool)} {f : Fmt} {h : List ℕ} {at v : ℕ} {vs : List ℕ} {r g : Walk} (k back most : ℕ) (live : Bool) → at + 8 < 2 ^ 64 → v < 2 ^ 8 → live ≡ counted k back h
+    → Judging o (slot k back most f) h at (v ∷ vs) r → g ≡ slotJudged live v most r → Judging o f (v ∷ h) (at + 8) vs g
+slot-judged {h = h} {v = v} {r = r} k back most live reach small is e d =
     judge-tells 8 (counted k back h) v (faultOf (counted k back h) most v) reach small (slot-tells (counted k back h) most h) refl opens-field e
     (d ∙ ap (λ x. slotJudged x v most r) is ∙ same (counted k back h))
   where
@@ -84,15 +84,15 @@ slot-judged {h = h} {v = v} {r = r} k back most held reach small is e d =
     same true = refl
     same false = refl
 
-pub receipt-judged : {o : Out (List Bool)} {f : Fmt} {h : List ℕ} {at : ℕ} {vs : List ℕ} {r g : Walk} (k : ℕ) (held : Bool) (t : Receipt) → Narrow t → at + 32 < 2 ^ 64 → held ≡ counted k (4 * k) h
-    → Judging o (receipt k f) h at (times t vs) r → g ≡ receiptJudged held t r
+pub receipt-judged : {o : Out (List Bool)} {f : Fmt} {h : List ℕ} {at : ℕ} {vs : List ℕ} {r g : Walk} (k : ℕ) (live : Bool) (t : Receipt) → Narrow t → at + 32 < 2 ^ 64 → live ≡ counted k (4 * k) h
+    → Judging o (receipt k f) h at (times t vs) r → g ≡ receiptJudged live t r
     → Judging o f (t .«receipt_minute» ∷ t .«receipt_hour» ∷ t .«sent_minute» ∷ t .«sent_hour» ∷ h) (at + 8 + 8 + 8 + 8) vs g
-receipt-judged {h = h} k held t (a, b, c, z) reach is e d =
-    let (is1, is2, is3) = behind k (t .«sent_hour») (t .«sent_minute») (t .«receipt_hour») h held is in
-    let r1 = slot-judged k (4 * k) 23 held (omega arith) a is e refl in
-    let r2 = slot-judged k (4 * k + 1) 59 held (omega arith) b is1 r1 refl in
-    let r3 = slot-judged k (4 * k + 2) 23 held (omega arith) c is2 r2 refl in
-    slot-judged k (4 * k + 3) 59 held (omega arith) z is3 r3 d
+receipt-judged {h = h} k live t (a, b, c, z) reach is e d =
+    let (is1, is2, is3) = behind k (t .«sent_hour») (t .«sent_minute») (t .«receipt_hour») h live is in
+    let r1 = slot-judged k (4 * k) 23 live (omega arith) a is e refl in
+    let r2 = slot-judged k (4 * k + 1) 59 live (omega arith) b is1 r1 refl in
+    let r3 = slot-judged k (4 * k + 2) 23 live (omega arith) c is2 r2 refl in
+    slot-judged k (4 * k + 3) 59 live (omega arith) z is3 r3 d
 
 -- ---- put
 

@@ -13,14 +13,14 @@ use Rattle.txsq.specs.Changed.{spotOf, changed}
 use Rattle.txsq.specs.Txsq.{letters, txsq, txsqs, valuesOf}
 use Rattle.txsq.specs.declared.reading.Txsq.{Txsq}
 
-abbrev pub places : List ℕ
-places = 0 ∷ 8 ∷ 40 ∷ 56 ∷ 80 ∷ 84 ∷ 86 ∷ 87 ∷ 88 ∷ 112 ∷ 128 ∷ 136 ∷ 136 ∷ []
+abbrev pub offsets : List ℕ
+offsets = 0 ∷ 8 ∷ 40 ∷ 56 ∷ 80 ∷ 84 ∷ 86 ∷ 87 ∷ 88 ∷ 112 ∷ 128 ∷ 136 ∷ 136 ∷ []
 
 abbrev pub widths : List ℕ
 widths = 0 ∷ 0 ∷ 0 ∷ 24 ∷ 0 ∷ 2 ∷ 1 ∷ 1 ∷ 24 ∷ 0 ∷ 8 ∷ 0 ∷ 0 ∷ []
 
 -- where each field stands is the same in every frame, and so the table that the code looks in
-pub along : (r : Txsq × List ℕ) → spotsAlong (txsqs .fmt) [] (valuesOf r) 0 ≡ rows places widths
+pub along : (r : Txsq × List ℕ) → spotsAlong (txsqs .fmt) [] (valuesOf r) 0 ≡ rows offsets widths
 unfolding txsqs txsq valuesOf spotsAlong rows
 along r = refl
 

@@ -15,10 +15,10 @@ use Rattle.frame.specs.laws.Sound.{frame-sound}
 use Rattle.format.specs.Fmt.{accepted, good as Fmt·good, pad, read, found}
 use Rattle.format.specs.Words.{code, twice, ago}
 use Rattle.format.specs.laws.Answers.{good-shown}
-use Rattle.format.specs.laws.Entries.{entries, held-entries}
+use Rattle.format.specs.laws.Entries.{entries, legal-entries}
 use Rattle.format.specs.laws.Extent.{extent, extent-laid}
 use Rattle.format.specs.laws.Family.{Family, written-front, read-written, corrected-as-written}
-use Rattle.format.specs.laws.Held.{Held, held, exactly, passed-twice}
+use Rattle.format.specs.laws.Legal.{Legal, legal, exactly, passed-twice}
 use Rattle.format.specs.laws.Round.{read-write}
 use Rattle.format.specs.laws.Zero.{Judged, only-numbered, twice-numbered}
 use Rattle.format.specs.Promises.{answered, readRecord, Writes, Corrects}
@@ -52,23 +52,23 @@ sized : (h : List ℕ) (l : ℕ) → l < 2 ^ 16 → twice 16 4 limits 1 filling 
 sized h l n e = eqb-true (ago 6 h) (18 + bytesFor l) (passed-twice 16 3 0 limits filling h l n e .1)
 
 -- accepted values, entry by entry
-pub listed : (vs : List ℕ) → Held txsq [] vs → entries 0 13 vs ≡ vs
+pub listed : (vs : List ℕ) → Legal txsq [] vs → entries 0 13 vs ≡ vs
 unfolding txsq
-listed vs h = held-entries txsq 13 vs (λ l. tt) h
+listed vs h = legal-entries txsq 13 vs (λ l. tt) h
 
 -- the length is that of the bit length
-pub fit : (vs : List ℕ) → Held txsq [] vs → getD vs 2 0 ≡ 18 + bytesFor (getD vs 9 0)
+pub fit : (vs : List ℕ) → Legal txsq [] vs → getD vs 2 0 ≡ 18 + bytesFor (getD vs 9 0)
 unfolding txsq entries
 fit vs h =
-    let bits = subst (Held txsq []) (sym (listed vs h)) h .2 .2 .2 .2 .2 .2 .2 .2 .2 in
+    let bits = subst (Legal txsq []) (sym (listed vs h)) h .2 .2 .2 .2 .2 .2 .2 .2 .2 in
     sized _ (getD vs 9 0) (bits .0) (bits .1)
 
 -- accepted values are those of their record and content
-same-values : (vs : List ℕ) → Held txsq [] vs → valuesOf (recordOf vs) ≡ vs
+same-values : (vs : List ℕ) → Legal txsq [] vs → valuesOf (recordOf vs) ≡ vs
 unfolding txsq valuesOf recordOf entries
 same-values vs h =
     let e = listed vs h in
-    let g = subst (Held txsq []) (sym e) h in
+    let g = subst (Legal txsq []) (sym e) h in
     let dollar = exactly 8 1 0x24 _ (getD vs 0 0) (g .0) (g .1) in
     let named = exactly 32 1 letters _ (getD vs 1 0) (g .2 .0) (g .2 .1) in
     let class = g .2 .2 .2 .2 in
@@ -100,12 +100,12 @@ pub long : (b : List Bool) (vs : List ℕ) → read txsq [] 0 b ≡ accepted vs 
 unfolding txsq entries
 long b vs e =
     let w = read-write txsq [] 0 vs b e in
-    let h = held txsq [] 0 vs b w in
+    let h = legal txsq [] 0 vs b w in
     let n = extent-laid txsq [] 0 vs b w ∙ ap (extent txsq 0) (sym (listed vs h)) in
     (omega (arith, n, fit vs h), omega (arith, fit vs h))
 
 -- the content that a record is lent with has the size of its bit length
-pub content-size : (r : Txsq × List ℕ) → Held txsq [] (valuesOf r) → length (r .1) ≡ bytesFor (r .0 .size)
+pub content-size : (r : Txsq × List ℕ) → Legal txsq [] (valuesOf r) → length (r .1) ≡ bytesFor (r .0 .size)
 unfolding txsq valuesOf
 content-size r h =
     let bits = h .2 .2 .2 .2 .2 .2 .2 .2 .2 in
@@ -136,7 +136,7 @@ written-long r m e =
     let vs = valuesOf r in
     let b = bitsOf (take (length m - 1) m) in
     let walked : read txsq [] 0 b ≡ accepted vs = was txsqs m vs (write-read-message txsqs (family .sound) m vs e) .walked in
-    let h = held txsq [] 0 vs b (read-write txsq [] 0 vs b walked) in
+    let h = legal txsq [] 0 vs b (read-write txsq [] 0 vs b walked) in
     let n : length b ≡ (length m - 1) * 8 = length-bits (take (length m - 1) m) ∙ ap (_* 8) (length-take-le (length m - 1) m (omega arith)) in
     omega (arith, long b vs walked .0, fit vs h, content-size r h, n)
 

@@ -11,9 +11,9 @@ use Rattle.bits.specs.laws.Bytes.{length-bits}
 use Rattle.frame.specs.Frame.{bytesFor}
 use Rattle.frame.specs.laws.Content.{content-part}
 use Rattle.format.specs.Fmt.{accepted, end, pad, read}
-use Rattle.format.specs.laws.Places.{value-at}
+use Rattle.format.specs.laws.Offsets.{value-at}
 use Rattle.format.specs.laws.Entries.{entries}
-use Rattle.format.specs.laws.Held.{held}
+use Rattle.format.specs.laws.Legal.{legal}
 use Rattle.format.specs.laws.Round.{read-write}
 use Rattle.format.specs.Words.{any, _‥_, only, kept, fill}
 use Rattle.format.specs.laws.Showing.{shows-none, shows-values}
@@ -36,7 +36,7 @@ module _ (s : List ℕ) {a : Answer} {n : ℕ} (reads : Reads s a) (number : n �
       let (vs, e, is-shown) = shows-values txsqs (family .judged) (λ r. Good (r .0)) Refused recordOf numberOf (λ r. refl) (λ c. refl) (λ r. r .1) [] s reads number z in
       let b = bitsOf (take (length s - 1) s) in
       let walked : read txsq [] 0 b ≡ accepted vs = was txsqs s vs e .walked in
-      let h = held txsq [] 0 vs b (read-write txsq [] 0 vs b walked) in
+      let h = legal txsq [] 0 vs b (read-write txsq [] 0 vs b walked) in
       let l = getD vs 9 0 in
       let entered : read txsq [] 0 b ≡ accepted (entries 0 13 vs) = walked ∙ ap accepted (sym (listed vs h)) in
       let is = value-at 11 txsq (entries 0 13 vs) b entered l (only l 4 any) kept (fill (pad l) end) refl in

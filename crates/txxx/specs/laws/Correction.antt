@@ -16,14 +16,14 @@ use Rattle.txxx.specs.Txxx.{letters, txxx, txxxs, valuesOf}
 use Rattle.txxx.specs.declared.reading.Txxx.{Txxx}
 
 -- the mark stands at bit m
-abbrev pub places : ℕ → List ℕ
-places m = 0 ∷ 8 ∷ 40 ∷ 56 ∷ 80 ∷ 88 ∷ 112 ∷ 120 ∷ 128 ∷ 144 ∷ 144 ∷ m ∷ []
+abbrev pub offsets : ℕ → List ℕ
+offsets m = 0 ∷ 8 ∷ 40 ∷ 56 ∷ 80 ∷ 88 ∷ 112 ∷ 120 ∷ 128 ∷ 144 ∷ 144 ∷ m ∷ []
 
 abbrev pub widths : List ℕ
 widths = 0 ∷ 0 ∷ 0 ∷ 24 ∷ 8 ∷ 24 ∷ 8 ∷ 8 ∷ 0 ∷ 0 ∷ 0 ∷ 8 ∷ []
 
 -- where each field stands hangs on the content's size alone, and so the table that the code looks in
-pub along : (r : Txxx × List ℕ) → spotsAlong (txxxs .fmt) [] (valuesOf r) 0 ≡ rows (places (144 + bytesFor (r .0 .size) * 8)) widths
+pub along : (r : Txxx × List ℕ) → spotsAlong (txxxs .fmt) [] (valuesOf r) 0 ≡ rows (offsets (144 + bytesFor (r .0 .size) * 8)) widths
 unfolding txxxs txxx valuesOf spotsAlong rows
 along r =
     let l = r .0 .size in

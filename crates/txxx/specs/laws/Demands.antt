@@ -15,10 +15,10 @@ use Rattle.frame.specs.laws.Sound.{frame-sound}
 use Rattle.format.specs.Fmt.{accepted, good as Fmt·good, pad, read, found}
 use Rattle.format.specs.Words.{code, twice, ago}
 use Rattle.format.specs.laws.Answers.{good-shown}
-use Rattle.format.specs.laws.Entries.{entries, held-entries}
+use Rattle.format.specs.laws.Entries.{entries, legal-entries}
 use Rattle.format.specs.laws.Extent.{extent, extent-laid}
 use Rattle.format.specs.laws.Family.{Family, written-front, read-written, corrected-as-written}
-use Rattle.format.specs.laws.Held.{Held, held, exactly, passed-twice}
+use Rattle.format.specs.laws.Legal.{Legal, legal, exactly, passed-twice}
 use Rattle.format.specs.laws.Round.{read-write}
 use Rattle.format.specs.laws.Zero.{Judged, only-numbered, twice-numbered}
 use Rattle.format.specs.Promises.{answered, readRecord, Writes, Corrects}
@@ -45,23 +45,23 @@ sized : (h : List ℕ) (l : ℕ) → l < 2 ^ 16 → twice 16 4 limits 1 filling 
 sized h l n e = let (most, long) = passed-twice 16 3 0 limits filling h l n e in (leb-true l 1_680 most, eqb-true (ago 5 h) (20 + bytesFor l) long)
 
 -- accepted values, entry by entry
-pub listed : (vs : List ℕ) → Held txxx [] vs → entries 0 12 vs ≡ vs
+pub listed : (vs : List ℕ) → Legal txxx [] vs → entries 0 12 vs ≡ vs
 unfolding txxx
-listed vs h = held-entries txxx 12 vs (λ l. tt) h
+listed vs h = legal-entries txxx 12 vs (λ l. tt) h
 
 -- the length is that of the bit length
-pub fit : (vs : List ℕ) → Held txxx [] vs → (getD vs 8 0 ≤ 1_680) × (getD vs 2 0 ≡ 20 + bytesFor (getD vs 8 0))
+pub fit : (vs : List ℕ) → Legal txxx [] vs → (getD vs 8 0 ≤ 1_680) × (getD vs 2 0 ≡ 20 + bytesFor (getD vs 8 0))
 unfolding txxx entries
 fit vs h =
-    let bits = subst (Held txxx []) (sym (listed vs h)) h .2 .2 .2 .2 .2 .2 .2 .2 in
+    let bits = subst (Legal txxx []) (sym (listed vs h)) h .2 .2 .2 .2 .2 .2 .2 .2 in
     sized _ (getD vs 8 0) (bits .0) (bits .1)
 
 -- accepted values are those of their record and content
-same-values : (vs : List ℕ) → Held txxx [] vs → valuesOf (recordOf vs) ≡ vs
+same-values : (vs : List ℕ) → Legal txxx [] vs → valuesOf (recordOf vs) ≡ vs
 unfolding txxx valuesOf recordOf entries
 same-values vs h =
     let e = listed vs h in
-    let g = subst (Held txxx []) (sym e) h in
+    let g = subst (Legal txxx []) (sym e) h in
     let dollar = exactly 8 1 0x24 _ (getD vs 0 0) (g .0) (g .1) in
     let named = exactly 32 1 letters _ (getD vs 1 0) (g .2 .0) (g .2 .1) in
     let l = getD vs 8 0 in
@@ -89,12 +89,12 @@ pub long : (b : List Bool) (vs : List ℕ) → read txxx [] 0 b ≡ accepted vs 
 unfolding txxx entries
 long b vs e =
     let w = read-write txxx [] 0 vs b e in
-    let h = held txxx [] 0 vs b w in
+    let h = legal txxx [] 0 vs b w in
     let n = extent-laid txxx [] 0 vs b w ∙ ap (extent txxx 0) (sym (listed vs h)) in
     (omega (arith, n, fit vs h .1), omega (arith, fit vs h .1))
 
 -- the content that a record is lent with has the size of its bit length
-pub content-size : (r : Txxx × List ℕ) → Held txxx [] (valuesOf r) → length (r .1) ≡ bytesFor (r .0 .size)
+pub content-size : (r : Txxx × List ℕ) → Legal txxx [] (valuesOf r) → length (r .1) ≡ bytesFor (r .0 .size)
 unfolding txxx valuesOf
 content-size r h =
     let bits = h .2 .2 .2 .2 .2 .2 .2 .2 in
@@ -118,7 +118,7 @@ unfolding txxxs
 read-long s vs e =
     let b = bitsOf (take (length s - 1) s) in
     let walked : read txxx [] 0 b ≡ accepted vs = was txxxs s vs e .walked in
-    let (small, size) = fit vs (held txxx [] 0 vs b (read-write txxx [] 0 vs b walked)) in
+    let (small, size) = fit vs (legal txxx [] 0 vs b (read-write txxx [] 0 vs b walked)) in
     let n : length b ≡ (length s - 1) * 8 = length-bits (take (length s - 1) s) ∙ ap (_* 8) (length-take-le (length s - 1) s (omega arith)) in
     (small, omega (arith, long b vs walked .0, size, n))
 
@@ -132,7 +132,7 @@ good s r c = good-shown Good Refused outOf (λ q. refl) (λ c. refl) (readRecord
 written-long : (r : Txxx × List ℕ) (m : List ℕ) → writeMessage txxxs (valuesOf r) ≡ accepted m → length m ≡ 20 + length (r .1)
 unfolding txxxs valuesOf
 written-long r m e =
-    omega (arith, read-long m (valuesOf r) (write-read-message txxxs (family .sound) m (valuesOf r) e) .1, content-size r (held txxx [] 0 (valuesOf r) _ (made txxxs m (valuesOf r) e .wrote)))
+    omega (arith, read-long m (valuesOf r) (write-read-message txxxs (family .sound) m (valuesOf r) e) .1, content-size r (legal txxx [] 0 (valuesOf r) _ (made txxxs m (valuesOf r) e .wrote)))
 
 -- What is written is read back as the same record, and the same content is shown.
 pub written-reads : (s : List ℕ) (r : Txxx) (c t : List ℕ) → Bytes c → Writes txxxs s 0 t (valuesOf (r, c)) → let m = take (20 + length c) t in Reads m (Good r) × Shows m c

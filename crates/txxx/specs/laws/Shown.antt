@@ -13,9 +13,9 @@ use Rattle.frame.specs.laws.Content.{content-part}
 use Rattle.format.specs.Fmt.{accepted, end, pad, read}
 use Rattle.format.specs.Message.{between, readMessage}
 use Rattle.format.specs.Promises.{readRecord}
-use Rattle.format.specs.laws.Places.{value-at}
+use Rattle.format.specs.laws.Offsets.{value-at}
 use Rattle.format.specs.laws.Entries.{entries}
-use Rattle.format.specs.laws.Held.{held}
+use Rattle.format.specs.laws.Legal.{legal}
 use Rattle.format.specs.laws.Round.{also-inv, read-write}
 use Rattle.format.specs.Words.{any, _‥_, only, kept, num, fill}
 use Rattle.format.specs.laws.Showing.{shows-none, shows-values}
@@ -40,7 +40,7 @@ module _ (s : List ℕ) {a : Answer} {n : ℕ} (reads : Reads s a) (number : n �
       let b = bitsOf (take (length s - 1) s) in
       let walked : read txxx [] 0 b ≡ accepted vs = was txxxs s vs e .walked in
       let l = getD vs 8 0 in
-      let entered : read txxx [] 0 b ≡ accepted (entries 0 12 vs) = walked ∙ ap accepted (sym (listed vs (held txxx [] 0 vs b (read-write txxx [] 0 vs b walked)))) in
+      let entered : read txxx [] 0 b ≡ accepted (entries 0 12 vs) = walked ∙ ap accepted (sym (listed vs (legal txxx [] 0 vs b (read-write txxx [] 0 vs b walked)))) in
       let is = value-at 9 txxx (entries 0 12 vs) b entered l (only l 4 any) kept (fill (pad l) (num 8 (0 ‥ 255) end)) refl in
       let filled = value-at 10 txxx (entries 0 12 vs) b entered (pad l) (only (pad l) 5 (0 ‥ 0)) kept (num 8 (0 ‥ 255) end) refl in
       let size : length s ≡ 18 + bytesFor l + 2 = omega (arith, read-long s vs e .1) in

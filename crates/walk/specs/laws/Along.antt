@@ -95,7 +95,7 @@ module _ {s : List ℕ} {r q : Walk} (w : ℕ) (some : 0 < w) (small : w ≤ 32)
   pub along-decide : (g : ℕ → Fmt → Fmt) → q ≡ ranged s w false lo hi 4 r → Along s (λ f. deciding w (lo ‥ hi) λ n. g n f) (g (q .v)) r (q .v ∷ []) q
   along-decide g d = record { on = λ {o} {all} {i} {f} {us} x. go us (q .v) x (λ h e. step-decide w some small reach 3 lo hi (lo ‥ hi) (λ v. refl) e d) }
 
--- what a number's walk is: its value and its place
+-- what a number's walk is: its value and its offset
 module _ (s : List ℕ) (r : Walk) {q : Walk} (w : ℕ) (b : Bool) (lo hi c : ℕ) (d : q ≡ ranged s w b lo hi c r) where
   pub ranged-v : q .v ≡ got s (r .at) w
   unfolding onward

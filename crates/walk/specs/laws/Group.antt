@@ -115,7 +115,7 @@ parts-there (part w c t ∷ ps) i h b e = go (leb w (length b)) refl (t h (value
 passed-clean : (r : Walk) (x : Fault) (at : ℕ) (p : Walk) → Passes r x at p → p .code ≡ 0 → (r .code ≡ 0) × (x ≡ good)
 passed-clean r x at p e z = go (eqb (r .code) 0) refl x (e (accepted []) ∙ clear p (accepted []) z)
   where
-    go : (t : Bool) → eqb (r .code) 0 ≡ t → (x : Fault) → _≡_ {A = Out (List ℕ)} (cond t (check x at (accepted [])) (refused (r .code) (r .place))) (accepted []) → (r .code ≡ 0) × (x ≡ good)
+    go : (t : Bool) → eqb (r .code) 0 ≡ t → (x : Fault) → _≡_ {A = Out (List ℕ)} (cond t (check x at (accepted [])) (refused (r .code) (r .offset))) (accepted []) → (r .code ≡ 0) × (x ≡ good)
     go false t x e = clash e
     go true t (bad c i) e = clash e
     go true t good e = (eqb-true (r .code) 0 t, refl)

@@ -30,7 +30,7 @@ pub record Judging (o : Out (List Bool)) (f : Fmt) (h : List ℕ) (at : ℕ) (vs
 
 -- ---- one step
 
--- two faults at one place
+-- two faults at one offset
 two-checks : {A : Type 0} (x y : Fault) (at : ℕ) (o : Out A) → check x at (check y at o) ≡ check (orElse x y) at o
 two-checks good y at o = refl
 two-checks (bad d i) y at o = refl

@@ -44,7 +44,7 @@ module _ {g g′ : Fmt → Fmt} {r : Walk} {us : List ℕ} {r′ : Walk} where
   pub judges-under : (k : Fmt → Fmt) → JudgesAlong g g′ r us r′ → JudgesAlong (λ f. g (k f)) (λ f. g′ (k f)) r us r′
   judges-under k a = record { on = λ x. a .on x }
 
--- a step goes no further than its bits: so a loop bounds the place that it comes to
+-- a step goes no further than its bits: so a loop bounds the offset that it comes to
 pub step-near : {q : Walk} (r : Walk) (w : ℕ) (b : Bool) (u c i : ℕ) → q ≡ onward w b u c i r → q .at ≤ r .at + w
 unfolding onward
 step-near r w b u c i d = subst⁻¹ (λ (q : Walk). q .at ≤ r .at + w) d (mod-le (r .at + w) (2 ^ 64))

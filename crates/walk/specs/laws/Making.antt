@@ -70,7 +70,7 @@ module _ (l : Layout) (vs s : List ℕ) {r : Walk} (j : Judged (check (fault (l 
       first good o = refl
       first (bad c i) o = refl
 
-      go : (t : Bool) → eqb (r .code) 0 ≡ t → after (cond t (accepted (j .laid)) (refused (r .code) (r .place))) (closed l) ≡ cond t (check (fault (size l whole)) 0 (accepted message)) (refused (r .code) (r .place))
+      go : (t : Bool) → eqb (r .code) 0 ≡ t → after (cond t (accepted (j .laid)) (refused (r .code) (r .offset))) (closed l) ≡ cond t (check (fault (size l whole)) 0 (accepted message)) (refused (r .code) (r .offset))
       go false t = refl
       go true t =
           let m : length (j .laid) / 8 ≡ n = omega (arith, j .long (eqb-true (r .code) 0 t)) in
@@ -82,7 +82,7 @@ module _ (l : Layout) (vs s : List ℕ) {r : Walk} (j : Judged (check (fault (l 
     where
       go : (x y z : Bool) → eqb (r .code) 0 ≡ x → between (l .least) (l .most) whole ≡ y → leb whole (length s) ≡ z → Writes l s code s vs
       go false y z ex ey ez =
-          let m : into s (writeMessage l vs) ≡ refused code (r .place) = ap (into s) makes ∙ rw (ex, e, ex) refl in
+          let m : into s (writeMessage l vs) ≡ refused code (r .offset) = ap (into s) makes ∙ rw (ex, e, ex) refl in
           refuses m
       go true false z ex ey ez =
           let m : into s (writeMessage l vs) ≡ refused code 0 = ap (into s) makes ∙ rw (ex, ey, e, ex, ey) refl in

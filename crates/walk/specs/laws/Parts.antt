@@ -66,7 +66,7 @@ module _ {o : Out (List ℕ)} {all : Fmt} {i : ℕ} {s : List ℕ} {h : List ℕ
           subst⁻¹ (λ v. Reading o all i s f (v ∷ h) (at + n) (λ vs. k (v ∷ vs)) q) v
           (group-step p some small reach e (subst⁻¹ (λ x. Passes r x at p) same pass) (λ z. omega (arith, parts-there ps 0 h b (sym same ∙ z), all-wide, long, length-drop at (bitsOf s), length-bits s)) is)
 
--- ---- its value and its place, whichever way it was read
+-- ---- its value and its offset, whichever way it was read
 
 module _ (s : List ℕ) (n : ℕ) (g : Pieces) (p r : Walk) {q : Walk} where
   pub parts-v : g .v ≡ got s (r .at) n → q ≡ partwise s n g p r → q .v ≡ got s (r .at) n

@@ -87,8 +87,8 @@ piece-step {j} {h₀} {n} {v} {i} {ps} {h} {g} w lo hi e d = subst⁻¹ (λ q. P
     bits : g .v / 2 ^ (g .left - w) % 2 ^ w ≡ u
     bits = let m : g .left - w ≡ k = omega (arith, e .left) in ap₂ (λ a b. a / 2 ^ b % 2 ^ w) (e .value) m
 
-    place : g .width - g .left ≡ i
-    place = omega (arith, e .left, e .width, e .all)
+    offset : g .width - g .left ≡ i
+    offset = omega (arith, e .left, e .width, e .all)
 
     below : (t : Bool) → cond t (g .width - g .left) (g .into) ≤ n
     below true = omega (arith, e .width)
@@ -99,7 +99,7 @@ piece-step {j} {h₀} {n} {v} {i} {ps} {h} {g} w lo hi e d = subst⁻¹ (λ q. P
     blames false = refl
 
     go : (c : ℕ) → g .code ≡ c → orElse (blamed (g .code) (g .into)) (orElse (unless (leb lo u && leb u hi) 4 i) rest) ≡ orElse (blamed (pieced w lo hi g .code) (pieced w lo hi g .into)) rest
-    go zero z = rw (z, bits, place) (blames (leb lo u && leb u hi))
+    go zero z = rw (z, bits, offset) (blames (leb lo u && leb u hi))
     go (suc c) z = rw (z, ne-eqb (suc c) 0 (λ z. omega arith)) refl
 
 -- A number whose parts are judged: its fault is what g found.

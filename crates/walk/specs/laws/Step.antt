@@ -22,9 +22,9 @@ use Rattle.walk.specs.declared.walk.Walk.{Walk}
 
 -- a refusal sticks
 abbrev pub sticky : {A : Type 0} → Walk → Out A → Out A
-sticky r o = cond (eqb (r .code) 0) o (refused (r .code) (r .place))
+sticky r o = cond (eqb (r .code) 0) o (refused (r .code) (r .offset))
 
-pub stuck : {A : Type 0} (r : Walk) (o : Out A) → (r .code ≡ 0 → ⊥) → sticky r o ≡ refused (r .code) (r .place)
+pub stuck : {A : Type 0} (r : Walk) (o : Out A) → (r .code ≡ 0 → ⊥) → sticky r o ≡ refused (r .code) (r .offset)
 stuck r o h = rw (ne-eqb (r .code) 0 h) refl
 
 pub clear : {A : Type 0} (r : Walk) (o : Out A) → r .code ≡ 0 → sticky r o ≡ o

@@ -20,8 +20,8 @@ use Rattle.warning.specs.declared.reading.Warning.{Warning}
 
 -- ---- the table of the fields' numbers
 
-abbrev pub places : List ℕ
-places = 0 ∷ 6 ∷ 8 ∷ 60 ∷ 83 ∷ 156 ∷ 176 ∷ 106 ∷ 109 ∷ 118 ∷ 127 ∷ 133 ∷ 142 ∷ 147 ∷ 106 ∷ 114 ∷ 119 ∷ 124 ∷ 106 ∷ 114 ∷ 119 ∷ 106 ∷ 115 ∷ 106 ∷ 115 ∷ 124 ∷ 134 ∷ []
+abbrev pub offsets : List ℕ
+offsets = 0 ∷ 6 ∷ 8 ∷ 60 ∷ 83 ∷ 156 ∷ 176 ∷ 106 ∷ 109 ∷ 118 ∷ 127 ∷ 133 ∷ 142 ∷ 147 ∷ 106 ∷ 114 ∷ 119 ∷ 124 ∷ 106 ∷ 114 ∷ 119 ∷ 106 ∷ 115 ∷ 106 ∷ 115 ∷ 124 ∷ 134 ∷ []
 
 abbrev pub widths : List ℕ
 widths = 0 ∷ 2 ∷ 30 ∷ 23 ∷ 23 ∷ 20 ∷ 6 ∷ 3 ∷ 9 ∷ 9 ∷ 6 ∷ 9 ∷ 5 ∷ 9 ∷ 8 ∷ 5 ∷ 5 ∷ 4 ∷ 8 ∷ 5 ∷ 13 ∷ 9 ∷ 8 ∷ 9 ∷ 9 ∷ 10 ∷ 13 ∷ []
@@ -42,7 +42,7 @@ along r = go (r .body)
     go (Surge b) = refl
 
 -- the table has the fields of every kind
-tabled : (t : Kind) → (length places ≡ length (ofKinds (typeOf t) kinds widths)) × (picks (spots t) (fields t) ≡ rows places (ofKinds (typeOf t) kinds widths))
+tabled : (t : Kind) → (length offsets ≡ length (ofKinds (typeOf t) kinds widths)) × (picks (spots t) (fields t) ≡ rows offsets (ofKinds (typeOf t) kinds widths))
 unfolding picks rows ofKinds
 tabled cyclone = (refl, refl)
 tabled gale = (refl, refl)
@@ -51,16 +51,16 @@ tabled fog = (refl, refl)
 tabled surge = (refl, refl)
 
 -- the field of number n, looked up for a warning of type k
-module _ (k n : ℕ) {p w : ℕ} (looked-up : (p ≡ getD places n 0) × (w ≡ ofKind k (getD kinds n 0) (getD widths n 0))) where
+module _ (k n : ℕ) {p w : ℕ} (looked-up : (p ≡ getD offsets n 0) × (w ≡ ofKind k (getD kinds n 0) (getD widths n 0))) where
   pub stands : (r : Warning) → k ≡ typeOf (bodyKind (r .body)) → spot (warnings .fmt) [] (valuesOf r) (getD (fields (bodyKind (r .body))) n 0) ≡ standing p w
   stands r e =
       let t = bodyKind (r .body) in
       let l : w ≡ ofKind (typeOf t) (getD kinds n 0) (getD widths n 0) = looked-up .1 ∙ ap (λ k. ofKind k (getD kinds n 0) (getD widths n 0)) e in
-      named-stands (fields t) places widths kinds (typeOf t) n (looked-up .0, l) (warnings .fmt) (valuesOf r) (tabled t .0) (ap (λ l. getD l 0 none) (along r)) (ap (λ l. picks l (fields t)) (along r) ∙ tabled t .1)
+      named-stands (fields t) offsets widths kinds (typeOf t) n (looked-up .0, l) (warnings .fmt) (valuesOf r) (tabled t .0) (ap (λ l. getD l 0 none) (along r)) (ap (λ l. picks l (fields t)) (along r) ∙ tabled t .1)
 
   pub thin : w ≤ 32
   unfolding slim
-  thin = named-slim (fields cyclone) places widths kinds k n {p = p} looked-up refl
+  thin = named-slim (fields cyclone) offsets widths kinds k n {p = p} looked-up refl
 
 pub spotted : (r : Warning) (i : ℕ) → spot (warnings .fmt) [] (valuesOf r) i ≡ spotOf (bodyKind (r .body)) i
 spotted r i = spot-along (warnings .fmt) (valuesOf r) i ∙ ap (λ t. getD t i none) (along r)

@@ -22,7 +22,7 @@ use Rattle.format.specs.Words.{_‥_, wide, num, fill}
 use Rattle.format.specs.laws.Answers.{good-read}
 use Rattle.format.specs.laws.Entries.{entries, entries-behind}
 use Rattle.format.specs.laws.Family.{Family, read-values, one-size, written-front, read-written, corrected-as-written, correction-none}
-use Rattle.format.specs.laws.Held.{Held, exactly, ranged}
+use Rattle.format.specs.laws.Legal.{Legal, exactly, ranged}
 use Rattle.format.specs.laws.Whole.{was}
 use Rattle.format.specs.laws.Zero.{Judged, Counted, only-numbered}
 use Rattle.ais_common.specs.Time.{spellTime, timeOf}
@@ -31,7 +31,7 @@ use Rattle.ais_common.specs.laws.Walking.{time-numbered}
 use Rattle.warning.specs.Changed.{spotOf, fields, fieldOf, changed}
 use Rattle.warning.specs.Promises.{Reads}
 use Rattle.warning.specs.Warning.{tail, warning, warnings, valuesAs, valuesOf, recordAs, recordOf, answerOf, outOf}
-use Rattle.warning.specs.laws.Correction.{places, widths, kinds, stands, spotted, changed-values}
+use Rattle.warning.specs.laws.Correction.{offsets, widths, kinds, stands, spotted, changed-values}
 use Rattle.warning.specs.laws.Sound.{front, bytes, type-at, sound}
 use Rattle.warning.specs.laws.Told.{recorded, kind-type}
 use Rattle.warning.specs.declared.reading.Warning.{Warning}
@@ -40,18 +40,18 @@ use Rattle.warning.specs.declared.reading.Answer.the-variants.{Good, Ref
 -- ---- records and values are one another's
 
 -- the values of a body and of what follows it are those of the record that they make
-tail-same : (t : Kind) (h us : List ℕ) → Held (body t tail) h us → bodyValues (bodyOf t us) (spellTime (timeOf (getD us (bodyLong t) 0)) ∷ getD us (1 + bodyLong t) 0 ∷ 0 ∷ []) ≡ us
+tail-same : (t : Kind) (h us : List ℕ) → Legal (body t tail) h us → bodyValues (bodyOf t us) (spellTime (timeOf (getD us (bodyLong t) 0)) ∷ getD us (1 + bodyLong t) 0 ∷ 0 ∷ []) ≡ us
 unfolding entries wide
 tail-same cyclone h us e =
     let es = entries-behind (body cyclone tail) h 10 us tt e in
-    let g = subst (Held (body cyclone tail) h) (sym es) e in
+    let g = subst (Legal (body cyclone tail) h) (sym es) e in
     let g7 = g .2 .2 .2 .2 .2 .2 .2 in
     let time = spell-time (getD us 7 0) (g7 .0) in
     let last = exactly 2 4 0 _ (getD us 9 0) (g7 .2 .2 .0) (g7 .2 .2 .1) in
     (λ x. bodyValues (bodyOf cyclone us) (time x ∷ getD us 8 0 ∷ sym last x ∷ [])) ∙ es
 tail-same gale h us e =
     let es = entries-behind (body gale tail) h 8 us tt e in
-    let g = subst (Held (body gale tail) h) (sym es) e in
+    let g = subst (Legal (body gale tail) h) (sym es) e in
     let g4 = g .2 .2 .2 .2 in
     let g5 = g4 .2 in
     let fill = exactly 28 4 0 _ (getD us 4 0) (g4 .0) (g4 .1) in
@@ -60,7 +60,7 @@ tail-same gale h us e =
     (λ x. getD us 0 0 ∷ getD us 1 0 ∷ getD us 2 0 ∷ getD us 3 0 ∷ sym fill x ∷ time x ∷ getD us 6 0 ∷ sym last x ∷ []) ∙ es
 tail-same waves h us e =
     let es = entries-behind (body waves tail) h 7 us tt e in
-    let g = subst (Held (body waves tail) h) (sym es) e in
+    let g = subst (Legal (body waves tail) h) (sym es) e in
     let g3 = g .2 .2 .2 in
     let g4 = g3 .2 in
     let fill = exactly 24 4 0 _ (getD us 3 0) (g3 .0) (g3 .1) in
@@ -69,7 +69,7 @@ tail-same waves h us e =
     (λ x. getD us 0 0 ∷ getD us 1 0 ∷ getD us 2 0 ∷ sym fill x ∷ time x ∷ getD us 5 0 ∷ sym last x ∷ []) ∙ es
 tail-same fog h us e =
     let es = entries-behind (body fog tail) h 6 us tt e in
-    let g = subst (Held (body fog tail) h) (sym es) e in
+    let g = subst (Legal (body fog tail) h) (sym es) e in
     let g2 = g .2 .2 in
     let g3 = g2 .2 in
     let fill = exactly 33 4 0 _ (getD us 2 0) (g2 .0) (g2 .1) in
@@ -78,7 +78,7 @@ tail-same fog h us e =
     (λ x. getD us 0 0 ∷ getD us 1 0 ∷ sym fill x ∷ time x ∷ getD us 4 0 ∷ sym last x ∷ []) ∙ es
 tail-same surge h us e =
     let es = entries-behind (body surge tail) h 8 us tt e in
-    let g = subst (Held (body surge tail) h) (sym es) e in
+    let g = subst (Legal (body surge tail) h) (sym es) e in
     let g4 = g .2 .2 .2 .2 in
     let g5 = g4 .2 in
     let fill = exactly 9 4 0 _ (getD us 4 0) (g4 .0) (g4 .1) in
@@ -106,7 +106,7 @@ module _ (repeat source type longitude latitude : ℕ) (h us : List ℕ) where
   abbrev whole : List ℕ
   whole = 8 ∷ repeat ∷ source ∷ 0 ∷ 412 ∷ 3 ∷ type ∷ longitude ∷ latitude ∷ us
 
-  whole-same : (t : Kind) → typeOf t ≡ type → Held (body t tail) h us → valuesOf (recordAs t whole) ≡ whole
+  whole-same : (t : Kind) → typeOf t ≡ type → Legal (body t tail) h us → valuesOf (recordAs t whole) ≡ whole
   unfolding valuesAs recordAs
   whole-same t is e = go t is (tail-same t h us e)
     where
@@ -121,7 +121,7 @@ module _ (repeat source type longitude latitude : ℕ) (h us : List ℕ) where
       go surge is e = λ i. head (is i) (e i)
 
 -- accepted values are those of their record: the codes and fills are as they must be
-same-values : (vs : List ℕ) → Held warning [] vs → valuesOf (recordOf vs) ≡ vs
+same-values : (vs : List ℕ) → Legal warning [] vs → valuesOf (recordOf vs) ≡ vs
 same-values vs h =
     let f = front vs h in
     let (lo, hi) = ranged 1 5 (f .type) (f .type-is) in
@@ -131,7 +131,7 @@ same-values vs h =
     ap (λ vs. valuesOf (recordOf vs)) is ∙ whole-same (f .repeat) (f .source) (f .type) (f .longitude) (f .latitude) (f .before) (f .left) (kindOf (f .type)) t (f .holds) ∙ sym is
 
 -- a record's time fits where its values are accepted
-held-time : (b : Body) (h : List ℕ) (time hours : ℕ) → Held (body (kindOf (typeOf (bodyKind b))) tail) h (bodyValues b (time ∷ hours ∷ 0 ∷ [])) → time < 2 ^ 20
+held-time : (b : Body) (h : List ℕ) (time hours : ℕ) → Legal (body (kindOf (typeOf (bodyKind b))) tail) h (bodyValues b (time ∷ hours ∷ 0 ∷ [])) → time < 2 ^ 20
 unfolding wide
 held-time (Cyclone b) h time hours e = e .2 .2 .2 .2 .2 .2 .2 .0
 held-time (Gale b) h time hours e = e .2 .2 .2 .2 .2 .0
@@ -139,7 +139,7 @@ held-time (Waves b) h time hours e = e .2 .2 .2 .2 .0
 held-time (Fog b) h time hours e = e .2 .2 .2 .0
 held-time (Surge b) h time hours e = e .2 .2 .2 .2 .2 .0
 
-same-record : (r : Warning) → Held warning [] (valuesOf r) → recordOf (valuesOf r) ≡ r
+same-record : (r : Warning) → Legal warning [] (valuesOf r) → recordOf (valuesOf r) ≡ r
 unfolding valuesAs warning
 same-record r h =
     let fits = held-time (r .body) _ (spellTime (r .time)) (r .hours) (h .2 .2 .2 .2 .2 .2 .2 .2 .2) in
@@ -201,7 +201,7 @@ family = record {
 }
 
 -- the field of number n, looked up by the type k that the code found there, stands where the table says
-pub looked-stands : (s : List ℕ) (n : ℕ) {k p w : ℕ} → Bytes s → k ≡ got s 56 4 → (p ≡ getD places n 0) × (w ≡ ofKind k (getD kinds n 0) (getD widths n 0))
+pub looked-stands : (s : List ℕ) (n : ℕ) {k p w : ℕ} → Bytes s → k ≡ got s 56 4 → (p ≡ getD offsets n 0) × (w ≡ ofKind k (getD kinds n 0) (getD widths n 0))
     → (r : Warning) → readRecord warnings recordOf s ≡ accepted r → spot (warnings .fmt) [] (valuesOf r) (fieldOf (fieldAt s 56 4) n) ≡ standing p w
 unfolding warnings valuesAs
 looked-stands s n {k} fine is l r e =

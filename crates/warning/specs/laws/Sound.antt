@@ -14,8 +14,8 @@ use Rattle.format.specs.Fmt.{accepted, read}
 use Rattle.format.specs.Message.{Sound, between}
 use Rattle.format.specs.Words.{_‥_, only, wide, kept}
 use Rattle.format.specs.laws.Extent.{extent, extent-laid}
-use Rattle.format.specs.laws.Held.{Held, held, passed, exactly}
-use Rattle.format.specs.laws.Places.{value-at, choice-at}
+use Rattle.format.specs.laws.Legal.{Legal, legal, passed, exactly}
+use Rattle.format.specs.laws.Offsets.{value-at, choice-at}
 use Rattle.format.specs.laws.Round.{read-write}
 use Rattle.warning.specs.Warning.{asked, tail, rest, warning, warnings}
 
@@ -39,9 +39,9 @@ pub record Front (vs : List ℕ) : Type 0 where
   pub application-is : application ≡ 3
   pub type-is : between 1 5 type ≡ true
   pub before : List ℕ
-  pub holds : Held (body (kindOf type) tail) before left
+  pub holds : Legal (body (kindOf type) tail) before left
 
-pub front : (vs : List ℕ) → Held warning [] vs → Front vs
+pub front : (vs : List ℕ) → Legal warning [] vs → Front vs
 unfolding warning
 front [] h = absurd h
 front (a ∷ []) h = absurd (h .2)
@@ -91,7 +91,7 @@ spans surge us = refl
 
 module _ (s vs : List ℕ) (e : read warning [] 0 (bitsOf s) ≡ accepted vs) where
   abbrev begins : Front vs
-  begins = front vs (held warning [] 0 vs (bitsOf s) (read-write warning [] 0 vs (bitsOf s) e))
+  begins = front vs (legal warning [] 0 vs (bitsOf s) (read-write warning [] 0 vs (bitsOf s) e))
 
   pub bytes : length s ≡ 23
   unfolding warning

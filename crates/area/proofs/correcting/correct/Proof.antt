@@ -1,4 +1,4 @@
--- `correct` is the correction in place of every family, with the area's fields read before and behind the change and the table of its fields' numbers.
+-- `correct` is the correction in@@offset of every family, with the area's fields read before and behind the change and the table of its fields' numbers.
 use mathlib.Core.Path.{refl, ap, _∙_}
 use Rattle.bits.specs.Bits.{Bytes, fieldAt}
 use Rattle.format.specs.Fmt.{also}

@@ -26,7 +26,7 @@ returns : tie.Need-returns
 returns c =
     let test = c .before .before in
     let a = test .before .before .args in
-    ap Refused (c .choose .ensures ∙ ap (λ x. cond x 1 (a .lead)) (c .before .none .ensures))
+    ap Refused (c .choose-code .ensures ∙ ap (λ x. cond x 1 (a .lead)) (c .before .no-refusal .ensures))
     ∙ sym (ap (λ o. answerOf (also recordOf o)) (other-size area 31 31 (a .lead) (a .s .now) (λ l u. test .if1 .taken (omega (arith, l, u)))))
 
 returns-2 : tie.Need-returns-2
@@ -96,7 +96,7 @@ returns-2 c =
       advice = n7 .num7 .result .v;
     })) (Refused code))
     ∙ ap (λ r. cond (eqb code 0) (Good r) (Refused code)) (sym back)
-    ∙ told-so Good Refused recordOf _ _ code (ended .end .result .place) (w .so)
+    ∙ told-so Good Refused recordOf _ _ code (ended .end .result .offset) (w .so)
     ∙ sym (ap (λ o. answerOf (also recordOf o)) (exact-fields area 31 (a .lead) s (λ z. test .if1 .left)))
 
 pub fields-spec : {M : Type 1} → statement M

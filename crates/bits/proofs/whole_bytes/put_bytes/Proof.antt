@@ -23,9 +23,9 @@ returns c =
 returns-2 : tie.Need-returns-2
 returns-2 c =
     let a = c .before .before .before .before .before .args in
-    let held = sym (c .before .if1 .taken) ∙ c .before .before .spans .ensures in
-    let fits = leb-true (a .at + length (a .t .now) * 8) (length (a .buf .now) * 8) (sym held) in
-    (held, poured-none (a .buf .now) (a .at) (a .t .now) (λ i. c .before .before .before .before .slice-known .given i .fits) (omega arith) fits)
+    let holding = sym (c .before .if1 .taken) ∙ c .before .before .spans .ensures in
+    let fits = leb-true (a .at + length (a .t .now) * 8) (length (a .buf .now) * 8) (sym holding) in
+    (holding, poured-none (a .buf .now) (a .at) (a .t .now) (λ i. c .before .before .before .before .slice-known .given i .fits) (omega arith) fits)
 
 returns-3 : tie.Need-returns-3
 returns-3 c = (sym (c .if1 .left) ∙ c .before .spans .ensures, refl)

@@ -1,4 +1,4 @@
--- `read` is the packet's `read`, and its record's numbers in the row with the content's place and size.
+-- `read` is the packet's `read`, and its record's numbers in the row with the content's offset and size.
 use mathlib.Core.Path.{sym, ap, subst, _∙_}
 use native.Mathlib.Omega.{arith}
 use Rattle.format.specs.Fmt.{accepted}

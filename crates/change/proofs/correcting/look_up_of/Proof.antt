@@ -12,7 +12,7 @@ returns c =
     let at = width .before in
     let st = at .before .before .before .before in
     let k = st .args .kind in
-    (at .entry .ensures, c .held .ensures ∙ ap₂ (λ o w. ofKind k o w) (of .entry3 .ensures) (width .entry2 .ensures))
+    (at .entry .ensures, c .width-of-kind .ensures ∙ ap₂ (λ o w. ofKind k o w) (of .entry3 .ensures) (width .entry2 .ensures))
 
 pub look-up-of-spec : {M : Type 1} → statement M
 look-up-of-spec =

@@ -11,7 +11,7 @@ returns c =
     let p = c .before .before in
     let n = p .before .before in
     let a = n .before .before .args in
-    p .stamp .ensures ∙ ap (λ n. stamped n (a .buf .now)) (n .less .ensures) ∙ stamp-last (a .buf .now)
+    p .stamp .ensures ∙ ap (λ n. stamped n (a .buf .now)) (n .one-less .ensures) ∙ stamp-last (a .buf .now)
 
 pub seal-spec : {M : Type 1} → statement M
 seal-spec = tie.close (tie.spec (λ c κs. search needs) (λ c κs. search needs) (λ c. search needs) returns)

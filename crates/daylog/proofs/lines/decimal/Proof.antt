@@ -19,8 +19,8 @@ Inv-loop out₀ at number end last₀ rest₀ out last rest =
 abbrev μ-loop : tie.MeasureT-loop
 μ-loop out₀ at number end last₀ rest₀ out last rest = rest
 
-places-requires : tie.Need-places-requires Inv-loop μ-loop
-places-requires c κs = tt
+digit-count-requires : tie.Need-digit-count-requires Inv-loop μ-loop
+digit-count-requires c κs = tt
 
 add-end : tie.Need-add-end Inv-loop μ-loop
 add-end c = omega arith
@@ -85,7 +85,7 @@ decimal-spec =
     (tie.spec
     Inv-loop
     μ-loop
-    places-requires
+    digit-count-requires
     add-end
     sub-last
     loop-holds

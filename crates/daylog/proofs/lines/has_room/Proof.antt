@@ -1,4 +1,4 @@
--- `has_room` compares what is left past the place, where there is any.
+-- `has_room` compares what is left past the offset, where there is any.
 use mathlib.Core.Path.{sym}
 use Prim.Native.Nat.{_+_}
 use native.Mathlib.Omega.{arith}

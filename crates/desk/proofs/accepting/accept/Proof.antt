@@ -62,7 +62,7 @@ join-requires c κs =
     let number = c .before .before .before .before .open-at .ensures in
     let (deep, good) = tests-passed (a .a ∷ a .b ∷ a .c ∷ a .d ∷ []) (a .store .now) zero in
     let low : c .before .before .before .before .open-at .result < fourPlaces = c .before .before .if2 .taken in
-    let there = c .before .pick .ensures ∙ ap (placeAt (a .a ∷ a .b ∷ a .c ∷ a .d ∷ [])) (last-of-four (c .before .before .before .before .open-at .result) low ∙ number) in
+    let there = c .before .place-at .ensures ∙ ap (placeAt (a .a ∷ a .b ∷ a .c ∷ a .d ∷ [])) (last-of-four (c .before .before .before .before .open-at .result) low ∙ number) in
     let sized = open-sized (a .a ∷ a .b ∷ a .c ∷ a .d ∷ []) (r .number) good (subst (_< fourPlaces) number low) in
     let own = fit .own in
     let total = fit .total in
@@ -77,7 +77,7 @@ returns-2 c =
     let zero = passed (c .before .before .before .before .before .before .before .before) in
     let number = c .before .before .before .before .before .before .before .open-at .ensures in
     let low : c .before .before .before .before .before .before .before .open-at .result < fourPlaces = c .before .before .before .before .before .if2 .taken in
-    let there = c .before .before .before .before .pick .ensures ∙ ap (placeAt (a .a ∷ a .b ∷ a .c ∷ a .d ∷ [])) (last-of-four (c .before .before .before .before .before .before .before .open-at .result) low ∙ number) in
+    let there = c .before .before .before .before .place-at .ensures ∙ ap (placeAt (a .a ∷ a .b ∷ a .c ∷ a .d ∷ [])) (last-of-four (c .before .before .before .before .before .before .before .open-at .result) low ∙ number) in
     let j = c .before .before in
     let gives = subst₂ (λ i p. Gives (a .a) (joins (a .store .now) i p r (content m)) (j .join .result) (j .join .last .1 .1 .1 .0)) number there (j .join .ensures) in
     of-four (a .a) (a .b) (a .c) (a .d) (a .store .now) (a .packet .now) _ _ _ (joins-open (a .a) (a .b) (a .c) (a .d) (a .store .now) (a .packet .now) r (content m) is zero (subst (_< fourPlaces) number low)) gives

@@ -14,13 +14,13 @@ use Rattle.desk.proofs.asking.ask.Statement.{statement}
 use Rattle.desk.proofs.asking.ask.Tie as tie
 
 -- what is known of the place that was picked
-here : (k : tie.After-pick) → let a = k .before .before .before .before .before .before .before .before .args in Found (a .a) (a .b) (a .c) (a .d) (a .store .now) (a .number) (k .before .before .open-at .result) (k .pick .result)
+here : (k : tie.After-place-at) → let a = k .before .before .before .before .before .before .before .before .args in Found (a .a) (a .b) (a .c) (a .d) (a .store .now) (a .number) (k .before .before .open-at .result) (k .place-at .result)
 here k =
     let o = k .before .before in
     let t = o .before .before in
     let a = t .before .before .before .before .args in
-    found (a .a) (a .b) (a .c) (a .d) (a .store .now) (a .number) (o .open-at .result) (k .pick .result)
-    (sym (t .first-tests .ensures) ∙ o .before .if1 .left) (o .open-at .ensures) (omega (arith, k .before .if2 .left)) (k .pick .ensures)
+    found (a .a) (a .b) (a .c) (a .d) (a .store .now) (a .number) (o .open-at .result) (k .place-at .result)
+    (sym (t .first-tests .ensures) ∙ o .before .if1 .left) (o .open-at .ensures) (omega (arith, k .before .if2 .left)) (k .place-at .ensures)
 
 returns : tie.Need-returns
 returns c =

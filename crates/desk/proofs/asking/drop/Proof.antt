@@ -48,8 +48,8 @@ returns-3 c =
     let i = o .open-at .result in
     let z = sym (t .first-tests .ensures) ∙ o .before .if1 .left in
     let within : i < fourPlaces = omega (arith, k .before .if2 .left) in
-    let f = found (a .a) (a .b) (a .c) (a .d) s (a .number) i (k .pick .result) z (o .open-at .ensures) within (k .pick .ensures) in
-    let turn : _≡_ {A = Turn} (record { at = i; place = c .freed .result; reply = Done }) (record { at = i; place = freed (k .pick .result); reply = Done }) =
+    let f = found (a .a) (a .b) (a .c) (a .d) s (a .number) i (k .place-at .result) z (o .open-at .ensures) within (k .place-at .ensures) in
+    let turn : _≡_ {A = Turn} (record { at = i; place = c .freed .result; reply = Done }) (record { at = i; place = freed (k .place-at .result); reply = Done }) =
     λ y. record { at = i; place = c .freed .ensures y; reply = Done } in
     dropped ps s (a .number) _ _ (drops (a .a) (a .b) (a .c) (a .d) s (a .number) f) turn within
 

@@ -1,4 +1,4 @@
--- `correct` is the correction in place of every family, with the frame's fields read before and behind the change and its table of places.
+-- `correct` is the correction in@@offset of every family, with the frame's fields read before and behind the change and its table of offsets.
 use mathlib.Core.Path.{refl, ap, _∙_}
 use mathlib.Core.List.{[]}
 use Rattle.bits.specs.Bits.{bitsOf}
@@ -8,7 +8,7 @@ use Rattle.format.specs.laws.Lead.{exact-fields}
 use Rattle.format.specs.laws.Corrections.{family-early, family-late, goes-on}
 use Rattle.format.specs.laws.Spots.{slim, table-stands, table-slim}
 use Rattle.gljc.specs.Gljc.{letters, gljc, gljcs, valuesOf, recordOf, answerOf, numberOf}
-use Rattle.gljc.specs.laws.Correction.{places, widths, along}
+use Rattle.gljc.specs.laws.Correction.{offsets, widths, along}
 use Rattle.gljc.specs.laws.Demands.{family}
 use Rattle.gljc.specs.declared.reading.Answer.the-variants.{Good, Refused}
 use borrow.Author.Needs.{needs}
@@ -24,7 +24,7 @@ returns c =
     let was = look .before .before .before in
     let a = was .before .before .before .args in
     family-early family Good Refused numberOf (λ r. refl) (λ c. refl) (a .buf .now) (a .field) (a .value) _ _ (was .read .ensures) (number .refusal .ensures)
-    (λ r e. table-stands places widths (a .field) (look .look-up .ensures) (gljcs .fmt) (valuesOf r) refl (along r)) (table-slim places widths (a .field) (look .look-up .ensures) refl)
+    (λ r e. table-stands offsets widths (a .field) (look .look-up .ensures) (gljcs .fmt) (valuesOf r) refl (along r)) (table-slim offsets widths (a .field) (look .look-up .ensures) refl)
     (admits .admits .ensures) (c .if1 .taken)
 
 returns-2 : tie.Need-returns-2
@@ -47,7 +47,7 @@ returns-2 c =
     let led = goes-on gljcs Good Refused recordOf numberOf (λ r. refl) (λ c. refl) s (was .read .ensures) (number .refusal .ensures) (look .look-up .result .width) (a .value) (admits .admits .ensures) (test .if1 .left) in
     let sizes = exact-fields gljc 11 0 (inner .inner .result .now) (λ z. same-size letters 12 s (swap .swap .last .0) led (swap .swap .kept .0) (inner .inner .ensures)) in
     family-late family Good Refused numberOf (λ r. refl) (λ c. refl) s (a .field) (a .value) _ _ (was .read .ensures) (number .refusal .ensures)
-    (λ r e. table-stands places widths (a .field) (look .look-up .ensures) (gljcs .fmt) (valuesOf r) refl (along r)) (table-slim places widths (a .field) (look .look-up .ensures) refl)
+    (λ r e. table-stands offsets widths (a .field) (look .look-up .ensures) (gljcs .fmt) (valuesOf r) refl (along r)) (table-slim offsets widths (a .field) (look .look-up .ensures) refl)
     (λ i. known .slice-known .given i .fits) (admits .admits .ensures) (test .if1 .left) (swap .swap .ensures)
     (f .fields .ensures ∙ ap (λ o. answerOf (also recordOf o)) sizes ∙ ap (λ b. answerOf (also recordOf (read gljc [] 0 (bitsOf b)))) (inner .inner .ensures)) (again .refusal2 .ensures) (settle .settle .ensures) (seal .seal .ensures)
 

@@ -19,7 +19,7 @@ returns : tie.Need-returns
 returns c =
     let test = c .before .before in
     let a = test .before .before .args in
-    ap Refused (c .choose .ensures ∙ ap (λ x. cond x 1 (a .code)) (c .before .none .ensures))
+    ap Refused (c .choose-code .ensures ∙ ap (λ x. cond x 1 (a .code)) (c .before .no-refusal .ensures))
     ∙ sym (ap (λ o. answerOf (also recordOf o)) (other-size gljc 11 11 (a .code) (a .s .now) (λ l u. test .if1 .taken (omega (arith, l, u)))))
 
 returns-2 : tie.Need-returns-2
@@ -34,7 +34,7 @@ returns-2 c =
     let r0 = head-read letters 12 12 _ s (a .code) (c0 .head .ensures .0) in
     let r1 = step-num 8 (lit< tt) (lit≤ tt) (lit< tt) 0 255 r0 (c1 .num .ensures .0) in
     let w = finish (lit< tt) r1 (ended .end .ensures) in
-    c .told .ensures ∙ told-so Good Refused recordOf _ _ (ended .end .result .code) (ended .end .result .place) (w .so)
+    c .told .ensures ∙ told-so Good Refused recordOf _ _ (ended .end .result .code) (ended .end .result .offset) (w .so)
     ∙ sym (ap (λ o. answerOf (also recordOf o)) (exact-fields gljc 11 (a .code) s (λ z. test .if1 .left)))
 
 pub fields-spec : {M : Type 1} → statement M

@@ -1,4 +1,4 @@
--- `correct` is the correction in place of every family, with the packet's fields read before and behind the change and its table of places.
+-- `correct` is the correction in@@offset of every family, with the packet's fields read before and behind the change and its table of offsets.
 use mathlib.Core.Path.{refl, ap, _∙_}
 use mathlib.Core.List.{List}
 use Prim.Native.Nat.{ℕ}
@@ -8,7 +8,7 @@ use Rattle.format.specs.laws.Corrections.{family-early, family-late, goes-on}
 use Rattle.format.specs.laws.Lead.{sized-fields}
 use Rattle.format.specs.laws.Spots.{slim, table-stands, table-slim}
 use Rattle.packet.specs.Packet.{greatest, packet, packets, valuesOf, recordOf, answerOf, numberOf}
-use Rattle.packet.specs.laws.Correction.{places, widths, along}
+use Rattle.packet.specs.laws.Correction.{offsets, widths, along}
 use Rattle.packet.specs.laws.Demands.{family}
 use Rattle.packet.specs.laws.Sound.{sized}
 use Rattle.packet.specs.declared.reading.Packet.{Packet}
@@ -32,7 +32,7 @@ returns c =
     let i = was .before .before .before in
     let a = i .args in
     family-early family Shown Refused numberOf (λ r. refl) (λ c. refl) (a .buf .now) (a .field) (a .value) _ _ (was .read .ensures) (number .refusal .ensures)
-    (λ r e. table-stands places widths (a .field) (look .look-up .ensures) (packets .fmt) (valuesOf r) refl (along r)) (table-slim places widths (a .field) (look .look-up .ensures) refl)
+    (λ r e. table-stands offsets widths (a .field) (look .look-up .ensures) (packets .fmt) (valuesOf r) refl (along r)) (table-slim offsets widths (a .field) (look .look-up .ensures) refl)
     (admits .admits .ensures) (c .if1 .taken)
 
 returns-2 : tie.Need-returns-2
@@ -54,7 +54,7 @@ returns-2 c =
     let (least, most) = sized s (goes-on packets Shown Refused recordOf numberOf (λ r. refl) (λ c. refl) s (was .read .ensures) (number .refusal .ensures) (look .look-up .result .width) (a .value) (admits .admits .ensures) (test .if1 .left)) in
     let sizes = sized-fields packet 5 greatest 0 (swap .swap .last .0) (λ z. (omega (arith, swap .swap .kept .0, least), omega (arith, swap .swap .kept .0, most))) in
     family-late family Shown Refused numberOf (λ r. refl) (λ c. refl) s (a .field) (a .value) _ _ (was .read .ensures) (number .refusal .ensures)
-    (λ r e. table-stands places widths (a .field) (look .look-up .ensures) (packets .fmt) (valuesOf r) refl (along r)) (table-slim places widths (a .field) (look .look-up .ensures) refl)
+    (λ r e. table-stands offsets widths (a .field) (look .look-up .ensures) (packets .fmt) (valuesOf r) refl (along r)) (table-slim offsets widths (a .field) (look .look-up .ensures) refl)
     (λ i. known .slice-known .given i .fits) (admits .admits .ensures) (test .if1 .left) (swap .swap .ensures)
     (f .fields .ensures ∙ ap (λ o. answerOf (also recordOf o)) sizes) (again .refusal2 .ensures) (settle .settle .ensures) refl
 

@@ -29,13 +29,13 @@ returns : tie.Need-returns
 returns c =
     let x = c .before in
     let a = x .before .before .before .args in
-    other (a .lead) (a .s .now) (x .before .none .ensures) (x .choose .ensures) (λ l u. omega (arith, l, c .if1 .taken))
+    other (a .lead) (a .s .now) (x .before .no-refusal .ensures) (x .choose-code .ensures) (λ l u. omega (arith, l, c .if1 .taken))
 
 returns-2 : tie.Need-returns-2
 returns-2 c =
     let x = c .before .before in
     let a = x .before .before .before .args in
-    other (a .lead) (a .s .now) (x .before .none .ensures) (x .choose .ensures) (λ l u. omega (arith, u, c .if2 .taken))
+    other (a .lead) (a .s .now) (x .before .no-refusal .ensures) (x .choose-code .ensures) (λ l u. omega (arith, u, c .if2 .taken))
 
 returns-3 : tie.Need-returns-3
 unfolding packet recordOf
@@ -63,11 +63,11 @@ returns-3 c =
     let r3 = step-num 1 (lit< tt) (lit≤ tt) (lit< tt) 0 1 r2 (language .num .ensures .0) in
     let r4 = step-num 8 (lit< tt) (lit≤ tt) (lit< tt) 0 255 r3 (number .num2 .ensures .0) in
     let r5 = step-num 6 (lit< tt) (lit≤ tt) (lit< tt) 1 mostPackets r4 (total .num3 .ensures .0) in
-    let r6 = step-limits 6 (lit< tt) (lit≤ tt) (lit< tt) 3 0 _ (λ h. (0 ‥ ago 0 h - 1) h) (λ v. refl) r5 (own .num4 .ensures .0 ∙ ap (λ n. ranged s 6 true 0 n 4 (total .num3 .result)) (most .last .ensures)) in
+    let r6 = step-limits 6 (lit< tt) (lit≤ tt) (lit< tt) 3 0 _ (λ h. (0 ‥ ago 0 h - 1) h) (λ v. refl) r5 (own .num4 .ensures .0 ∙ ap (λ n. ranged s 6 true 0 n 4 (total .num3 .result)) (most .last-number .ensures)) in
     let r7 = step-rest (lit< tt) r6 (rest .rest .ensures) in
     let r8 = step-content (wholly s 32 * 8) (omega arith) r7 (carrying .content .ensures ∙ ap (λ w. carried s w (rest .rest .result)) (sym n)) in
     let w = finish (omega arith) r8 (ended .end .ensures) in
-    c .told .ensures ∙ told-so (λ r. Good (r .0)) Refused recordOf _ _ (ended .end .result .code) (ended .end .result .place) (w .so)
+    c .told .ensures ∙ told-so (λ r. Good (r .0)) Refused recordOf _ _ (ended .end .result .code) (ended .end .result .offset) (w .so)
     ∙ sym (ap (λ o. answerOf (also recordOf o)) (sized-fields packet 5 greatest (a .lead) s (λ z. (omega (arith, low .if1 .left), omega (arith, high .if2 .left)))))
 
 pub fields-spec : {M : Type 1} → statement M

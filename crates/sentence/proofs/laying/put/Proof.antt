@@ -1,4 +1,4 @@
--- `put`: after i turns the part's first i bytes stand at their place.
+-- `put`: after i turns the part's first i bytes stand at their offset.
 use borrow.Author.Needs.{needs}
 use mathlib.Core.Path.{_≡_, ap, _∙_}
 use Prim.Native.Nat.{_≤_, _-_, _+_}

@@ -1,4 +1,4 @@
--- `accept`: the first tests give the size, which the parts' places need; each way out is one case of the definition.
+-- `accept`: the first tests give the size, which the parts' chars need; each way out is one case of the definition.
 use borrow.Author.Needs.{needs}
 use mathlib.Core.Path.{_≡_, refl, sym, ap, _∙_}
 use mathlib.Core.Bool.{true}

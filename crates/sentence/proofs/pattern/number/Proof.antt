@@ -1,4 +1,4 @@
--- `number`: the digits from place i on spell the rest of the number, which only grows.
+-- `number`: the digits from offset i on spell the rest of the number, which only grows.
 use borrow.Author.Needs.{needs}
 use mathlib.Core.Path.{_≡_, refl, sym, ap, _∙_}
 use Prim.Native.Nat.{_≤_, _-_, _*_, _+_}

@@ -1,4 +1,4 @@
--- `same`: what is left of both from place i on is alike just where the whole is.
+-- `same`: what is left of both from offset i on is alike just where the whole is.
 use borrow.Author.Needs.{needs}
 use mathlib.Core.Path.{_≡_, refl, sym, ap, _∙_}
 use Prim.Native.Nat.{_≤_, _-_}

@@ -1,4 +1,4 @@
--- `all_digits`: what is left from place i on is all digits just where the whole is.
+-- `all_digits`: what is left from offset i on is all digits just where the whole is.
 use borrow.Author.Needs.{needs}
 use mathlib.Core.Path.{_≡_, refl, sym, ap, _∙_}
 use Prim.Native.Nat.{_≤_, _-_}

@@ -20,7 +20,7 @@ returns : tie.Need-returns
 returns c =
     let test = c .before .before in
     let a = test .before .before .args in
-    ap Refused (c .choose .ensures ∙ ap (λ x. cond x 1 (a .code)) (c .before .none .ensures))
+    ap Refused (c .choose-code .ensures ∙ ap (λ x. cond x 1 (a .code)) (c .before .no-refusal .ensures))
     ∙ sym (ap (λ o. answerOf (also recordOf o)) (other-size txhz 34 34 (a .code) (a .s .now) (λ l u. test .if1 .taken (omega (arith, l, u)))))
 
 returns-2 : tie.Need-returns-2
@@ -47,7 +47,7 @@ returns-2 c =
     let r6 = receipt-read 3 _ (lit< tt) refl refl r5 (c6 .read-receipt4 .ensures) in
     let r7 = receipt-read 4 _ (lit< tt) refl refl r6 (c7 .read-receipt5 .ensures) in
     let w = finish (lit< tt) r7 (ended .end .ensures) in
-    c .told .ensures ∙ told-so Good Refused recordOf _ _ (ended .end .result .code) (ended .end .result .place) (w .so)
+    c .told .ensures ∙ told-so Good Refused recordOf _ _ (ended .end .result .code) (ended .end .result .offset) (w .so)
     ∙ sym (ap (λ o. answerOf (also recordOf o)) (exact-fields txhz 34 (a .code) s (λ z. test .if1 .left)))
 
 pub fields-spec : {M : Type 1} → statement M

@@ -15,9 +15,9 @@ returns c =
     let a = s1 .before .before .args in
     let s = a .s .now in
     let e1 = s1 .read-slot .ensures .0 in
-    let e2 = s2 .read-slot2 .ensures .0 ∙ ap (slotRead s (a .held) 59) e1 in
-    let e3 = s3 .read-slot3 .ensures .0 ∙ ap (slotRead s (a .held) 23) e2 in
-    let e4 = s4 .read-slot4 .ensures .0 ∙ ap (slotRead s (a .held) 59) e3 in
+    let e2 = s2 .read-slot2 .ensures .0 ∙ ap (slotRead s (a .live) 59) e1 in
+    let e3 = s3 .read-slot3 .ensures .0 ∙ ap (slotRead s (a .live) 23) e2 in
+    let e4 = s4 .read-slot4 .ensures .0 ∙ ap (slotRead s (a .live) 59) e3 in
     λ i. record { walk = e4 i; receipt = record { «sent_hour» = e1 i .v; «sent_minute» = e2 i .v; «receipt_hour» = e3 i .v; «receipt_minute» = e4 i .v } }
 
 pub read-receipt-spec : {M : Type 1} → statement M

@@ -1,4 +1,4 @@
--- `read_slot` is one step of the walk, its limit and its refusal by whether the receipt is held.
+-- `read_slot` is one step of the walk, its limit and its refusal by whether the receipt is counted.
 use mathlib.Core.Path.{ap, ap₂, _∙_}
 use Prim.Native.Nat.{_*_, _/_}
 use Rattle.walk.specs.Faults.{ranging}
@@ -19,7 +19,7 @@ returns c =
     let s = a .s .now in
     let p = a .w .at / 8 * 8 in
     let wrong = rg .range .ensures ∙ ap₂ (λ hi x. ranging s p 8 0 hi x) (t .top .ensures) (f .fault .ensures) in
-    let e = c .on .ensures ∙ ap₂ (λ v x. onward 8 (a .held) v x 0 (a .w)) (get .get .ensures) wrong in
+    let e = c .on .ensures ∙ ap₂ (λ v x. onward 8 (a .live) v x 0 (a .w)) (get .get .ensures) wrong in
     (e, got-lt s p 8 (ap (λ r. r .v) e))
 
 pub read-slot-spec : {M : Type 1} → statement M

@@ -1,4 +1,4 @@
--- `judge_slot` is one step of the walk, by whether the receipt is held.
+-- `judge_slot` is one step of the walk, by whether the receipt is counted.
 use borrow.Author.Needs.{needs}
 use Rattle.txhz.proofs.writing.judge_slot.Statement.{statement}
 use Rattle.txhz.proofs.writing.judge_slot.Tie as tie

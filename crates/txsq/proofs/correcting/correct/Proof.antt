@@ -1,4 +1,4 @@
--- `correct` is the correction in place of every family, with the frame's fields read before and behind the change and its table of places.
+-- `correct` is the correction in@@offset of every family, with the frame's fields read before and behind the change and its table of offsets.
 use mathlib.Core.Path.{refl, ap, _∙_}
 use mathlib.Core.List.{List, []}
 use Prim.Native.Nat.{ℕ}
@@ -7,7 +7,7 @@ use Rattle.format.specs.Fmt.{also, read}
 use Rattle.format.specs.laws.Corrections.{family-early, family-late}
 use Rattle.format.specs.laws.Spots.{slim, table-stands, table-slim}
 use Rattle.txsq.specs.Txsq.{txsq, txsqs, valuesOf, recordOf, answerOf, numberOf}
-use Rattle.txsq.specs.laws.Correction.{places, widths, along}
+use Rattle.txsq.specs.laws.Correction.{offsets, widths, along}
 use Rattle.txsq.specs.laws.Demands.{family}
 use Rattle.txsq.specs.declared.reading.Txsq.{Txsq}
 use Rattle.txsq.specs.declared.reading.Answer.{Answer}
@@ -29,7 +29,7 @@ returns c =
     let was = look .before .before .before in
     let a = was .before .before .before .args in
     family-early family Shown Refused numberOf (λ r. refl) (λ c. refl) (a .buf .now) (a .field) (a .value) _ _ (was .read .ensures) (number .refusal .ensures)
-    (λ r e. table-stands places widths (a .field) (look .look-up .ensures) (txsqs .fmt) (valuesOf r) refl (along r)) (table-slim places widths (a .field) (look .look-up .ensures) refl)
+    (λ r e. table-stands offsets widths (a .field) (look .look-up .ensures) (txsqs .fmt) (valuesOf r) refl (along r)) (table-slim offsets widths (a .field) (look .look-up .ensures) refl)
     (admits .admits .ensures) (c .if1 .taken)
 
 returns-2 : tie.Need-returns-2
@@ -49,7 +49,7 @@ returns-2 c =
     let known = was .before .before in
     let a = known .before .args in
     family-late family Shown Refused numberOf (λ r. refl) (λ c. refl) (a .buf .now) (a .field) (a .value) _ _ (was .read .ensures) (number .refusal .ensures)
-    (λ r e. table-stands places widths (a .field) (look .look-up .ensures) (txsqs .fmt) (valuesOf r) refl (along r)) (table-slim places widths (a .field) (look .look-up .ensures) refl)
+    (λ r e. table-stands offsets widths (a .field) (look .look-up .ensures) (txsqs .fmt) (valuesOf r) refl (along r)) (table-slim offsets widths (a .field) (look .look-up .ensures) refl)
     (λ i. known .slice-known .given i .fits) (admits .admits .ensures) (test .if1 .left) (swap .swap .ensures)
     (f .fields .ensures ∙ ap (λ b. answerOf (also recordOf (read txsq [] 0 (bitsOf b)))) (inner .inner .ensures)) (again .refusal2 .ensures) (settle .settle .ensures) (seal .seal .ensures)
 

@@ -54,7 +54,7 @@ returns c =
     let r8 = step-content l (omega (arith, small)) r7 (carried .content .ensures) in
     let r9 = step-fill (pad l) (omega arith) (omega (arith, small)) r8 (fill .fill .ensures ∙ ap (λ p. ranged s p false 0 0 5 (carried .content .result)) (spare .spare .ensures)) in
     let w = finish (omega (arith, small)) r9 (ended .end .ensures) in
-    c .told .ensures ∙ told-so (λ r. Good (r .0)) Refused recordOf _ _ (ended .end .result .code) (ended .end .result .place) (w .so)
+    c .told .ensures ∙ told-so (λ r. Good (r .0)) Refused recordOf _ _ (ended .end .result .code) (ended .end .result .offset) (w .so)
 
 pub fields-spec : {M : Type 1} → statement M
 fields-spec =

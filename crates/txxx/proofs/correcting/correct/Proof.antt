@@ -1,4 +1,4 @@
--- `correct` is the correction in place of every family, with the frame's fields read before and behind the change and its table of places, the mark's hanging on the size.
+-- `correct` is the correction in@@offset of every family, with the frame's fields read before and behind the change and its table of offsets, the mark's hanging on the size.
 use mathlib.Core.Path.{refl, sym, ap, _∙_}
 use mathlib.Core.List.{List, []}
 use Prim.Native.Nat.{ℕ}
@@ -7,7 +7,7 @@ use Rattle.format.specs.Fmt.{also, read}
 use Rattle.format.specs.laws.Corrections.{family-early, family-late}
 use Rattle.format.specs.laws.Spots.{rows, slim, table-stands, table-slim}
 use Rattle.txxx.specs.Txxx.{txxx, txxxs, valuesOf, recordOf, answerOf, numberOf}
-use Rattle.txxx.specs.laws.Correction.{places, widths, along}
+use Rattle.txxx.specs.laws.Correction.{offsets, widths, along}
 use Rattle.txxx.specs.laws.Demands.{family}
 use Rattle.txxx.specs.laws.Shown.{mark-stands}
 use Rattle.txxx.specs.declared.reading.Txxx.{Txxx}
@@ -31,8 +31,8 @@ returns c =
     let was = mark .before in
     let a = was .before .before .before .args in
     family-early family Shown Refused numberOf (λ r. refl) (λ c. refl) (a .buf .now) (a .field) (a .value) _ _ (was .read .ensures) (number .refusal .ensures)
-    (λ r e. table-stands (places (mark .mark .result)) widths (a .field) (look .look-up .ensures) (txxxs .fmt) (valuesOf r) refl (along r ∙ ap (λ m. rows (places m) widths) (sym (mark .mark .ensures ∙ mark-stands (a .buf .now) r e))))
-    (table-slim (places (mark .mark .result)) widths (a .field) (look .look-up .ensures) refl)
+    (λ r e. table-stands (offsets (mark .mark .result)) widths (a .field) (look .look-up .ensures) (txxxs .fmt) (valuesOf r) refl (along r ∙ ap (λ m. rows (offsets m) widths) (sym (mark .mark .ensures ∙ mark-stands (a .buf .now) r e))))
+    (table-slim (offsets (mark .mark .result)) widths (a .field) (look .look-up .ensures) refl)
     (admits .admits .ensures) (c .if1 .taken)
 
 returns-2 : tie.Need-returns-2
@@ -53,8 +53,8 @@ returns-2 c =
     let known = was .before .before in
     let a = known .before .args in
     family-late family Shown Refused numberOf (λ r. refl) (λ c. refl) (a .buf .now) (a .field) (a .value) _ _ (was .read .ensures) (number .refusal .ensures)
-    (λ r e. table-stands (places (mark .mark .result)) widths (a .field) (look .look-up .ensures) (txxxs .fmt) (valuesOf r) refl (along r ∙ ap (λ m. rows (places m) widths) (sym (mark .mark .ensures ∙ mark-stands (a .buf .now) r e))))
-    (table-slim (places (mark .mark .result)) widths (a .field) (look .look-up .ensures) refl)
+    (λ r e. table-stands (offsets (mark .mark .result)) widths (a .field) (look .look-up .ensures) (txxxs .fmt) (valuesOf r) refl (along r ∙ ap (λ m. rows (offsets m) widths) (sym (mark .mark .ensures ∙ mark-stands (a .buf .now) r e))))
+    (table-slim (offsets (mark .mark .result)) widths (a .field) (look .look-up .ensures) refl)
     (λ i. known .slice-known .given i .fits) (admits .admits .ensures) (test .if1 .left) (swap .swap .ensures)
     (f .fields .ensures ∙ ap (λ b. answerOf (also recordOf (read txxx [] 0 (bitsOf b)))) (inner .inner .ensures)) (again .refusal2 .ensures) (settle .settle .ensures) (seal .seal .ensures)
 

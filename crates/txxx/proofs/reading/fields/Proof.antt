@@ -49,7 +49,7 @@ returns c =
     let r7 = step-fill (pad l) (omega arith) (omega (arith, small)) r6 (fill .fill .ensures ∙ ap (λ p. ranged s p false 0 0 5 (carried .content .result)) (spare .spare .ensures)) in
     let r8 = step-num 8 (lit< tt) (lit≤ tt) (omega (arith, small)) 0 255 r7 (mark .num5 .ensures .0) in
     let w = finish (omega (arith, small)) r8 (ended .end .ensures) in
-    c .told .ensures ∙ told-so (λ r. Good (r .0)) Refused recordOf _ _ (ended .end .result .code) (ended .end .result .place) (w .so)
+    c .told .ensures ∙ told-so (λ r. Good (r .0)) Refused recordOf _ _ (ended .end .result .code) (ended .end .result .offset) (w .so)
 
 pub fields-spec : {M : Type 1} → statement M
 fields-spec =

@@ -10,8 +10,8 @@ use Rattle.walk.proofs.faults.range.Tie as tie
 returns : tie.Need-returns
 returns c =
     let a = c .before .before .before .before .before .args in
-    let held = sym (c .before .before .before .holds .ensures) ∙ c .before .before .if1 .taken in
-    c .inside .ensures ∙ ap (λ (v : ℕ). cond (leb (a .lo) v && leb v (a .hi)) 0 (a .code)) (c .before .get .ensures) ∙ rw held
+    let holding = sym (c .before .before .before .holds .ensures) ∙ c .before .before .if1 .taken in
+    c .inside .ensures ∙ ap (λ (v : ℕ). cond (leb (a .lo) v && leb v (a .hi)) 0 (a .code)) (c .before .get .ensures) ∙ rw holding
 
 returns-2 : tie.Need-returns-2
 returns-2 c = rw (sym (c .before .holds .ensures) ∙ c .if1 .left)

@@ -27,7 +27,7 @@ returns : tie.Need-returns
 returns c =
     let test = c .before .before in
     let a = test .before .before .args in
-    ap Refused (c .choose .ensures ∙ ap (λ x. cond x 1 (a .lead)) (c .before .none .ensures))
+    ap Refused (c .choose-code .ensures ∙ ap (λ x. cond x 1 (a .lead)) (c .before .no-refusal .ensures))
     ∙ sym (ap (λ o. answerOf (also recordOf o)) (other-size warning 23 23 (a .lead) (a .s .now) (λ l u. test .if1 .taken (omega (arith, l, u)))))
 
 returns-2 : tie.Need-returns-2
@@ -75,7 +75,7 @@ returns-2 c =
     let told : Warning → Answer = λ r. cond (eqb (ended .end .result .code) 0) (Good r) (Refused (ended .end .result .code)) in
     c .told .ensures
     ∙ (λ i. told (record { repeat = n1 .num .result .v; source = n2 .num2 .result .v; longitude = n3 .num3 .result .v; latitude = n4 .num4 .result .v; body = body .read .result .body; time = of .of .ensures i; hours = n5 .num5 .result .v }))
-    ∙ ap told (sym made) ∙ told-so Good Refused recordOf _ _ (ended .end .result .code) (ended .end .result .place) (w .so)
+    ∙ ap told (sym made) ∙ told-so Good Refused recordOf _ _ (ended .end .result .code) (ended .end .result .offset) (w .so)
     ∙ sym (ap (λ o. answerOf (also recordOf o)) (exact-fields warning 23 (a .lead) s (λ z. test .if1 .left)))
 
 pub fields-spec : {M : Type 1} → statement M

@@ -35,7 +35,7 @@ returns c x =
     let r4 = judge-num 8 (lit< tt) 0 255 (lit< tt) r3 (number .value2 .ensures) in
     let r5 = judge-num 6 (lit< tt) 1 mostPackets (lit< tt) r4 (total .value3 .ensures) in
     let r6 = judge-late 6 (λ h. (0 ‥ ago 0 h - 1) h) 0 (r .total - 1) (lit< tt) (λ z. let (some, few) = valued-between (number .value2 .result) 6 (r .total) 1 mostPackets (total .value3 .ensures) z in (omega (arith, few), λ l. refl)) r5
-    (c .value4 .ensures ∙ ap (λ n. valued 6 (r .own) 0 n (total .value3 .result)) (most .last .ensures)) in
+    (c .value4 .ensures ∙ ap (λ n. valued 6 (r .own) 0 n (total .value3 .result)) (most .last-number .ensures)) in
     let r7 = judge-bytes (omega arith) r6 in
     let w = length x * 8 in
     judge-end (judge-beyond 0 opens-field (wrong-tells w (valueOf (bitsOf x)) (only-tells w 3 any _) (bytes-value-lt x)) r7)

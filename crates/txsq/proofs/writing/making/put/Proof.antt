@@ -8,7 +8,7 @@ use Rattle.frame.specs.Steps.{headPut}
 use Rattle.frame.specs.laws.Content.{content-bits}
 use Rattle.frame.specs.laws.Head.{head-put}
 use Rattle.format.specs.laws.Extent.{opens-field}
-use Rattle.format.specs.laws.Held.{held}
+use Rattle.format.specs.laws.Legal.{legal}
 use Rattle.format.specs.laws.Putting.{put-start, put-step, put-choice, begins, begins-then, put-run, put-end}
 use Rattle.txsq.specs.Txsq.{letters, body, txsq, valuesOf}
 use Rattle.txsq.specs.laws.Demands.{content-size}
@@ -48,7 +48,7 @@ returns c b e l =
     let r = a .r in
     let x = a .content .now in
     let fine : Bytes (a .buf .now) = λ i. known .slice-known .given i .fits in
-    let size = content-size (r, x) (held txsq [] 0 (valuesOf (r, x)) b e) in
+    let size = content-size (r, x) (legal txsq [] 0 (valuesOf (r, x)) b e) in
     let r0 = head-put letters 0 65_535 body (put-start (a .buf .now) txsq (valuesOf (r, x)) b fine l e) (p1 .put .ensures ∙ ap (λ n. headPut letters n (r .address) (a .buf .now)) (d .declared .ensures)) in
     let r1 = put-step 4 (lit≤ tt) r0 (p2 .put2 .ensures) in
     let r2 = put-step 2 (lit≤ tt) r1 (p3 .put3 .ensures) in

@@ -11,7 +11,7 @@ use Rattle.frame.specs.laws.Head.{head-put}
 use Rattle.format.specs.Correcting.{putIn, put-in}
 use Rattle.format.specs.Fmt.{pad}
 use Rattle.format.specs.laws.Extent.{opens-field}
-use Rattle.format.specs.laws.Held.{held}
+use Rattle.format.specs.laws.Legal.{legal}
 use Rattle.format.specs.laws.Putting.{put-start, put-step, put-choice, put-number, begins, begins-then, put-run, put-end}
 use Rattle.txxx.specs.Txxx.{letters, body, txxx, valuesOf}
 use Rattle.txxx.specs.laws.Demands.{content-size}
@@ -49,8 +49,8 @@ returns c b e l =
     let r = a .r in
     let x = a .content .now in
     let fine : Bytes (a .buf .now) = λ i. known .slice-known .given i .fits in
-    let size = content-size (r, x) (held txxx [] 0 (valuesOf (r, x)) b e) in
-    let place : 144 + (r .size + 7) / 8 * 8 ≡ 144 + (r .size + pad (r .size)) = ap (144 +_) (sym (padded (r .size))) in
+    let size = content-size (r, x) (legal txxx [] 0 (valuesOf (r, x)) b e) in
+    let offset : 144 + (r .size + 7) / 8 * 8 ≡ 144 + (r .size + pad (r .size)) = ap (144 +_) (sym (padded (r .size))) in
     let r0 = head-put letters 0 65_535 body (put-start (a .buf .now) txxx (valuesOf (r, x)) b fine l e) (p1 .put .ensures ∙ ap (λ n. headPut letters n (r .address) (a .buf .now)) (d .declared .ensures)) in
     let r1 = put-step 8 (lit≤ tt) r0 (p2 .put2 .ensures) in
     let r2 = put-step 24 (lit≤ tt) r1 (p3 .put3 .ensures) in
@@ -58,7 +58,7 @@ returns c b e l =
     let r4 = put-step 8 (lit≤ tt) r3 (p5 .put5 .ensures) in
     let r5 = put-choice 16 (lit≤ tt) r4 (p6 .put6 .ensures) in
     let r6 = put-run x (content-bits x (r .size) size) (begins-then (begins opens-field) (begins opens-field)) r5 (p7 .put-bytes .ensures) in
-    put-end fine (omega arith) (put-number 8 (lit≤ tt) opens-field r6 (put-in _ _ 8 (r .mark) (p8 .put7 .ensures) ∙ ap (λ k. putIn (p7 .put-bytes .last .0) k 8 (r .mark)) place))
+    put-end fine (omega arith) (put-number 8 (lit≤ tt) opens-field r6 (put-in _ _ 8 (r .mark) (p8 .put7 .ensures) ∙ ap (λ k. putIn (p7 .put-bytes .last .0) k 8 (r .mark)) offset))
 
 pub put-spec : {M : Type 1} → statement M
 put-spec =

@@ -6,7 +6,7 @@ use Rattle.walk.proofs.pieces.Pieces.or_zero.Tie as tie
 returns : tie.Need-returns
 returns c =
     let a = c .before .before .args in
-    let code = c .choose .ensures in
+    let code = c .choose-code .ensures in
     λ i. record { v = a .self .v; width = a .self .width; left = a .self .left; code = code i; into = a .self .into }
 
 pub or-zero-spec : {M : Type 1} → statement M

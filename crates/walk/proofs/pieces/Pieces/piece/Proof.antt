@@ -19,12 +19,12 @@ returns c =
     let c2 = c3 .before in
     let c1 = c2 .before in
     let a = c1 .before .args in
-    let clear = c1 .none .ensures in
+    let clear = c1 .no-refusal .ensures in
     let left = c2 .minus .ensures in
     let u = c4 .below .ensures ∙ ap (_% 2 ^ a .w) (c3 .above .ensures ∙ ap (λ n. a .self .v / 2 ^ n) left) in
     let fault = c5 .inside .ensures ∙ ap (λ x. cond (leb (a .lo) x && leb x (a .hi)) 0 4) u in
-    let code = c6 .choose .ensures ∙ ap₂ (λ b x. cond b x (a .self .code)) clear fault in
-    let into = c .pick .ensures ∙ ap₂ (λ b x. cond b x (a .self .into)) clear (c7 .minus2 .ensures) in
+    let code = c6 .choose-code .ensures ∙ ap₂ (λ b x. cond b x (a .self .code)) clear fault in
+    let into = c .choose-offset .ensures ∙ ap₂ (λ b x. cond b x (a .self .into)) clear (c7 .minus2 .ensures) in
     λ i. record { v = a .self .v; width = a .self .width; left = left i; code = code i; into = into i }
 
 pub piece-spec : {M : Type 1} → statement M

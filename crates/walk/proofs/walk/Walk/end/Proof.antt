@@ -19,12 +19,12 @@ returns c =
     let c2 = c3 .before in
     let c1 = c2 .before in
     let r = c1 .before .before .args .self in
-    let clear = c1 .none .ensures in
+    let clear = c1 .no-refusal .ensures in
     let into = c3 .past .ensures ∙ ap (λ x. cond (eqb x 5) 0 (pad (r .at))) (c2 .closing .ensures) in
-    let code = c4 .choose .ensures ∙ ap₂ (λ b x. cond b x (r .code)) clear (c2 .closing .ensures) in
-    let place = c6 .pick .ensures ∙ ap₂ (λ b x. cond b x (r .place)) clear (c5 .wrapping-add-usize .ensures ∙ ap (λ x. (r .at + x) % 2 ^ 64) into) in
-    let width = c .pick2 .ensures in
-    λ i. record { at = r .at; code = code i; place = place i; v = 0; seek = false; left = 0; spot = r .spot; width = width i }
+    let code = c4 .choose-code .ensures ∙ ap₂ (λ b x. cond b x (r .code)) clear (c2 .closing .ensures) in
+    let offset = c6 .choose-offset .ensures ∙ ap₂ (λ b x. cond b x (r .offset)) clear (c5 .wrapping-add-usize .ensures ∙ ap (λ x. (r .at + x) % 2 ^ 64) into) in
+    let width = c .choose-offset2 .ensures in
+    λ i. record { at = r .at; code = code i; offset = offset i; v = 0; seek = false; left = 0; spot = r .spot; width = width i }
 
 pub end-spec : {M : Type 1} → statement M
 end-spec =

@@ -14,7 +14,7 @@ returns c =
     let there = c .before .before .before in
     let a = there .before .before .args in
     let e = c .on .ensures
-    ∙ ap₂ (λ v x. onward (a .w) false v x 0 (a .self)) (c .before .before .get .ensures) (c .before .choose .ensures ∙ ap (λ b. cond b (a .fault) 1) (there .holds .ensures)) in
+    ∙ ap₂ (λ v x. onward (a .w) false v x 0 (a .self)) (c .before .before .get .ensures) (c .before .choose-code .ensures ∙ ap (λ b. cond b (a .fault) 1) (there .holds .ensures)) in
     (e, got-lt (a .s .now) (a .self .at) (a .w) (ap (λ (r : Walk). r .v) e))
 
 pub given-spec : {M : Type 1} → statement M

@@ -13,7 +13,7 @@ unfolding grouped
 returns c =
     let a = c .before .before .before .args in
     let e = c .on .ensures ∙ ap (λ v. onward (a .w) true v 0 0 (a .self)) (c .before .get .ensures) in
-    ap (λ (n : Walk). record { at = n .at; code = a .parts .code; place = a .parts .place; v = n .v; seek = n .seek; left = n .left; spot = n .spot; width = n .width }) e
+    ap (λ (n : Walk). record { at = n .at; code = a .parts .code; offset = a .parts .offset; v = n .v; seek = n .seek; left = n .left; spot = n .spot; width = n .width }) e
 
 pub group-spec : {M : Type 1} → statement M
 group-spec = tie.close (tie.spec (λ c κs. search needs) (λ c κs. search needs) returns)

@@ -23,16 +23,16 @@ returns c =
     let c2 = c3 .before in
     let c1 = c2 .before in
     let a = c1 .before .args in
-    let hit = c3 .both .ensures ∙ ap (a .self .seek &&_) (c2 .last .ensures) in
-    let clear = c1 .none .ensures in
+    let hit = c3 .both .ensures ∙ ap (a .self .seek &&_) (c2 .is-zero .ensures) in
+    let clear = c1 .no-refusal .ensures in
     let at = c4 .wrapping-add-usize .ensures in
-    let code = c5 .choose .ensures ∙ ap (λ b. cond b (a .fault) (a .self .code)) clear in
-    let place = c7 .pick .ensures ∙ ap₂ (λ b x. cond b x (a .self .place)) clear (c6 .wrapping-add-usize2 .ensures) in
-    let seek = c10 .both2 .ensures ∙ ap (a .self .seek &&_) (c9 .not .ensures ∙ ap (λ b. cond b false true) (c8 .last2 .ensures)) in
-    let left = c11 .less .ensures in
-    let spot = c12 .pick2 .ensures ∙ ap (λ b. cond b (a .self .at) (a .self .spot)) hit in
-    let width = c .pick4 .ensures ∙ ap₂ (λ b x. cond b x (a .self .width)) hit (c13 .pick3 .ensures) in
-    λ i. record { at = at i; code = code i; place = place i; v = a .v; seek = seek i; left = left i; spot = spot i; width = width i }
+    let code = c5 .choose-code .ensures ∙ ap (λ b. cond b (a .fault) (a .self .code)) clear in
+    let offset = c7 .choose-offset .ensures ∙ ap₂ (λ b x. cond b x (a .self .offset)) clear (c6 .wrapping-add-usize2 .ensures) in
+    let seek = c10 .both2 .ensures ∙ ap (a .self .seek &&_) (c9 .not .ensures ∙ ap (λ b. cond b false true) (c8 .is-zero2 .ensures)) in
+    let left = c11 .one-less .ensures in
+    let spot = c12 .choose-offset2 .ensures ∙ ap (λ b. cond b (a .self .at) (a .self .spot)) hit in
+    let width = c .choose-offset4 .ensures ∙ ap₂ (λ b x. cond b x (a .self .width)) hit (c13 .choose-offset3 .ensures) in
+    λ i. record { at = at i; code = code i; offset = offset i; v = a .v; seek = seek i; left = left i; spot = spot i; width = width i }
 
 pub on-spec : {M : Type 1} → statement M
 on-spec =

@@ -1,4 +1,4 @@
--- `part` moves the place and keeps the first refusal; all else of the walk stays.
+-- `part` moves the offset and keeps the first refusal; all else of the walk stays.
 use mathlib.Core.Bool.{cond}
 use mathlib.Core.Path.{ap, ap₂, _∙_}
 use Rattle.walk.specs.Reading.{parted}
@@ -15,9 +15,9 @@ returns c =
     let c1 = c2 .before in
     let a = c1 .before .before .args in
     let at = c2 .wrapping-add-usize .ensures in
-    let code = c4 .choose .ensures ∙ ap₂ (λ b x. cond b x (a .self .code)) (c1 .none .ensures) (c3 .range .ensures) in
-    let place = c .pick .ensures ∙ ap (λ b. cond b (a .self .at) (a .self .place)) (c1 .none .ensures) in
-    λ i. record { at = at i; code = code i; place = place i; v = a .self .v; seek = a .self .seek; left = a .self .left; spot = a .self .spot; width = a .self .width }
+    let code = c4 .choose-code .ensures ∙ ap₂ (λ b x. cond b x (a .self .code)) (c1 .no-refusal .ensures) (c3 .range .ensures) in
+    let offset = c .choose-offset .ensures ∙ ap (λ b. cond b (a .self .at) (a .self .offset)) (c1 .no-refusal .ensures) in
+    λ i. record { at = at i; code = code i; offset = offset i; v = a .self .v; seek = a .self .seek; left = a .self .left; spot = a .self .spot; width = a .self .width }
 
 pub part-spec : {M : Type 1} → statement M
 part-spec =

@@ -1,12 +1,12 @@
--- `list_held` ends: each turn lists some of the window.
+-- `list_window` ends: each turn lists some of the window.
 use mathlib.Core.Path.{_≡_}
 use Prim.Native.Nat.{_-_, _≤_}
 use native.Mathlib.Omega.{arith}
 use borrow.Author.Needs.{needs}
 use lib.ListN.{length, length-take, length-drop}
 use Rattle.daylog.specs.laws.Windows.{made-within, used-within}
-use Rattle.listing.proofs.list_held.Statement.{statement}
-use Rattle.listing.proofs.list_held.Tie as tie
+use Rattle.listing.proofs.list_window.Statement.{statement}
+use Rattle.listing.proofs.list_window.Tie as tie
 
 abbrev Inv-loop : tie.InvT-loop
 Inv-loop window number text₀ used₀ n₀ text used n = (length text ≡ length text₀) × (used ≤ length window)
@@ -74,8 +74,8 @@ same-length-3 c = search needs
 returns-3 : tie.Need-returns-3 Inv-loop μ-loop
 returns-3 c = search needs
 
-pub list-held-spec : {M : Type 1} → statement M
-list-held-spec =
+pub list-window-spec : {M : Type 1} → statement M
+list-window-spec =
     tie.close
     (tie.spec
     Inv-loop

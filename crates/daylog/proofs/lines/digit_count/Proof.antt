@@ -1,12 +1,12 @@
--- `places` counts the turns: the digits of what is left and the count make up the number's.
+-- `digit_count` counts the turns: the digits of what is left and the count make up the number's.
 use mathlib.Core.Path.{_≡_}
 use Prim.Native.Nat.{_+_, _≤_}
 use native.Mathlib.Omega.{arith}
 use lib.ListN.{length}
 use Rattle.daylog.specs.LinesText.{decimal}
 use Rattle.daylog.specs.laws.Text.{digits-small, digits-more}
-use Rattle.daylog.proofs.lines.places.Statement.{statement}
-use Rattle.daylog.proofs.lines.places.Tie as tie
+use Rattle.daylog.proofs.lines.digit_count.Statement.{statement}
+use Rattle.daylog.proofs.lines.digit_count.Tie as tie
 
 abbrev Inv-loop : tie.InvT-loop
 Inv-loop number count₀ rest₀ count rest = (count + length (decimal rest) ≡ length (decimal number) + 1) × (count + rest ≤ number + 1)
@@ -29,6 +29,6 @@ loop-again c = omega (arith, digits-more (c .before .loop .rest) (omega arith))
 returns : tie.Need-returns Inv-loop μ-loop
 returns c = omega (arith, digits-small (c .before .loop .rest) (omega arith))
 
-pub places-spec : {M : Type 1} → statement M
-places-spec =
+pub digit-count-spec : {M : Type 1} → statement M
+digit-count-spec =
     tie.close (tie.spec Inv-loop μ-loop loop-holds add-count loop-less loop-again returns)

@@ -57,7 +57,7 @@ past (suc n) (bytes f) h at vs b k e =
     let p = past n (f v) (v ∷ h) at rest b k after in
     subst (λ vs. Past (suc n) (bytes f) vs b k) front (record { before = p .before; at = p .at; so = p .so })
 
--- Field n of an accepted message is the number at its place,
+-- Field n of an accepted message is the number at its offset,
 module _ (n : ℕ) (f : Fmt) (vs : List ℕ) (b : List Bool) (e : read f [] 0 b ≡ accepted vs) (w : ℕ) (j : Judge) where
   abbrev here : List Bool
   here = drop (reach n f vs 0) b

@@ -14,26 +14,26 @@ use Rattle.format.specs.laws.Tells.{only-tells, twice-tells, blamed, Tel
 use Rattle.format.specs.laws.Round.{clash, written, sized-inv}
 
 -- as many values as fields, each narrow enough and judged good
-abbrev pub Held : Fmt → List ℕ → List ℕ → Type 0
-Held end h [] = Unit
-Held end h (v ∷ vs) = ⊥
-Held (field w j m f) h [] = ⊥
-Held (field w j m f) h (v ∷ vs) = (v < 2 ^ w) × (j h (digits w v) ≡ good) × Held f (v ∷ h) vs
-Held (choice w j f) h [] = ⊥
-Held (choice w j f) h (v ∷ vs) = (v < 2 ^ w) × (j h (digits w v) ≡ good) × Held (f v) (v ∷ h) vs
-Held (bytes f) h [] = ⊥
-Held (bytes f) h (n ∷ vs) = Held (f n) (n ∷ h) vs
+abbrev pub Legal : Fmt → List ℕ → List ℕ → Type 0
+Legal end h [] = Unit
+Legal end h (v ∷ vs) = ⊥
+Legal (field w j m f) h [] = ⊥
+Legal (field w j m f) h (v ∷ vs) = (v < 2 ^ w) × (j h (digits w v) ≡ good) × Legal f (v ∷ h) vs
+Legal (choice w j f) h [] = ⊥
+Legal (choice w j f) h (v ∷ vs) = (v < 2 ^ w) × (j h (digits w v) ≡ good) × Legal (f v) (v ∷ h) vs
+Legal (bytes f) h [] = ⊥
+Legal (bytes f) h (n ∷ vs) = Legal (f n) (n ∷ h) vs
 
-pub held : (f : Fmt) (h : List ℕ) (at : ℕ) (vs : List ℕ) (b : List Bool) → write f h at vs ≡ accepted b → Held f h vs
+pub legal : (f : Fmt) (h : List ℕ) (at : ℕ) (vs : List ℕ) (b : List Bool) → write f h at vs ≡ accepted b → Legal f h vs
 unfolding write
-held end h at [] b e = tt
-held end h at (v ∷ vs) b e = clash e
-held (field w j m f) h at [] b e = clash e
-held (field w j m f) h at (v ∷ vs) b e = let y = written w j h at v _ b e in (y .narrow, y .fine, held f (v ∷ h) (at + w) vs (y .rest) (y .after))
-held (choice w j f) h at [] b e = clash e
-held (choice w j f) h at (v ∷ vs) b e = let y = written w j h at v _ b e in (y .narrow, y .fine, held (f v) (v ∷ h) (at + w) vs (y .rest) (y .after))
-held (bytes f) h at [] b e = clash e
-held (bytes f) h at (n ∷ vs) b e = held (f n) (n ∷ h) at vs b (sized-inv n at _ e .0)
+legal end h at [] b e = tt
+legal end h at (v ∷ vs) b e = clash e
+legal (field w j m f) h at [] b e = clash e
+legal (field w j m f) h at (v ∷ vs) b e = let y = written w j h at v _ b e in (y .narrow, y .fine, legal f (v ∷ h) (at + w) vs (y .rest) (y .after))
+legal (choice w j f) h at [] b e = clash e
+legal (choice w j f) h at (v ∷ vs) b e = let y = written w j h at v _ b e in (y .narrow, y .fine, legal (f v) (v ∷ h) (at + w) vs (y .rest) (y .after))
+legal (bytes f) h at [] b e = clash e
+legal (bytes f) h at (n ∷ vs) b e = legal (f n) (n ∷ h) at vs b (sized-inv n at _ e .0)
 
 -- a value that a judge found good has no fault by its number
 pub told-good : (w v : ℕ) (j : List Bool → Fault) {faultOf : ℕ → ℕ} → Tells w j faultOf → v < 2 ^ w → j (digits w v) ≡ good → faultOf v ≡ 0

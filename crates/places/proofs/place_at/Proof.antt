@@ -1,10 +1,10 @@
--- `pick` meets its contract: each number in turn.
+-- `place_at` meets its contract: each number in turn.
 use mathlib.Core.Path.{refl, sym}
 use Prim.Native.Nat.{_-_}
 use native.Mathlib.Omega.{arith}
 use borrow.Author.Tests.{le-ltb}
-use Rattle.places.proofs.pick.Statement.{statement}
-use Rattle.places.proofs.pick.Tie as tie
+use Rattle.places.proofs.place_at.Statement.{statement}
+use Rattle.places.proofs.place_at.Tie as tie
 
 returns : tie.Need-returns
 returns c = sym (rw (c .if1 .taken) refl)
@@ -18,5 +18,5 @@ returns-3 c = sym (rw (c .if3 .taken) refl)
 returns-4 : tie.Need-returns-4
 returns-4 c = let s = c .before .before .before .args in sym (rw (le-ltb (s .i) 3 (omega arith)) refl)
 
-pub pick-spec : {M : Type 1} → statement M
-pick-spec = tie.close (tie.spec returns returns-2 returns-3 returns-4)
+pub place-at-spec : {M : Type 1} → statement M
+place-at-spec = tie.close (tie.spec returns returns-2 returns-3 returns-4)
