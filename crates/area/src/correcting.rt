@@ -1,4 +1,4 @@
-// An area corrected in@@offset (paper 01, "Correcting a field").
+// An area corrected in place (paper 01, "Correcting a field").
 ghost use Rattle.bits.specs.Bits.{fieldAt};
 ghost use Rattle.format.specs.Promises.{Corrects};
 ghost use Rattle.area.specs.Area.{areas};

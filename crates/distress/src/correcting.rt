@@ -1,4 +1,4 @@
-// A report corrected in@@offset (paper 01, "Correcting a field").
+// A report corrected in place (paper 01, "Correcting a field").
 ghost use Rattle.distress.specs.Report.{reports};
 ghost use Rattle.format.specs.Promises.{Corrects};
 use crate::reading::fields;

@@ -1,4 +1,4 @@
-// A frame GLJC corrected in@@offset, and sealed anew (paper 01, "Correcting a field").
+// A frame GLJC corrected in place, and sealed anew (paper 01, "Correcting a field").
 ghost use Rattle.format.specs.Promises.{Corrects};
 ghost use Rattle.gljc.specs.Gljc.{gljcs};
 use crate::reading::fields;

@@ -1,4 +1,4 @@
-// A packet corrected in@@offset (paper 01, "Correcting a field").
+// A packet corrected in place (paper 01, "Correcting a field").
 ghost use Rattle.format.specs.Promises.{Corrects};
 ghost use Rattle.packet.specs.Packet.{packets};
 use crate::reading::fields;

@@ -1,4 +1,4 @@
-// A frame TXHZ corrected in@@offset, and sealed anew (paper 01, "Correcting a field").
+// A frame TXHZ corrected in place, and sealed anew (paper 01, "Correcting a field").
 ghost use mathlib.Core.Path.{_≡_};
 ghost use mathlib.Core.Bool.{cond};
 ghost use lib.Dec.{ltb};

@@ -1,4 +1,4 @@
-// A frame TXSQ corrected in@@offset, and sealed anew (paper 01, "Correcting a field").
+// A frame TXSQ corrected in place, and sealed anew (paper 01, "Correcting a field").
 ghost use Rattle.format.specs.Promises.{Corrects};
 ghost use Rattle.txsq.specs.Txsq.{txsqs};
 use crate::reading::fields;

@@ -1,4 +1,4 @@
-// A frame TXXX corrected in@@offset, and sealed anew (paper 01, "Correcting a field").
+// A frame TXXX corrected in place, and sealed anew (paper 01, "Correcting a field").
 ghost use mathlib.Core.Path.{_≡_};
 ghost use mathlib.Core.Bool.{cond};
 ghost use Prim.Native.Nat.{_-_, _*_};
@@ -17,7 +17,7 @@ pub fn correct(buf: &mut [u8], field: usize, value: u64) -> u8
     ensures { λ code. ⌜ Corrects txxxs (now (buf .entry)) field value code (now (buf .exit)) ⌝ }
 {
     let was = read(buf);
-    // All but the mark stand in the same offsets in every frame.
+    // All but the mark stand at the same offsets in every frame.
     let offsets = [
         0,
         8,

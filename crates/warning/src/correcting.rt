@@ -1,4 +1,4 @@
-// A warning corrected in@@offset (paper 01, "Correcting a field").
+// A warning corrected in place (paper 01, "Correcting a field").
 ghost use Rattle.bits.specs.Bits.{fieldAt};
 ghost use Rattle.format.specs.Promises.{Corrects};
 ghost use Rattle.warning.specs.Warning.{warnings};

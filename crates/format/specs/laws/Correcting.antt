@@ -1,4 +1,4 @@
--- The code corrects in@@offset: it changes the field's bits, reads the fields again, puts the old bits back where they are refused, and makes the seal anew. Assumes nothing.
+-- The code corrects in place: it changes the field's bits, reads the fields again, puts the old bits back where they are refused, and makes the seal anew. Assumes nothing.
 use mathlib.Core.Path.{_≡_, refl, sym, ap, _∙_}
 use mathlib.Core.Bool.{Bool, true, false, cond}
 use mathlib.Core.List.{List, []}

@@ -1,4 +1,4 @@
--- A family's correction in@@offset, from its own answers: laws/Correcting said of the record that was read and where its fields stand. Assumes nothing.
+-- A family's correction in place, from its own answers: laws/Correcting said of the record that was read and where its fields stand. Assumes nothing.
 use mathlib.Core.Path.{_≡_, sym, ap, _∙_}
 use mathlib.Core.Bool.{cond}
 use mathlib.Core.List.{List, []}

@@ -78,7 +78,7 @@ pub record Putting (s : List ℕ) (b : List Bool) (f : Fmt) (at : ℕ) (vs : Lis
 pub put-start : (s : List ℕ) (f : Fmt) (vs : List ℕ) (b : List Bool) → Bytes s → length b ≤ length s * 8 → write f [] 0 vs ≡ accepted b → Putting s b f 0 vs s
 put-start s f vs b h l e = record { before = []; front = []; left = b; todo = e; whole = refl; long = refl; stands = refl; size = refl; fine = h; room = l }
 
--- s with the bits m, n of them, in@@offset of those from `at` on
+-- s with the bits m, n of them, in place of those from `at` on
 abbrev pub laidIn : List ℕ → ℕ → List Bool → ℕ → List ℕ
 laidIn s at m n = bytesOf (length s) (take at (bitsOf s) ++ (m ++ drop (at + n) (bitsOf s)))
 

@@ -19,6 +19,4 @@ finish-spec =
     (λ c κs. search needs)
     slice-reshare-prefix-put
     slice-aggregate-put
-    (λ c κs. search needs)
-    (λ c. search needs)
-    (λ c. search needs))
+    (λ c κs. search needs) (λ c. search needs) (λ c. search needs))

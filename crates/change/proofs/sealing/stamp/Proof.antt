@@ -24,8 +24,6 @@ stamp-spec =
     (tie.spec
     (λ c. search needs)
     slice-aggregate-xor
-    (λ c κs. search needs)
-    (λ c. search needs)
-    (λ c. search needs)
+    (λ c κs. search needs) (λ c. search needs) (λ c. search needs)
     returns
     returns-2)

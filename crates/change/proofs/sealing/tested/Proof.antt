@@ -43,7 +43,6 @@ tested-spec =
     returns-2
     (λ c. search needs)
     slice-aggregate-xor
-    (λ c κs. search needs)
-    (λ c. search needs)
+    (λ c κs. search needs) (λ c. search needs)
     returns-3
     returns-4)

@@ -1,4 +1,4 @@
--- `correct` is the correction in@@offset of every family, with the report's fields read before and behind the change and its table of offsets.
+-- `correct` is the correction in place of every family, with the report's fields read before and behind the change and its table of offsets.
 use mathlib.Core.Path.{refl, ap, _∙_}
 use Rattle.format.specs.Fmt.{also}
 use Rattle.format.specs.laws.Corrections.{family-early, family-late, goes-on}
@@ -53,17 +53,7 @@ pub correct-spec : {M : Type 1} → statement M
 correct-spec =
     tie.close
     (tie.spec
-    (λ c κs. search needs)
-    (λ c. search needs)
-    (λ c. search needs)
-    (λ c κs. search needs)
-    (λ c κs. search needs)
-    (λ c κs. search needs)
-    (λ c. search needs)
+    (λ c κs. search needs) (λ c. search needs) (λ c. search needs) (λ c κs. search needs) (λ c κs. search needs) (λ c κs. search needs) (λ c. search needs)
     returns
-    (λ c κs. search needs)
-    (λ c κs. search needs)
-    (λ c κs. search needs)
-    (λ c κs. search needs)
-    (λ c. search needs)
+    (λ c κs. search needs) (λ c κs. search needs) (λ c κs. search needs) (λ c κs. search needs) (λ c. search needs)
     returns-2)

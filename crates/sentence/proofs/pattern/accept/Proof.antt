@@ -114,15 +114,11 @@ accept-spec =
     sub-same-3
     part-same-start
     part-same-end
-    (λ c. search needs)
-    (λ c κs. search needs)
+    (λ c. search needs) (λ c κs. search needs)
     returns-2
     sub-all-digits
     sub-all-digits-2
-    (λ c. search needs)
-    (λ c. search needs)
-    (λ c. search needs)
-    (λ c κs. search needs)
+    (λ c. search needs) (λ c. search needs) (λ c. search needs) (λ c κs. search needs)
     returns-3
     sub-address
     sub-address-2

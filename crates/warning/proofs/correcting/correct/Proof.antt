@@ -1,4 +1,4 @@
--- `correct` is the correction in@@offset of every family, with the warning's fields read before and behind the change and the table of its fields' numbers.
+-- `correct` is the correction in place of every family, with the warning's fields read before and behind the change and the table of its fields' numbers.
 use mathlib.Core.Path.{refl, ap, _∙_}
 use Rattle.bits.specs.Bits.{Bytes, fieldAt}
 use Rattle.format.specs.Fmt.{also}
@@ -61,19 +61,7 @@ pub correct-spec : {M : Type 1} → statement M
 correct-spec =
     tie.close
     (tie.spec
-    (λ c κs. search needs)
-    (λ c κs. search needs)
-    (λ c. search needs)
-    (λ c. search needs)
-    (λ c. search needs)
-    (λ c κs. search needs)
-    (λ c κs. search needs)
-    (λ c κs. search needs)
-    (λ c. search needs)
+    (λ c κs. search needs) (λ c κs. search needs) (λ c. search needs) (λ c. search needs) (λ c. search needs) (λ c κs. search needs) (λ c κs. search needs) (λ c κs. search needs) (λ c. search needs)
     returns
-    (λ c κs. search needs)
-    (λ c κs. search needs)
-    (λ c κs. search needs)
-    (λ c κs. search needs)
-    (λ c. search needs)
+    (λ c κs. search needs) (λ c κs. search needs) (λ c κs. search needs) (λ c κs. search needs) (λ c. search needs)
     returns-2)
