@@ -44,11 +44,11 @@ same-length-4 c = search needs
 returns-2 : tie.Need-returns-2 Inv-loop μ-loop
 returns-2 c = search needs
 
-slice-reshare-prefix-list-waiting : tie.Need-slice-reshare-prefix-list-waiting Inv-loop μ-loop
-slice-reshare-prefix-list-waiting c = search needs
+slice-reshare-prefix-list-window : tie.Need-slice-reshare-prefix-list-window Inv-loop μ-loop
+slice-reshare-prefix-list-window c = search needs
 
-slice-aggregate-list-waiting : tie.Need-slice-aggregate-list-waiting Inv-loop μ-loop
-slice-aggregate-list-waiting c = simp length-take (omega arith)
+slice-aggregate-list-window : tie.Need-slice-aggregate-list-window Inv-loop μ-loop
+slice-aggregate-list-window c = simp length-take (omega arith)
 
 list-window-requires : tie.Need-list-window-requires Inv-loop μ-loop
 list-window-requires c κs = tt
@@ -63,10 +63,10 @@ returns-3 : tie.Need-returns-3 Inv-loop μ-loop
 returns-3 c = search needs
 
 sub-is-bad : tie.Need-sub-is-bad Inv-loop μ-loop
-sub-is-bad c = omega (arith, simp length-take at (c .before .before .before .before .list-waiting .ensures))
+sub-is-bad c = omega (arith, simp length-take at (c .before .before .before .before .list-window .ensures))
 
 part-is-bad-start : tie.Need-part-is-bad-start Inv-loop μ-loop
-part-is-bad-start c = omega (arith, simp length-take at (c .before .before .before .before .before .list-waiting .ensures))
+part-is-bad-start c = omega (arith, simp length-take at (c .before .before .before .before .before .list-window .ensures))
 
 part-is-bad-end : tie.Need-part-is-bad-end Inv-loop μ-loop
 part-is-bad-end c = search needs
@@ -75,7 +75,7 @@ is-bad-requires : tie.Need-is-bad-requires Inv-loop μ-loop
 is-bad-requires c κs = tt
 
 sub-left-in-all : tie.Need-sub-left-in-all Inv-loop μ-loop
-sub-left-in-all c = omega (arith, simp length-take at (c .before .before .before .before .before .before .before .before .before .list-waiting .ensures))
+sub-left-in-all c = omega (arith, simp length-take at (c .before .before .before .before .before .before .before .before .before .list-window .ensures))
 
 left-in-all-requires : tie.Need-left-in-all-requires Inv-loop μ-loop
 left-in-all-requires c κs = tt
@@ -105,7 +105,7 @@ loop-again c =
     let f = w .before .before .before .before .before .before .before .before in
     let l = f .before .before .before in (
       k .keep .kept .0 ∙ f .fill .kept .0 ∙ l .loop .inv .0,
-      w .list-waiting .kept .1 .1 .0 ∙ l .loop .inv .1,
+      w .list-window .kept .1 .1 .0 ∙ l .loop .inv .1,
       omega (arith, k .keep .kept .0, made-within (k .keep .ensures) (k .keep .kept .0)),
     )
 
@@ -134,8 +134,8 @@ list-log-spec =
     same-length-3
     same-length-4
     returns-2
-    slice-reshare-prefix-list-waiting
-    slice-aggregate-list-waiting
+    slice-reshare-prefix-list-window
+    slice-aggregate-list-window
     list-window-requires
     same-length-5
     same-length-6
