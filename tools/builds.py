@@ -40,6 +40,12 @@ class Build:
             found |= {part for part in before.keys() | after.keys() if before.get(part) != after.get(part)}
         return found.pop() if len(found) == 1 and "" not in found else None
 
+    def reshapes(self):
+        """Whether the build changes which operations and calls a function makes, and so which needs its proof has."""
+        texts = {}
+        self.applied(texts)
+        return any(operations(path, read(path)) != operations(path, text) for path, text in texts.items())
+
     def label(self):
         return f"{self.crate} `{self.name}`"
 
@@ -84,6 +90,12 @@ def parts(path, text):
             found[""] = found[""].replace(one[0], "")
             found[users[0]] += one[0]
     return {part: re.sub(r"\s+", " ", body).strip() for part, body in found.items()}
+
+
+def operations(path, text):
+    """Of each function what may bring a need: branches, casts, calls, indices and arithmetic, but no division by a numeral."""
+    may = r"\b(?:if|else|while|return|as)\b|\w+(?=\()|<<|>>|[-+*\[]|[/%](?!=? ?[1-9])"
+    return {part: re.findall(may, body) for part, body in parts(path, text).items() if part}
 
 
 def builds(edit):
