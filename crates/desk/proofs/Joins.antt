@@ -1,6 +1,6 @@
 -- The ways of a packet into a notice that is open, each with the facts that lead to it; runs of bytes compared byte by byte.
-use mathlib.Core.Path.{_≡_, refl, sym, ap}
-use mathlib.Core.Bool.{Bool, true, false, _&&_, and-true, and-assoc}
+use mathlib.Core.Path.{_≡_, refl, sym, ap, _∙_}
+use mathlib.Core.Bool.{Bool, true, false, not, _&&_, _||_, and-true, and-assoc}
 use mathlib.Core.List.{List}
 use Prim.Native.Nat.{ℕ, suc, _+_, _-_, _≤_, _<_}
 use native.Mathlib.Omega.{arith}
@@ -9,34 +9,36 @@ use lib.ListN.{length, drop, getD, drop-of-length-le}
 use lib.Seq.{drop-cons}
 use borrow.Author.Tests.{eq-eqb, ne-eqb}
 use Rattle.packet.specs.declared.reading.Packet.{Packet}
-use Rattle.places.specs.Places.{held, holding}
-use Rattle.places.specs.Desk.{stays, turnedAway, taken, inCell, alike, joins}
+use Rattle.places.specs.Places.{held, holding, lacks}
+use Rattle.places.specs.Desk.{stays, turnedAway, taken, inCell, alike, contradicts, joins}
 use Rattle.places.specs.laws.Alike.{alike-same}
 use Rattle.places.specs.declared.Place.{Place}
 use Rattle.places.specs.declared.Reply.the-variants.{Again}
 
 module _ (s : List ℕ) (i : ℕ) (p : Place) (r : Packet) (c : List ℕ) where
-  pub other-language : (r .language ≡ p .language → ⊥) → joins s i p r c ≡ turnedAway s 7
+  abbrev pub agree : Bool
+  agree = eqb (r .language) (p .language) && eqb (r .total) (p .total)
+
+  -- a packet contradicts by its language and total, or by its content at a held number
+  apart : {x : Bool} → agree ≡ x → contradicts s i p r c ≡ not (x && (lacks p (r .own) || alike (inCell s i p (r .own)) c))
+  apart e = ap not (sym (and-assoc (eqb (r .language) (p .language)) (eqb (r .total) (p .total)) _) ∙ ap (λ x. x && (lacks p (r .own) || alike (inCell s i p (r .own)) c)) e)
+
+  pub other-head : agree ≡ false → joins s i p r c ≡ turnedAway s 7
   unfolding joins
-  other-language n = rw (ne-eqb (r .language) (p .language) n) refl
+  other-head e = rw (apart e) refl
 
-  module _ (language : r .language ≡ p .language) where
-    pub other-total : (r .total ≡ p .total → ⊥) → joins s i p r c ≡ turnedAway s 7
+  module _ (agreed : agree ≡ true) where
+    pub not-held : held p (r .own) ≡ 0 → joins s i p r c ≡ taken s i (holding p (r .own) (length c)) r c
     unfolding joins
-    other-total n = rw (eq-eqb (r .language) (p .language) language, ne-eqb (r .total) (p .total) n) refl
+    not-held n = rw (apart agreed, eq-eqb (held p (r .own)) 0 n) refl
 
-    module _ (total : r .total ≡ p .total) where
-      pub not-held : held p (r .own) ≡ 0 → joins s i p r c ≡ taken s i (holding p (r .own) (length c)) r c
-      unfolding joins
-      not-held n = rw (eq-eqb (r .language) (p .language) language, eq-eqb (r .total) (p .total) total, eq-eqb (held p (r .own)) 0 n) refl
+    pub held-again : (held p (r .own) ≡ 0 → ⊥) → alike (inCell s i p (r .own)) c ≡ true → joins s i p r c ≡ record { reply = Again; change = stays; store = s }
+    unfolding joins
+    held-again n e = rw (apart agreed, ne-eqb (held p (r .own)) 0 n, e) refl
 
-      pub held-again : (held p (r .own) ≡ 0 → ⊥) → alike (inCell s i p (r .own)) c ≡ true → joins s i p r c ≡ record { reply = Again; change = stays; store = s }
-      unfolding joins
-      held-again n e = rw (eq-eqb (r .language) (p .language) language, eq-eqb (r .total) (p .total) total, ne-eqb (held p (r .own)) 0 n, e) refl
-
-      pub other-content : (held p (r .own) ≡ 0 → ⊥) → alike (inCell s i p (r .own)) c ≡ false → joins s i p r c ≡ turnedAway s 7
-      unfolding joins
-      other-content n e = rw (eq-eqb (r .language) (p .language) language, eq-eqb (r .total) (p .total) total, ne-eqb (held p (r .own)) 0 n, e) refl
+    pub other-content : (held p (r .own) ≡ 0 → ⊥) → alike (inCell s i p (r .own)) c ≡ false → joins s i p r c ≡ turnedAway s 7
+    unfolding joins
+    other-content n e = rw (apart agreed, ne-eqb (held p (r .own)) 0 n, e) refl
 
 -- ---- bytes
 

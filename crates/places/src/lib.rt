@@ -1,14 +1,20 @@
-// A place of the desk (paper 01, "The desk"), and what is asked of the four places, by value.
+// A place of the desk (paper 01, "The desk"), by value; the tests of all four are in `four`.
 ghost use mathlib.Core.Path.{_≡_};
 ghost use mathlib.Core.Bool.{not, cond, _&&_};
 ghost use mathlib.Core.List.{[], _∷_};
 ghost use lib.Dec.{leb, ltb};
 ghost use Rattle.packet.specs.Packet.{mostPackets, partBytes};
-ghost use Rattle.places.specs.Places.{everyBelow, lacks, entryGood, goodPlace, passes, serves, clash, allApart, freed, placeAt, goodPlaces, openAt, freeAt};
-ghost use Rattle.places.specs.Desk.{laidWithin, firstTests, numberOf, stays, turnOf};
+ghost use Rattle.places.specs.Places.{everyBelow, lacks, entryGood, goodPlace, passes, serves, clash, freed};
+ghost use Rattle.places.specs.Desk.{laidWithin, numberOf, stays, turnOf};
+pub use crate::four::first_tests;
+pub use crate::four::free_at;
+pub use crate::four::open_at;
+pub use crate::four::place_at;
 use packet::JOINED;
 use packet::MOST;
 use packet::PART;
+
+pub mod four;
 
 pub struct Place {
     pub open: bool,
@@ -109,7 +115,7 @@ impl Place {
     }
 
     // A closed place's other entries are not looked at.
-    fn passes(self) -> bool
+    pub(crate) fn passes(self) -> bool
         ensures { λ r. ⌜ r ≡ passes self ⌝ }
     {
         if self.open {
@@ -118,7 +124,7 @@ impl Place {
         true
     }
 
-    fn clashes(self, other: Place) -> bool
+    pub(crate) fn clashes(self, other: Place) -> bool
         ensures { λ r. ⌜ r ≡ clash self other ⌝ }
     {
         if other.open {
@@ -128,7 +134,7 @@ impl Place {
     }
 
     // Whether it is open, with that message number.
-    fn serves(self, number: u8) -> bool
+    pub(crate) fn serves(self, number: u8) -> bool
         ensures { λ r. ⌜ r ≡ serves self number ⌝ }
     {
         if self.open {
@@ -168,118 +174,6 @@ fn greater(x: u8, y: u8) -> u8
 {
     if x < y { y } else { x }
 }
-
-// ---- the four places
-
-// The first tests of every call: a store too short (6), then the places themselves (4).
-pub fn first_tests(a: Place, b: Place, c: Place, d: Place, store: &[u8]) -> u8
-    ensures { λ r. ⌜ r ≡ firstTests (a ∷ b ∷ c ∷ d ∷ []) (now (store .entry)) ⌝ }
-{
-    if store.len() < STORE {
-        return format::ROOM;
-    }
-    if sound(a, b, c, d) {
-        return 0;
-    }
-    format::RANGE
-}
-
-// Whether no two are open with one number, and each that is open is good.
-fn sound(a: Place, b: Place, c: Place, d: Place) -> bool
-    ensures { λ r. ⌜ r ≡ goodPlaces (a ∷ b ∷ c ∷ d ∷ []) ⌝ }
-{
-    if !apart(a, b, c, d) {
-        return false;
-    }
-    if !a.passes() {
-        return false;
-    }
-    if !b.passes() {
-        return false;
-    }
-    if !c.passes() {
-        return false;
-    }
-    d.passes()
-}
-
-// Whether no two are open with one number.
-fn apart(a: Place, b: Place, c: Place, d: Place) -> bool
-    ensures { λ r. ⌜ r ≡ allApart (a ∷ b ∷ c ∷ d ∷ []) ⌝ }
-{
-    if a.clashes(b) {
-        return false;
-    }
-    if a.clashes(c) {
-        return false;
-    }
-    if b.clashes(c) {
-        return false;
-    }
-    if a.clashes(d) {
-        return false;
-    }
-    if b.clashes(d) {
-        return false;
-    }
-    !c.clashes(d)
-}
-
-// The open place of that message number; PLACES where there is none.
-pub fn open_at(a: Place, b: Place, c: Place, d: Place, number: u8) -> usize
-    ensures { λ r. ⌜ r ≡ openAt (a ∷ b ∷ c ∷ d ∷ []) number ⌝ }
-{
-    if a.serves(number) {
-        return 0;
-    }
-    if b.serves(number) {
-        return 1;
-    }
-    if c.serves(number) {
-        return 2;
-    }
-    if d.serves(number) {
-        return 3;
-    }
-    PLACES
-}
-
-// The lowest free place; PLACES where there is none.
-pub fn free_at(a: Place, b: Place, c: Place, d: Place) -> usize
-    ensures { λ r. ⌜ r ≡ freeAt (a ∷ b ∷ c ∷ d ∷ []) ⌝ }
-{
-    if !a.open {
-        return 0;
-    }
-    if !b.open {
-        return 1;
-    }
-    if !c.open {
-        return 2;
-    }
-    if !d.open {
-        return 3;
-    }
-    PLACES
-}
-
-// Place number `i`; the last one for a greater number.
-pub fn place_at(a: Place, b: Place, c: Place, d: Place, i: usize) -> Place
-    ensures { λ r. ⌜ r ≡ placeAt (a ∷ b ∷ c ∷ d ∷ []) (cond (ltb i 3) i 3) ⌝ }
-{
-    if i == 0 {
-        return a;
-    }
-    if i == 1 {
-        return b;
-    }
-    if i == 2 {
-        return c;
-    }
-    d
-}
-
-// ---- what the calls share
 
 // Puts the bytes `part` into `s` from byte `at` on, where they fit; else every byte stays.
 pub fn lay(s: &mut [u8], at: usize, part: &[u8])

@@ -29,10 +29,7 @@ pub(crate) fn join(
     requires { ⌜ (i < fourPlaces) × (storeBytes ≤ length (now store)) × (held p (r .own) ≤ partBytes) × (r .own < mostPackets) × (length (now content) ≤ partBytes) ⌝ }
     ensures { λ t. ⌜ Gives first (joins (now (store .entry)) i p r (now (content .entry))) t (now (store .exit)) ⌝ }
 {
-    if r.language != p.language {
-        return Turn::staying(first, Reply::Refused(format::CONTRADICTS));
-    }
-    if r.total != p.total {
+    if !agrees(r, p) {
         return Turn::staying(first, Reply::Refused(format::CONTRADICTS));
     }
     let own = r.own as usize;
@@ -51,6 +48,16 @@ pub(crate) fn join(
         return Turn::staying(first, Reply::Again);
     }
     Turn::staying(first, Reply::Refused(format::CONTRADICTS))
+}
+
+// Whether the packet has the language and the total of its notice.
+fn agrees(r: Packet, p: Place) -> bool
+    ensures { λ x. ⌜ x ≡ (eqb (r .language) (p .language) && eqb (r .total) (p .total)) ⌝ }
+{
+    if r.language != p.language {
+        return false;
+    }
+    r.total == p.total
 }
 
 // It is not open, and the lowest free place is `i`.

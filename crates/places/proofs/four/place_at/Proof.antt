@@ -3,8 +3,8 @@ use mathlib.Core.Path.{refl, sym}
 use Prim.Native.Nat.{_-_}
 use native.Mathlib.Omega.{arith}
 use borrow.Author.Tests.{le-ltb}
-use Rattle.places.proofs.place_at.Statement.{statement}
-use Rattle.places.proofs.place_at.Tie as tie
+use Rattle.places.proofs.four.place_at.Statement.{statement}
+use Rattle.places.proofs.four.place_at.Tie as tie
 
 returns : tie.Need-returns
 returns c = sym (rw (c .if1 .taken) refl)

@@ -2,8 +2,8 @@
 use mathlib.Core.Path.{refl, sym, _∙_}
 use Prim.Native.Nat.{_-_}
 use Rattle.places.specs.laws.Four.{free-four}
-use Rattle.places.proofs.free_at.Statement.{statement}
-use Rattle.places.proofs.free_at.Tie as tie
+use Rattle.places.proofs.four.free_at.Statement.{statement}
+use Rattle.places.proofs.four.free_at.Tie as tie
 
 returns : tie.Need-returns
 returns c = let s = c .before .before .args in let a = s .a in let b = s .b in let d = s .c in let e = s .d in sym (free-four a b d e ∙ rw (c .if1 .taken) refl)

@@ -3,8 +3,8 @@ use mathlib.Core.Path.{refl, sym, _∙_}
 use Prim.Native.Nat.{_-_}
 use borrow.Author.Needs.{needs}
 use Rattle.places.specs.laws.Four.{apart-four}
-use Rattle.places.proofs.apart.Statement.{statement}
-use Rattle.places.proofs.apart.Tie as tie
+use Rattle.places.proofs.four.apart.Statement.{statement}
+use Rattle.places.proofs.four.apart.Tie as tie
 
 returns : tie.Need-returns
 returns c = let s = c .before .before .args in let a = s .a in let b = s .b in let d = s .c in let e = s .d in sym (apart-four a b d e ∙ rw (sym (c .before .clashes .ensures) ∙ c .if1 .taken) refl)

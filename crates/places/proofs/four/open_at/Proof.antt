@@ -4,8 +4,8 @@ use Prim.Native.Nat.{_-_}
 use borrow.Author.Needs.{needs}
 use Rattle.places.specs.Places.{serves}
 use Rattle.places.specs.laws.Four.{open-four}
-use Rattle.places.proofs.open_at.Statement.{statement}
-use Rattle.places.proofs.open_at.Tie as tie
+use Rattle.places.proofs.four.open_at.Statement.{statement}
+use Rattle.places.proofs.four.open_at.Tie as tie
 
 returns : tie.Need-returns
 returns c = let s = c .before .before .args in let a = s .a in let b = s .b in let d = s .c in let e = s .d in sym (open-four a b d e (s .number) ∙ rw (sym (c .before .serves .ensures) ∙ c .if1 .taken) refl)

@@ -5,8 +5,8 @@ use borrow.Author.Needs.{needs}
 use borrow.Author.Tests.{not-true, not-false}
 use Rattle.places.specs.Places.{passes}
 use Rattle.places.specs.laws.Four.{good-four}
-use Rattle.places.proofs.sound.Statement.{statement}
-use Rattle.places.proofs.sound.Tie as tie
+use Rattle.places.proofs.four.sound.Statement.{statement}
+use Rattle.places.proofs.four.sound.Tie as tie
 
 returns : tie.Need-returns
 returns c = let s = c .before .before .args in let a = s .a in let b = s .b in let d = s .c in let e = s .d in sym (good-four a b d e ∙ rw (sym (c .before .apart .ensures) ∙ not-true _ (c .if1 .taken)) refl)

@@ -4,8 +4,8 @@ use Prim.Native.Nat.{_-_}
 use borrow.Author.Needs.{needs}
 use borrow.Author.Tests.{le-leb, lt-leb}
 use Rattle.places.specs.Desk.{firstTests}
-use Rattle.places.proofs.first_tests.Statement.{statement}
-use Rattle.places.proofs.first_tests.Tie as tie
+use Rattle.places.proofs.four.first_tests.Statement.{statement}
+use Rattle.places.proofs.four.first_tests.Tie as tie
 
 returns : tie.Need-returns
 unfolding firstTests
