@@ -1,11 +1,14 @@
-// AIS (paper 01, "AIS"): what reading a message of either kind answers; how many slots it needs, from `slots`.
+// AIS (paper 01, "AIS"): both messages with their calls, what reading either answers, and how many slots one needs. A crate above takes
+// all of it from here; crates.txt names `warning` and `area` beside it there, since the kit asks for the crate that declares a type.
 ghost use mathlib.Core.Path.{_≡_};
 ghost use Rattle.ais.specs.Ais.{codeOf};
 pub use crate::slot_count::Needed;
 pub use crate::slot_count::slots;
 pub use ais_common::head::SMALLEST;
 
+pub mod areas;
 pub mod slot_count;
+pub mod warnings;
 
 // The refusal of reading a message as the one whose number it has; 0 for a good one.
 pub fn code(s: &[u8]) -> u8

@@ -11,9 +11,9 @@ pub mod spelling;
 pub struct Sentence;
 
 impl Sentence {
-    pub const LEAST: usize = crate::pattern::LEAST;
+    pub const LEAST: usize = 54;
 
-    pub const GREATEST: usize = crate::pattern::GREATEST;
+    pub const GREATEST: usize = 60;
 
     // Of the longest one.
     pub const BITS: usize = 8 * Sentence::GREATEST;

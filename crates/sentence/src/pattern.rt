@@ -6,11 +6,7 @@ ghost use lib.Dec.{leb};
 ghost use lib.ListN.{length};
 ghost use Rattle.sentence.specs.Spelling.{spelt};
 ghost use Rattle.sentence.specs.Pattern.{sameBytes, addressLike, leadOf, aroundSo, aroundOf, refusalOf};
-
-// Its bytes.
-pub const LEAST: usize = 54;
-
-pub const GREATEST: usize = 60;
+use crate::Sentence;
 
 // The receiver's address; no leading zero.
 pub const LEAST_ADDRESS: u32 = 1;
@@ -86,10 +82,10 @@ fn lead(s: &[u8]) -> u8
     ensures { λ r. ⌜ r ≡ leadOf (now (s .entry)) ⌝ }
 {
     let n = s.len();
-    if n < LEAST {
+    if n < Sentence::LEAST {
         return format::SIZE;
     }
-    if n > GREATEST {
+    if n > Sentence::GREATEST {
         return format::SIZE;
     }
     if !same(&s[0..7], b"$CCTXA,") {
