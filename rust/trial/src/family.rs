@@ -1,0 +1,30 @@
+//! The families that are compared.
+//!
+//! A new one is a module here. It also needs one in `inputs` and `numbers`, and in each of the crates `record`,
+//! `bellnewt`, `paper` and `bench`.
+
+pub mod ais;
+pub mod desk;
+pub mod distress;
+pub mod notice;
+pub mod packet;
+pub mod serial;
+
+use crate::harness::{self, Options, Tally};
+
+/// The answers of the compiled, proved code.
+pub struct Proved;
+
+/// The answers of the independent program. Its calls are never inlined, since those of the library can't be.
+pub struct Paper;
+
+/// Runs every family.
+pub fn run(options: &Options, tally: &mut Tally) {
+    harness::print_head();
+    harness::run::<distress::Distress>(options, tally);
+    serial::run(options, tally);
+    ais::run(options, tally);
+    harness::run::<packet::Packets>(options, tally);
+    harness::run::<notice::Notices>(options, tally);
+    desk::run(options, tally);
+}

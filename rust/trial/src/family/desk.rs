@@ -1,0 +1,144 @@
+//! The packet desk: the calls of both programs, and how they are compared over sequences of calls. Each call of a
+//! sequence is lent the places and the store as the one before left them.
+
+mod sequence;
+
+use super::{Paper, Proved};
+use crate::harness::{self, Call, Counts, Options, Tally};
+use crate::inputs::Random;
+use paper::desk::Answer;
+use record::{code, Accepted, Place, Refusal};
+
+/// The desk's calls, each as in C but for slices, and for the places: the independent program has its own.
+pub trait Calls {
+    /// What places are lent as: bytes, or structs.
+    type Cell: Copy;
+
+    /// The places that a row of bytes spells, and the row that places are spelled by.
+    fn places(row: &[u8]) -> Vec<Self::Cell>;
+    fn row(places: &[Self::Cell]) -> Vec<u8>;
+
+    fn accept(places: &mut [Self::Cell], store: &mut [u8], packet: &[u8], again: &mut u8) -> u8;
+    fn ask(
+        places: &mut [Self::Cell],
+        store: &[u8],
+        number: u8,
+        notice: &mut [u8],
+        missing: &mut [u16],
+        count: &mut usize,
+        language: &mut u8,
+    ) -> u8;
+    fn drop(places: &mut [Self::Cell], store: &[u8], number: u8) -> u8;
+}
+
+impl Calls for Proved {
+    type Cell = u8;
+
+    #[inline]
+    fn places(row: &[u8]) -> Vec<u8> {
+        row.to_vec()
+    }
+
+    #[inline]
+    fn row(places: &[u8]) -> Vec<u8> {
+        places.to_vec()
+    }
+
+    #[inline]
+    fn accept(places: &mut [u8], store: &mut [u8], packet: &[u8], again: &mut u8) -> u8 {
+        code(bellnewt::desk::accept_in(places, store, packet, again))
+    }
+
+    #[inline]
+    fn ask(
+        places: &mut [u8],
+        store: &[u8],
+        number: u8,
+        notice: &mut [u8],
+        missing: &mut [u16],
+        count: &mut usize,
+        language: &mut u8,
+    ) -> u8 {
+        code(bellnewt::desk::ask_in(places, store, number, notice, missing, count, language))
+    }
+
+    #[inline]
+    fn drop(places: &mut [u8], store: &[u8], number: u8) -> u8 {
+        code(bellnewt::desk::drop_in(places, store, number))
+    }
+}
+
+impl Calls for Paper {
+    type Cell = Place;
+
+    fn places(row: &[u8]) -> Vec<Place> {
+        row.as_chunks().0.iter().map(Place::of_bytes).collect()
+    }
+
+    fn row(places: &[Place]) -> Vec<u8> {
+        places.iter().flat_map(Place::bytes).collect()
+    }
+
+    #[inline(never)]
+    fn accept(places: &mut [Place], store: &mut [u8], packet: &[u8], again: &mut u8) -> u8 {
+        let accepted = paper::desk::accept(places, store, packet);
+        code(accepted.map(|accepted| *again = u8::from(accepted == Accepted::Again)))
+    }
+
+    #[inline(never)]
+    fn ask(
+        places: &mut [Place],
+        store: &[u8],
+        number: u8,
+        notice: &mut [u8],
+        missing: &mut [u16],
+        count: &mut usize,
+        language: &mut u8,
+    ) -> u8 {
+        code(paper::desk::ask(places, store, number, notice, missing).and_then(|answer| match answer {
+            Answer::Complete { bytes, language: spoken } => {
+                (*count, *language) = (bytes, spoken);
+                Ok(())
+            }
+            Answer::Missing { count: numbers } => {
+                *count = numbers;
+                Err(Refusal::INCOMPLETE)
+            }
+        }))
+    }
+
+    #[inline(never)]
+    fn drop(places: &mut [Place], store: &[u8], number: u8) -> u8 {
+        code(paper::desk::drop(places, store, number))
+    }
+}
+
+const NAME: &str = "desk";
+/// Accepting a packet that is held already is counted by itself.
+const ACCEPT: usize = 0;
+const ACCEPT_AGAIN: usize = 1;
+const ASK: usize = 2;
+const DROP: usize = 3;
+const CALLS: [Call; 4] = [
+    Call { name: "accept", numbers: &[0, 1, 2, 4, 6, 7, 8] },
+    Call { name: "accept again", numbers: &[0] },
+    Call { name: "ask", numbers: &[0, 4, 6, 9, 11] },
+    Call { name: "drop", numbers: &[0, 4, 6, 11] },
+];
+
+/// The most calls of a sequence; the least are a tenth of them.
+const LONGEST: u64 = 5_000;
+
+/// Runs sequences of about as many calls in all as other families are given inputs. A short run has short ones, so that
+/// there are many in any case.
+pub fn run(options: &Options, tally: &mut Tally) {
+    let longest = (options.inputs / 20).clamp(10, LONGEST);
+    let shortest = longest / 10;
+    let sequences = options.inputs.div_ceil((shortest + longest) / 2);
+    let compare = |index: u64, counts: &mut Counts| {
+        let random = &mut Random::new(options.seed, NAME, index);
+        let calls = random.between(shortest as i64, longest as i64);
+        sequence::compare(random, calls, &format!("{NAME}, seed {}, sequence {index}", options.seed), counts);
+    };
+    harness::run_pieces(NAME, &CALLS, sequences, compare, options.floor(), tally);
+}

@@ -1,0 +1,139 @@
+//! The serial frames: the calls of both programs, and how they are compared. Each kind is run as a family.
+
+use super::{Paper, Proved};
+use crate::harness::{self, Call, Family, Guarded, Options, Tally};
+use crate::inputs::{room, serial as inputs, spare, Random};
+use record::{code, Frame, Gljc, Txhz, Txsq, Txxx};
+use std::marker::PhantomData;
+
+/// The calls of a kind of frame, each as in C but for slices and the record.
+pub trait Calls<F: Frame> {
+    fn read(frame: &[u8], row: &mut [i64]) -> u8;
+    fn write(buf: &mut [u8], record: &F, run: &[u8]) -> u8;
+    fn correct(frame: &mut [u8], field: usize, value: u64) -> u8;
+}
+
+impl<F: bellnewt::serial::Kind> Calls<F> for Proved {
+    #[inline]
+    fn read(frame: &[u8], row: &mut [i64]) -> u8 {
+        code(bellnewt::serial::read_row::<F>(frame, row))
+    }
+
+    #[inline]
+    fn write(buf: &mut [u8], record: &F, run: &[u8]) -> u8 {
+        code(bellnewt::serial::write(buf, record, run))
+    }
+
+    #[inline]
+    fn correct(frame: &mut [u8], field: usize, value: u64) -> u8 {
+        code(bellnewt::serial::correct::<F>(frame, field, value))
+    }
+}
+
+impl<F: paper::serial::Kind> Calls<F> for Paper {
+    #[inline(never)]
+    fn read(frame: &[u8], row: &mut [i64]) -> u8 {
+        code(paper::serial::read_row::<F>(frame, row))
+    }
+
+    #[inline(never)]
+    fn write(buf: &mut [u8], record: &F, run: &[u8]) -> u8 {
+        code(paper::serial::write(buf, record, run))
+    }
+
+    #[inline(never)]
+    fn correct(frame: &mut [u8], field: usize, value: u64) -> u8 {
+        code(paper::serial::correct::<F>(frame, field, value))
+    }
+}
+
+/// A kind of frame that both programs know.
+pub trait Kind: inputs::Kind + bellnewt::serial::Kind + paper::serial::Kind {
+    /// Of reading, writing and correcting.
+    const CALLS: &'static [Call] = &[
+        Call { name: "read", numbers: &[0, 1, 2, 3, 4, 5, 6] },
+        Call { name: "write", numbers: &[0, 1, 4, 5, 6] },
+        Call { name: "correct", numbers: &[0, 1, 2, 3, 4, 5, 10] },
+    ];
+}
+
+/// GLJC has neither a run nor a fill.
+impl Kind for Gljc {
+    const CALLS: &'static [Call] = &[
+        Call { name: "read", numbers: &[0, 1, 2, 3, 4, 6] },
+        Call { name: "write", numbers: &[0, 4, 6] },
+        Call { name: "correct", numbers: &[0, 1, 2, 3, 4, 10] },
+    ];
+}
+
+impl Kind for Txsq {}
+impl Kind for Txxx {}
+impl Kind for Txhz {}
+
+/// One call and its numbers; the frame or buffer, the run and the row stand in `Lent`.
+#[derive(Debug)]
+pub enum Input<F> {
+    Read,
+    Write(F),
+    Correct { field: usize, value: u64 },
+}
+
+#[derive(Clone, PartialEq, Debug)]
+pub struct Lent {
+    bytes: Guarded<u8>,
+    run: Guarded<u8>,
+    row: Guarded<i64>,
+}
+
+impl<F: Kind> Input<F> {
+    fn answer<C: Calls<F>>(&self, lent: &mut Lent) -> u8 {
+        let bytes = lent.bytes.part();
+        match self {
+            Input::Read => C::read(bytes, lent.row.part()),
+            Input::Write(record) => C::write(bytes, record, lent.run.part()),
+            Input::Correct { field, value } => C::correct(bytes, *field, *value),
+        }
+    }
+}
+
+pub struct Serial<F>(PhantomData<F>);
+
+impl<F: Kind> Family for Serial<F> {
+    const NAME: &'static str = F::LETTERS;
+    const CALLS: &'static [Call] = F::CALLS;
+    type Input = Input<F>;
+    type Lent = Lent;
+
+    fn input(call: usize, random: &mut Random) -> (Input<F>, Lent) {
+        let (input, bytes, run, row) = match call {
+            0 => (Input::Read, inputs::frame::<F>(random), Vec::new(), room(random, F::ROW)),
+            1 => {
+                let (record, run) = inputs::record::<F>(random);
+                (Input::Write(record), spare(random, F::BARE + run.len()), run, 0)
+            }
+            _ => {
+                let (field, value) = inputs::correction::<F>(random);
+                (Input::Correct { field, value }, inputs::frame_to_correct::<F>(random), Vec::new(), 0)
+            }
+        };
+        let lent =
+            Lent { bytes: Guarded::new(random, bytes), run: Guarded::new(random, run), row: Guarded::any(random, row) };
+        (input, lent)
+    }
+
+    fn proved(input: &Input<F>, lent: &mut Lent) -> u8 {
+        input.answer::<Proved>(lent)
+    }
+
+    fn paper(input: &Input<F>, lent: &mut Lent) -> u8 {
+        input.answer::<Paper>(lent)
+    }
+}
+
+/// Runs all four kinds.
+pub fn run(options: &Options, tally: &mut Tally) {
+    harness::run::<Serial<Gljc>>(options, tally);
+    harness::run::<Serial<Txsq>>(options, tally);
+    harness::run::<Serial<Txxx>>(options, tally);
+    harness::run::<Serial<Txhz>>(options, tally);
+}
