@@ -23,7 +23,7 @@ pub fn read(s: &[u8], row: &mut [i64]) -> u8
     match answer {
         Answer::Good(r) => {
             let numbers = numbers(r);
-            crate::fill(row, &numbers)
+            crate::fill_signed(row, &numbers)
         },
         Answer::Refused(code) => code,
     }

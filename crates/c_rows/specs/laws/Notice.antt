@@ -89,7 +89,7 @@ module _ (language : ℕ) (s : List ℕ) (row : List ℤ) (areas text : List ℕ
           go (refused d p) e a t = let z : _≡_ {A = ℕ} 0 1 = cc in absurd (omega arith)
           go (accepted x) e a t =
               let is : r ≡ toldOf x = cc in
-              let full = one-filling (accepted (rowOf r)) row c 0 row′ (rowOf r ++ drop 10 row) f (row-full {o = accepted (rowOf r)} row {xs = rowOf r} refl ten) in
+              let full = one-filling f (row-full {o = accepted (rowOf r)} row {xs = rowOf r} refl ten) in
               rw (le-leb 10 (length row) ten) (full .0, full .1 ∙ ap (λ r. rowOf r ++ drop 10 row) is, a, t)
 
       pub lent-bad : {d : ℕ} → Reads (eqb language 1) s areas text (Refused d) areas′ text′ → NoticeFills language s row areas text d row areas′ text′

@@ -17,8 +17,8 @@ returns c =
     let read = m .before .before in
     let st = read .before .before in
     let a = st .args in
-    fills-good (λ r. r) Good Refused rowOf outOf (λ q. refl) (λ c. refl) (readRecord areas read-as (a .s .now)) (read .read .ensures) (a .row .now)
-    (m .answer .given .1) (numbers .numbers .ensures) (fill .fill .ensures)
+    fills-good (λ r. r) Good Refused outOf (λ q. refl) (λ c. refl) (λ xs. xs) rowOf (readRecord areas read-as (a .s .now)) (a .row .now) (read .read .ensures)
+    (m .answer .given .1) (numbers .numbers .ensures) (fill .fill-signed .ensures)
 
 returns-2 : tie.Need-returns-2
 returns-2 c =
@@ -26,7 +26,7 @@ returns-2 c =
     let read = m .before .before in
     let st = read .before .before in
     let a = st .args in
-    fills-refused (λ r. r) Good Refused rowOf outOf (λ q. refl) (λ c. refl) (readRecord areas read-as (a .s .now)) (read .read .ensures) (a .row .now) (m .answer2 .given .1)
+    fills-refused (λ r. r) Good Refused outOf (λ q. refl) (λ c. refl) (λ xs. xs) rowOf (readRecord areas read-as (a .s .now)) (a .row .now) (read .read .ensures) (m .answer2 .given .1)
 
 pub read-spec : {M : Type 1} → statement M
 read-spec =

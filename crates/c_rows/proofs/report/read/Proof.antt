@@ -20,9 +20,9 @@ returns c =
     let read = m .before .before in
     let a = read .before .before .args in
     let e = good-numbers (a .s .now) _ (sym (m .answer .given .1) ∙ read .read .ensures) in
-    subst (λ (o : Out (List ℤ)). Fills o (a .row .now) (fill .fill .result) (fill .fill .last .0))
+    subst (λ (o : Out (List ℤ)). Fills o (a .row .now) (fill .fill-signed .result) (fill .fill-signed .last .0))
     (ap (λ (xs : List ℤ). accepted (take 9 (drop 1 xs))) (numbers .numbers .ensures) ∙ sym e)
-    (fill .fill .ensures)
+    (fill .fill-signed .ensures)
 
 returns-2 : tie.Need-returns-2
 returns-2 c =

@@ -17,9 +17,9 @@ returns c =
     let read = m .before .before in
     let a = read .before .before .args in
     let e = heard-numbers (a .s .now) _ _ (sym (m .heard .given .1) ∙ read .read .ensures) in
-    subst (λ (o : Out (List ℤ)). Fills o (a .row .now) (fill .fill .result) (fill .fill .last .0))
+    subst (λ (o : Out (List ℤ)). Fills o (a .row .now) (fill .fill-signed .result) (fill .fill-signed .last .0))
     (ap accepted (numbers .numbers .ensures) ∙ sym e)
-    (fill .fill .ensures)
+    (fill .fill-signed .ensures)
 
 returns-2 : tie.Need-returns-2
 returns-2 c =
