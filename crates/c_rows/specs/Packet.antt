@@ -1,7 +1,7 @@
 -- The packet as numbers (paper 01, "Notice and packet"). Assumes nothing.
 use Prim.Native.Nat.{ℕ}
 use mathlib.Core.List.{List, [], _∷_}
-use lib.IntN.{ℤ, pos}
+use lib.IntN.{ℤ}
 use lib.ListN.{length}
 use Rattle.c_rows.specs.Row.{entries}
 use Rattle.format.specs.Fmt.{Out, also}
