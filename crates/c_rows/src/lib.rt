@@ -7,7 +7,7 @@ pub mod gljcs;
 pub mod notices;
 pub mod outlines;
 pub mod packets;
-pub mod report;
+pub mod reports;
 pub mod sentences;
 pub mod slots;
 pub mod txhzs;

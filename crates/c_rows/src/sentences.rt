@@ -1,7 +1,7 @@
 // The distress sentence as numbers.
 ghost use Rattle.c_rows.specs.Row.{Fills};
 ghost use Rattle.c_rows.specs.Sentence.{sentenceNumbers, SentenceWrites};
-use crate::report::numbers;
+use crate::reports::numbers;
 use distress::Report;
 use sentence::Heard;
 use sentence::Sent;

@@ -6,10 +6,10 @@ use lib.IntN.{ℤ}
 use mir.Syntax.{w32}
 use mir.Val.{SFits, toZ, ofZ}
 use mir.ValLaws.{toZ-ofZ}
-use Rattle.format.specs.Fmt.{accepted, refused, also}
+use Rattle.format.specs.Fmt.{refused, also}
 use Rattle.format.specs.laws.Answers.{bad-refuses}
 use Rattle.format.specs.laws.Family.{never-read}
-use Rattle.distress.specs.laws.Demands.{family, good}
+use Rattle.distress.specs.laws.Demands.{family}
 use Rattle.distress.specs.Promises.{Reads}
 use Rattle.distress.specs.Report.{reports, reportOf, outOf}
 use Rattle.distress.specs.declared.reading.Report.{Report}
@@ -18,9 +18,6 @@ use Rattle.format.specs.Promises.{readRecord}
 use Rattle.c_rows.specs.Row.{Fills}
 use Rattle.c_rows.specs.Report.{rowOf, numbersOf, recordOf}
 use Rattle.c_rows.specs.laws.Row.{row-refused}
-
-pub good-numbers : (s : List ℕ) (r : Report) → Reads s (Good r) → numbersOf s ≡ accepted (rowOf r)
-good-numbers s r e = ap (also rowOf) (good s r e)
 
 -- a refused report is a refused reading
 refused-read : (s : List ℕ) (c : ℕ) → Reads s (Refused c) → (p : ℕ) × (readRecord reports reportOf s ≡ refused c p)

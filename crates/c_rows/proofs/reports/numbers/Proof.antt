@@ -5,8 +5,8 @@ use mir.Syntax.{w32}
 use Rattle.c_rows.specs.Report.{rowOf}
 use Rattle.c_rows.specs.laws.Signed.{entry, widens, widened}
 use borrow.Author.Needs.{needs}
-use Rattle.c_rows.proofs.report.numbers.Statement.{statement}
-use Rattle.c_rows.proofs.report.numbers.Tie as tie
+use Rattle.c_rows.proofs.reports.numbers.Statement.{statement}
+use Rattle.c_rows.proofs.reports.numbers.Tie as tie
 
 cast-t7 : tie.Need-cast-t7
 cast-t7 c = widens {w = w32} {z = c .before .before .before .args .r .longitude} tt (record { sfits = c .before .before .struct-told .given .1 .0 .1 })

@@ -6,8 +6,8 @@ use Rattle.distress.specs.declared.reading.Report.{Report}
 use Rattle.c_rows.specs.Report.{recordOf}
 use Rattle.c_rows.specs.laws.Report.{kept}
 use borrow.Author.Needs.{needs}
-use Rattle.c_calls.proofs.report.bellnewt_distress_write.Statement.{statement}
-use Rattle.c_calls.proofs.report.bellnewt_distress_write.Tie as tie
+use Rattle.c_calls.proofs.report_calls.bellnewt_distress_write.Statement.{statement}
+use Rattle.c_calls.proofs.report_calls.bellnewt_distress_write.Tie as tie
 
 returns : tie.Need-returns
 returns c =

@@ -5,8 +5,8 @@ use Rattle.c_rows.specs.Report.{recordOf}
 use Rattle.c_rows.specs.Sentence.{SentenceWrites}
 use Rattle.c_rows.specs.laws.Report.{kept}
 use borrow.Author.Needs.{needs}
-use Rattle.c_calls.proofs.sentences.bellnewt_sentence_write.Statement.{statement}
-use Rattle.c_calls.proofs.sentences.bellnewt_sentence_write.Tie as tie
+use Rattle.c_calls.proofs.sentence_calls.bellnewt_sentence_write.Statement.{statement}
+use Rattle.c_calls.proofs.sentence_calls.bellnewt_sentence_write.Tie as tie
 
 returns : tie.Need-returns
 returns c =
