@@ -1,10 +1,6 @@
--- `bellnewt_distress_write` is the report's `write` of the record of its numbers.
-use mathlib.Core.Path.{subst}
-use Rattle.distress.specs.Report.{reports, valuesOf}
-use Rattle.format.specs.Promises.{Writes}
-use Rattle.distress.specs.declared.reading.Report.{Report}
-use Rattle.c_rows.specs.Report.{recordOf}
-use Rattle.c_rows.specs.laws.Report.{kept}
+-- `bellnewt_distress_write` is the report's `write` of the record of its numbers: the signed ones fit, so they stand in it as they are.
+use mir.Syntax.{w32}
+use mir.ValLaws.{toZ-ofZ}
 use borrow.Author.Needs.{needs}
 use Rattle.c_calls.proofs.report_calls.bellnewt_distress_write.Statement.{statement}
 use Rattle.c_calls.proofs.report_calls.bellnewt_distress_write.Tie as tie
@@ -12,13 +8,8 @@ use Rattle.c_calls.proofs.report_calls.bellnewt_distress_write.Tie as t
 returns : tie.Need-returns
 returns c =
     let call = c .before .before in
-    let start = call .before .before .before in
-    let a = start .args in
-    let r = recordOf (a .mmsi) (a .longitude) (a .latitude) (a .day) (a .hour) (a .minute) (a .speed) (a .course) (a .kind) in
-    subst (λ (r : Report). Writes reports (a .buf .now) (call .write .result) (call .write .last .0) (valuesOf r))
-    (kept r (start .fits .longitude) (start .fits .latitude))
-    (call .write .ensures)
+    let st = call .before .before .before in
+    rw (toZ-ofZ w32 (st .args .longitude) (st .fits .longitude), toZ-ofZ w32 (st .args .latitude) (st .fits .latitude)) at (call .write .ensures)
 
 pub bellnewt-distress-write-spec : {M : Type 1} → statement M
-bellnewt-distress-write-spec =
-    tie.close (tie.spec (λ c κs. search needs) (λ c. search needs) returns)
+bellnewt-distress-write-spec = tie.close (tie.spec (λ c κs. search needs) (λ c. search needs) returns)
