@@ -8,12 +8,6 @@ use borrow.Author.Needs.{needs}
 use Rattle.c_rows.proofs.reports.numbers.Statement.{statement}
 use Rattle.c_rows.proofs.reports.numbers.Tie as tie
 
-cast-t7 : tie.Need-cast-t7
-cast-t7 c = widens {w = w32} {z = c .before .before .before .args .r .longitude} tt (record { sfits = c .before .before .struct-told .given .1 .0 .1 })
-
-cast-t8 : tie.Need-cast-t8
-cast-t8 c = widens {w = w32} {z = c .before .before .before .args .r .latitude} tt (record { sfits = c .before .before .struct-told .given .1 .1 .0 .1 })
-
 returns : tie.Need-returns
 unfolding rowOf
 returns c =
@@ -29,7 +23,7 @@ numbers-spec =
     tie.close
     (tie.spec
     (λ c. search needs) (λ c. search needs)
-    cast-t7
-    cast-t8
+    (λ c. widens {w = w32} {z = c .before .before .before .args .r .longitude} tt (record { sfits = c .before .before .struct-told .given .1 .0 .1 }))
+    (λ c. widens {w = w32} {z = c .before .before .before .args .r .latitude} tt (record { sfits = c .before .before .struct-told .given .1 .1 .0 .1 }))
     (λ c. search needs) (λ c. search needs) (λ c. search needs) (λ c. search needs) (λ c. search needs) (λ c. search needs)
     returns)
