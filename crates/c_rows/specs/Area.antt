@@ -17,7 +17,7 @@ fourOf (Circle b) = record { longitude = b .longitude; latitude = b .latitude; t
 fourOf (Rectangle b) = record { longitude = b .longitude; latitude = b .latitude; third = b .«second_longitude»; fourth = b .«second_latitude» }
 
 -- a record's numbers, with those of its shape
-unfoldable pub rowWith : Area → ℕ → Four → List ℤ
+abbrev pub rowWith : Area → ℕ → Four → List ℤ
 rowWith r type n =
     pos (r .repeat)
     ∷ pos (r .source)

@@ -81,7 +81,6 @@ module _ (language : ℕ) (s : List ℕ) (row : List ℤ) (areas text : List ℕ
 
     module _ {areas′ text′ : List ℕ} (ten : 10 ≤ length row) where
       pub lent-good : {r : Told} {c : ℕ} {row′ : List ℤ} → Reads (eqb language 1) s areas text (Good r) areas′ text′ → Fills (accepted (rowOf r)) row c row′ → NoticeFills language s row areas text c row′ areas′ text′
-      unfolding rowOf
       lent-good {r} {c} {row′} (e, a, t) f = shown (go (housing (also wholeOf found)) e a t)
         where
           go : (o : Out Whole) → Good r ≡ answerOf o → areas′ ≡ answered (λ x. ahead (x .1 .0) areas) (λ c. areas) o → text′ ≡ answered (λ x. ahead (x .1 .1) text) (λ c. text) o

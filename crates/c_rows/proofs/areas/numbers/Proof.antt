@@ -10,7 +10,6 @@ use Rattle.c_rows.proofs.areas.numbers.Statement.{statement}
 use Rattle.c_rows.proofs.areas.numbers.Tie as tie
 
 returns : tie.Need-returns
-unfolding rowWith
 returns c =
     let k13 = c .before in
     let k10 = k13 .before .before .before in

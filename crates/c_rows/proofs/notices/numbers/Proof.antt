@@ -8,7 +8,6 @@ use Rattle.c_rows.proofs.notices.numbers.Statement.{statement}
 use Rattle.c_rows.proofs.notices.numbers.Tie as tie
 
 returns : tie.Need-returns
-unfolding rowOf
 returns c =
     let st = c .before .before .before .before .before .before .before .before .before .before .before in
     let r = st .args .r in

@@ -9,7 +9,6 @@ use Rattle.c_rows.proofs.reports.numbers.Statement.{statement}
 use Rattle.c_rows.proofs.reports.numbers.Tie as tie
 
 returns : tie.Need-returns
-unfolding rowOf
 returns c =
     let told = c .before .before .before .before .before .before .before .before in
     let r = told .before .args .r in

@@ -1,4 +1,4 @@
--- `read` is the report's `read`, and its record's numbers in the row.
+-- `read` of the report is its own `read`, and its record's numbers in the row. Printed by tools/rows.
 use mathlib.Core.Path.{refl}
 use mathlib.Core.List.{_∷_}
 use lib.IntN.{pos}
@@ -13,7 +13,6 @@ use Rattle.c_rows.proofs.reports.read.Statement.{statement}
 use Rattle.c_rows.proofs.reports.read.Tie as tie
 
 returns : tie.Need-returns
-unfolding rowOf
 returns c =
     let fill = c .before in
     let numbers = fill .before .before .before .before in
@@ -27,7 +26,7 @@ returns-2 c =
     let m = c .before in
     let read = m .before .before in
     let a = read .before .before .args in
-    fills-refused (λ r. r) Good Refused outOf (λ q. refl) (λ c. refl) (λ xs. xs) rowOf (readRecord reports reportOf (a .s .now)) (a .row .now) (read .read .ensures) (m .answer2 .given .1)
+    fills-refused (λ r. r) Good Refused outOf (λ q. refl) (λ c. refl) (λ xs. take 9 (drop 1 xs)) (λ r. pos 0 ∷ rowOf r) (readRecord reports reportOf (a .s .now)) (a .row .now) (read .read .ensures) (m .answer2 .given .1)
 
 pub read-spec : {M : Type 1} → statement M
 read-spec =

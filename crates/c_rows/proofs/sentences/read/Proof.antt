@@ -1,4 +1,4 @@
--- `read` is the sentence's `read`, and its numbers in the row.
+-- `read` of the sentence is its own `read`, and its record's numbers in the row. Printed by tools/rows.
 use mathlib.Core.Path.{refl}
 use mathlib.Core.List.{_∷_}
 use lib.IntN.{pos}
@@ -17,14 +17,14 @@ returns c =
     let m = numbers .before .before in
     let read = m .before .before in
     let a = read .before .before .args in
-    fills-good (λ x. x) (λ x. Good (x .0) (x .1)) Refused outOf (λ q. refl) (λ c. refl) (λ xs. xs) (λ x. pos (x .0) ∷ rowOf (x .1)) (readSentence (a .s .now)) (a .row .now) (read .read .ensures) {q = (_, _)} (m .heard .given .1) (numbers .numbers .ensures) (fill .fill-signed .ensures)
+    fills-good (λ r. r) (λ r. Good (r .0) (r .1)) Refused outOf (λ q. refl) (λ c. refl) (λ xs. xs) (λ r. pos (r .0) ∷ rowOf (r .1)) (readSentence (a .s .now)) (a .row .now) (read .read .ensures) {q = (_, _)} (m .heard .given .1) (numbers .numbers .ensures) (fill .fill-signed .ensures)
 
 returns-2 : tie.Need-returns-2
 returns-2 c =
     let m = c .before in
     let read = m .before .before in
     let a = read .before .before .args in
-    fills-refused (λ x. x) (λ x. Good (x .0) (x .1)) Refused outOf (λ q. refl) (λ c. refl) (λ xs. xs) (λ x. pos (x .0) ∷ rowOf (x .1)) (readSentence (a .s .now)) (a .row .now) (read .read .ensures) (m .heard2 .given .1)
+    fills-refused (λ r. r) (λ r. Good (r .0) (r .1)) Refused outOf (λ q. refl) (λ c. refl) (λ xs. xs) (λ r. pos (r .0) ∷ rowOf (r .1)) (readSentence (a .s .now)) (a .row .now) (read .read .ensures) (m .heard2 .given .1)
 
 pub read-spec : {M : Type 1} → statement M
 read-spec =
