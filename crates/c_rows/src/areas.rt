@@ -22,7 +22,7 @@ pub fn read(s: &[u8], row: &mut [i64]) -> u8
     match answer {
         Answer::Good(r) => {
             let numbers = numbers(r);
-            crate::fill_signed(row, &numbers)
+            crate::signed::fill(row, &numbers)
         },
         Answer::Refused(code) => code,
     }

@@ -9,6 +9,7 @@ pub mod outlines;
 pub mod packets;
 pub mod reports;
 pub mod sentences;
+mod signed;
 pub mod slots;
 pub mod txhzs;
 pub mod txsqs;
@@ -16,7 +17,7 @@ pub mod txxxs;
 pub mod warnings;
 
 // Stores the numbers at the front of a row that has room; the entries past them stay.
-pub fn fill(row: &mut [i64], numbers: &[u32]) -> u8
+pub(crate) fn fill(row: &mut [i64], numbers: &[u32]) -> u8
     ensures { λ code. ⌜ Fills (accepted (entries (now (numbers .entry)))) (now (row .entry)) code (now (row .exit)) ⌝ }
 {
     if row.len() < numbers.len() {
@@ -26,22 +27,6 @@ pub fn fill(row: &mut [i64], numbers: &[u32]) -> u8
     while i < numbers.len() {
         let number = numbers[i];
         row[i] = number as i64;
-        i += 1;
-    }
-    0
-}
-
-// The same for numbers of which some have a sign.
-pub fn fill_signed(row: &mut [i64], numbers: &[i64]) -> u8
-    ensures { λ code. ⌜ Fills (accepted (now (numbers .entry))) (now (row .entry)) code (now (row .exit)) ⌝ }
-{
-    if row.len() < numbers.len() {
-        return format::ROOM;
-    }
-    let mut i: usize = 0;
-    while i < numbers.len() {
-        let number = numbers[i];
-        row[i] = number;
         i += 1;
     }
     0

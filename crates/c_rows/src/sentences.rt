@@ -14,7 +14,7 @@ pub fn read(s: &[u8], row: &mut [i64]) -> u8
     match heard {
         Heard::Good(address, report) => {
             let numbers = numbers(address, report);
-            crate::fill_signed(row, &numbers)
+            crate::signed::fill(row, &numbers)
         },
         Heard::Refused(code) => code,
     }

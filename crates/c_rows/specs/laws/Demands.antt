@@ -1,4 +1,4 @@
--- What the promises of the reading calls and of the sentence's writing decide: 0 for no refused message, one answer, and lent memory untouched by a refusal. What holds of every reading in a row stands in rows/specs/laws/Row, and of `bellnewt_distress_write` and `_correct` in format/specs/laws/Family. Assumes nothing.
+-- What the promises of the reading calls and of the sentence's writing decide: 0 for no refused message, one answer, and lent memory untouched by a refusal. What holds of every reading in a row stands in laws/Row, and of `bellnewt_distress_write` and `_correct` in format/specs/laws/Family. Assumes nothing.
 use Prim.Native.Nat.{ℕ}
 use mathlib.Core.Path.{_≡_, sym, subst, _∙_}
 use mathlib.Core.List.{List}

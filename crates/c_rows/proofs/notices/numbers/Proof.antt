@@ -1,7 +1,6 @@
 -- `numbers` gives the record's fields as they stand: each one fits 64 signed bits.
 use mathlib.Core.List.{[], _∷_}
 use native.Mathlib.Omega.{arith}
-use Rattle.c_rows.specs.Notice.{rowOf}
 use Rattle.c_rows.specs.laws.Signed.{entry}
 use borrow.Author.Needs.{needs}
 use Rattle.c_rows.proofs.notices.numbers.Statement.{statement}

@@ -44,7 +44,7 @@ returns-3 c =
     let test = wide .before in
     let a = test .before .before .before .before .args in
     let known = subst (λ x. Reads (eqb (a .language) 1) (a .s .now) (a .areas .now) (a .text .now) x (read .read .last .1 .1 .0) (read .read .last .1 .1 .1 .0)) (m .answer .given .1) (read .read .ensures) in
-    let stored = subst (λ xs. Fills (accepted xs) (a .row .now) (fill .fill-signed .result) (fill .fill-signed .last .0)) (numbers .numbers .ensures) (fill .fill-signed .ensures) in
+    let stored = subst (λ xs. Fills (accepted xs) (a .row .now) (fill .fill .result) (fill .fill .last .0)) (numbers .numbers .ensures) (fill .fill .ensures) in
     lent-good (a .language) (a .s .now) (a .row .now) (a .areas .now) (a .text .now) (omega (arith, test .if1 .left)) (omega (arith, wide .if2 .left)) known stored
 
 returns-4 : tie.Need-returns-4

@@ -2,7 +2,6 @@
 use mathlib.Core.List.{[], _∷_}
 use native.Mathlib.Omega.{arith}
 use mir.Syntax.{w32}
-use Rattle.c_rows.specs.Report.{rowOf}
 use Rattle.c_rows.specs.laws.Signed.{entry, widens, widened}
 use borrow.Author.Needs.{needs}
 use Rattle.c_rows.proofs.reports.numbers.Statement.{statement}

@@ -19,7 +19,7 @@ returns c =
     let m = numbers .before .before in
     let read = m .before .before in
     let a = read .before .before .args in
-    fills-good (λ r. r) Good Refused outOf (λ q. refl) (λ c. refl) (λ xs. take 9 (drop 1 xs)) (λ r. pos 0 ∷ rowOf r) (readRecord reports reportOf (a .s .now)) (a .row .now) (read .read .ensures) (m .answer .given .1) (numbers .numbers .ensures) (fill .fill-signed .ensures)
+    fills-good (λ r. r) Good Refused outOf (λ q. refl) (λ c. refl) (λ xs. take 9 (drop 1 xs)) (λ r. pos 0 ∷ rowOf r) (readRecord reports reportOf (a .s .now)) (a .row .now) (read .read .ensures) (m .answer .given .1) (numbers .numbers .ensures) (fill .fill .ensures)
 
 returns-2 : tie.Need-returns-2
 returns-2 c =

@@ -17,7 +17,7 @@ returns c =
     let m = numbers .before .before in
     let read = m .before .before in
     let a = read .before .before .args in
-    fills-good (λ r. r) (λ r. Good (r .0) (r .1)) Refused outOf (λ q. refl) (λ c. refl) (λ xs. xs) (λ r. pos (r .0) ∷ rowOf (r .1)) (readSentence (a .s .now)) (a .row .now) (read .read .ensures) {q = (_, _)} (m .heard .given .1) (numbers .numbers .ensures) (fill .fill-signed .ensures)
+    fills-good (λ r. r) (λ r. Good (r .0) (r .1)) Refused outOf (λ q. refl) (λ c. refl) (λ xs. xs) (λ r. pos (r .0) ∷ rowOf (r .1)) (readSentence (a .s .now)) (a .row .now) (read .read .ensures) {q = (_, _)} (m .heard .given .1) (numbers .numbers .ensures) (fill .fill .ensures)
 
 returns-2 : tie.Need-returns-2
 returns-2 c =

@@ -1,4 +1,4 @@
--- `fill_signed` stores the numbers one by one: the invariant says that the first i of them stand already.
+-- `fill` stores the numbers one by one: the invariant says that the first i of them stand already.
 use Prim.Native.Nat.{_-_}
 use mathlib.Core.Path.{refl}
 use native.Mathlib.Omega.{arith}
@@ -7,8 +7,8 @@ use lib.ListN.{length, getD}
 use mir.Syntax.{w64}
 use mir.ValLaws.{toZ-ofZ}
 use Rattle.c_rows.specs.laws.Row.{row-short, Stored, stored-none, stored-more, stored-all}
-use Rattle.c_rows.proofs.fill_signed.Statement.{statement}
-use Rattle.c_rows.proofs.fill_signed.Tie as tie
+use Rattle.c_rows.proofs.signed.fill.Statement.{statement}
+use Rattle.c_rows.proofs.signed.fill.Tie as tie
 
 abbrev Inv-loop : tie.InvT-loop
 Inv-loop row₀ numbers i₀ row i = Stored row₀ numbers i row
@@ -32,8 +32,8 @@ returns-2 c =
     let a = c .before .before .before .args in
     stored-all (a .row .now) (a .numbers .now) (l .inv) (omega arith) (omega arith)
 
-pub fill-signed-spec : {M : Type 1} → statement M
-fill-signed-spec =
+pub fill-spec : {M : Type 1} → statement M
+fill-spec =
     tie.close
     (tie.spec
     Inv-loop
