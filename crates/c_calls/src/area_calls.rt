@@ -1,4 +1,5 @@
 // An area, message 6 with application 412/11: writing and correcting.
+ghost use lib.ListN.{getD};
 ghost use Rattle.bits.specs.Bits.{fieldAt};
 ghost use Rattle.c_rows.specs.Area.{recordOf, circleOf, rectangleOf};
 ghost use Rattle.area.specs.Area.{areas, valuesOf};
@@ -49,24 +50,10 @@ pub extern "C" fn bellnewt_circle_write(
         radius,
     };
     let shape = Shape::Circle(numbers);
-    written(
-        buf,
-        repeat,
-        source,
-        sequence,
-        destination,
-        resent,
-        kind,
-        shape,
-        month,
-        day,
-        hour,
-        minute,
-        second_month,
-        second_day,
-        second_hour,
-        advice,
-    )
+    let head = [repeat, sequence, resent, kind, advice];
+    let time = [month, day, hour, minute];
+    let second = [second_month, second_day, second_hour];
+    written(buf, source, destination, head, shape, time, second)
 }
 
 // Writes a rectangle of these numbers into the front of a lent buffer.
@@ -101,69 +88,46 @@ pub extern "C" fn bellnewt_rectangle_write(
         second_latitude,
     };
     let shape = Shape::Rectangle(numbers);
-    written(
-        buf,
-        repeat,
-        source,
-        sequence,
-        destination,
-        resent,
-        kind,
-        shape,
-        month,
-        day,
-        hour,
-        minute,
-        second_month,
-        second_day,
-        second_hour,
-        advice,
-    )
+    let head = [repeat, sequence, resent, kind, advice];
+    let time = [month, day, hour, minute];
+    let second = [second_month, second_day, second_hour];
+    written(buf, source, destination, head, shape, time, second)
 }
 
-// The area of these numbers and a shape, written into the front of a lent buffer.
+// The area of a source, a destination, its repeat, sequence, resent, kind and advice, a shape and its two times, written into the front of a lent buffer.
 fn written(
     buf: &mut [u8],
-    repeat: u8,
     source: u32,
-    sequence: u8,
     destination: u32,
-    resent: u8,
-    kind: u8,
+    head: [u8; 5],
     shape: Shape,
-    month: u8,
-    day: u8,
-    hour: u8,
-    minute: u8,
-    second_month: u8,
-    second_day: u8,
-    second_hour: u8,
-    advice: u8,
+    time: [u8; 4],
+    second: [u8; 3],
 ) -> u8
-    ensures { λ code. ⌜ Writes areas (now (buf .entry)) code (now (buf .exit)) (valuesOf (recordOf repeat source sequence destination resent kind shape month day hour minute «second_month» «second_day» «second_hour» advice)) ⌝ }
+    ensures { λ code. ⌜ Writes areas (now (buf .entry)) code (now (buf .exit)) (valuesOf (recordOf (getD head 0 0) source (getD head 1 0) destination (getD head 2 0) (getD head 3 0) shape (getD time 0 0) (getD time 1 0) (getD time 2 0) (getD time 3 0) (getD second 0 0) (getD second 1 0) (getD second 2 0) (getD head 4 0))) ⌝ }
 {
-    let time = Time {
-        month,
-        day,
-        hour,
-        minute,
+    let first = Time {
+        month: time[0],
+        day: time[1],
+        hour: time[2],
+        minute: time[3],
     };
     let second_time = ShortTime {
-        month: second_month,
-        day: second_day,
-        hour: second_hour,
+        month: second[0],
+        day: second[1],
+        hour: second[2],
     };
     let r = Area {
-        repeat,
+        repeat: head[0],
         source,
-        sequence,
+        sequence: head[1],
         destination,
-        resent,
-        kind,
+        resent: head[2],
+        kind: head[3],
         shape,
-        time,
+        time: first,
         second_time,
-        advice,
+        advice: head[4],
     };
     area::write(buf, r)
 }

@@ -3,11 +3,11 @@ ghost use Rattle.c_rows.specs.Slots.{SlotsTold};
 
 pub mod area_calls;
 pub mod gljc_calls;
-pub mod notices;
-pub mod outlines;
-pub mod packets;
-pub mod report;
-pub mod sentences;
+pub mod notice_calls;
+pub mod outline_calls;
+pub mod packet_calls;
+pub mod report_calls;
+pub mod sentence_calls;
 pub mod txhz_calls;
 pub mod txsq_calls;
 pub mod txxx_calls;

@@ -1,4 +1,5 @@
 // A warning, message 8 with application 412/03: writing and correcting.
+ghost use lib.ListN.{getD};
 ghost use Rattle.bits.specs.Bits.{fieldAt};
 ghost use Rattle.c_rows.specs.Warning.{recordOf, cycloneOf, galeOf, wavesOf, fogOf, surgeOf};
 ghost use Rattle.format.specs.Promises.{Writes, Corrects};
@@ -54,19 +55,8 @@ pub extern "C" fn bellnewt_cyclone_write(
         pressure,
     };
     let body = Body::Cyclone(numbers);
-    written(
-        buf,
-        repeat,
-        source,
-        longitude,
-        latitude,
-        body,
-        month,
-        day,
-        hour,
-        minute,
-        hours,
-    )
+    let when = [month, day, hour, minute, hours];
+    written(buf, repeat, source, longitude, latitude, body, when)
 }
 
 // Writes a gale's warning of these numbers into the front of a lent buffer.
@@ -96,19 +86,8 @@ pub extern "C" fn bellnewt_gale_write(
         direction,
     };
     let body = Body::Gale(numbers);
-    written(
-        buf,
-        repeat,
-        source,
-        longitude,
-        latitude,
-        body,
-        month,
-        day,
-        hour,
-        minute,
-        hours,
-    )
+    let when = [month, day, hour, minute, hours];
+    written(buf, repeat, source, longitude, latitude, body, when)
 }
 
 // Writes a warning of waves of these numbers into the front of a lent buffer.
@@ -136,19 +115,8 @@ pub extern "C" fn bellnewt_waves_write(
         period,
     };
     let body = Body::Waves(numbers);
-    written(
-        buf,
-        repeat,
-        source,
-        longitude,
-        latitude,
-        body,
-        month,
-        day,
-        hour,
-        minute,
-        hours,
-    )
+    let when = [month, day, hour, minute, hours];
+    written(buf, repeat, source, longitude, latitude, body, when)
 }
 
 // Writes a warning of fog of these numbers into the front of a lent buffer.
@@ -171,19 +139,8 @@ pub extern "C" fn bellnewt_fog_write(
 {
     let numbers = Fog { radius, visibility };
     let body = Body::Fog(numbers);
-    written(
-        buf,
-        repeat,
-        source,
-        longitude,
-        latitude,
-        body,
-        month,
-        day,
-        hour,
-        minute,
-        hours,
-    )
+    let when = [month, day, hour, minute, hours];
+    written(buf, repeat, source, longitude, latitude, body, when)
 }
 
 // Writes a warning of a storm surge of these numbers into the front of a lent buffer.
@@ -213,22 +170,11 @@ pub extern "C" fn bellnewt_surge_write(
         period,
     };
     let body = Body::Surge(numbers);
-    written(
-        buf,
-        repeat,
-        source,
-        longitude,
-        latitude,
-        body,
-        month,
-        day,
-        hour,
-        minute,
-        hours,
-    )
+    let when = [month, day, hour, minute, hours];
+    written(buf, repeat, source, longitude, latitude, body, when)
 }
 
-// The warning of these numbers and a body, written into the front of a lent buffer.
+// The warning of these numbers, a body, and its time with how many hours it holds, written into the front of a lent buffer.
 fn written(
     buf: &mut [u8],
     repeat: u8,
@@ -236,20 +182,17 @@ fn written(
     longitude: u32,
     latitude: u32,
     body: Body,
-    month: u8,
-    day: u8,
-    hour: u8,
-    minute: u8,
-    hours: u8,
+    when: [u8; 5],
 ) -> u8
-    ensures { λ code. ⌜ Writes warnings (now (buf .entry)) code (now (buf .exit)) (valuesOf (recordOf repeat source longitude latitude body month day hour minute hours)) ⌝ }
+    ensures { λ code. ⌜ Writes warnings (now (buf .entry)) code (now (buf .exit)) (valuesOf (recordOf repeat source longitude latitude body (getD when 0 0) (getD when 1 0) (getD when 2 0) (getD when 3 0) (getD when 4 0))) ⌝ }
 {
     let time = Time {
-        month,
-        day,
-        hour,
-        minute,
+        month: when[0],
+        day: when[1],
+        hour: when[2],
+        minute: when[3],
     };
+    let hours = when[4];
     let r = Warning {
         repeat,
         source,

@@ -17,7 +17,7 @@ ghost use Rattle.c_rows.specs.Notice.{NoticeFills};
 pub extern "C" fn bellnewt_distress_read(s: &[u8], row: &mut [i64]) -> u8
     ensures { λ code. ⌜ Fills (Report·numbersOf (now (s .entry))) (now (row .entry)) code (now (row .exit)) ⌝ }
 {
-    c_rows::report::read(s, row)
+    c_rows::reports::read(s, row)
 }
 
 // Reads the frame GLJC into a row of 2: address, minutes.

@@ -16,17 +16,16 @@ abbrev pub fourOf : Shape → Four
 fourOf (Circle b) = record { longitude = b .longitude; latitude = b .latitude; third = pos (b .radius); fourth = pos 0 }
 fourOf (Rectangle b) = record { longitude = b .longitude; latitude = b .latitude; third = b .«second_longitude»; fourth = b .«second_latitude» }
 
--- a record's numbers
-unfoldable pub rowOf : Area → List ℤ
-rowOf r =
-    let n = fourOf (r .shape) in
+-- a record's numbers, with those of its shape
+abbrev pub rowWith : Area → ℕ → Four → List ℤ
+rowWith r type n =
     pos (r .repeat)
     ∷ pos (r .source)
     ∷ pos (r .sequence)
     ∷ pos (r .destination)
     ∷ pos (r .resent)
     ∷ pos (r .kind)
-    ∷ pos (typeOf (shapeKind (r .shape)))
+    ∷ pos type
     ∷ n .longitude
     ∷ n .latitude
     ∷ n .third
@@ -40,6 +39,9 @@ rowOf r =
     ∷ pos (r .«second_time» .hour)
     ∷ pos (r .advice)
     ∷ []
+
+abbrev pub rowOf : Area → List ℤ
+rowOf r = rowWith r (typeOf (shapeKind (r .shape))) (fourOf (r .shape))
 
 -- the reading of the bytes s, as numbers
 abbrev pub numbersOf : List ℕ → Out (List ℤ)

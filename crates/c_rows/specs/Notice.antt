@@ -16,7 +16,7 @@ use Rattle.notice.specs.declared.reading.Notice.{Notice}
 use Rattle.notice.specs.declared.reading.Told.{Told}
 
 -- source, station, serial, year, type, subtype, expiry, how many areas; then how many numbers these have, and bytes the text
-unfoldable pub rowOf : Told → List ℤ
+abbrev pub rowOf : Told → List ℤ
 rowOf r =
     pos (r .notice .source)
     ∷ pos (r .notice .station)

@@ -8,7 +8,7 @@ use Rattle.distress.specs.Report.{reports, reportOf}
 use Rattle.distress.specs.declared.reading.Report.{Report}
 
 -- a record's numbers, in the paper's order
-unfoldable pub rowOf : Report → List ℤ
+abbrev pub rowOf : Report → List ℤ
 rowOf r =
     pos (r .mmsi)
     ∷ r .longitude

@@ -3,8 +3,9 @@ use Prim.Native.Nat.{ℕ, _+_}
 use mathlib.Core.Path.{_≡_}
 use mathlib.Core.List.{List, [], _∷_}
 use lib.Dec.{eqb}
-use lib.IntN.{ℤ, pos}
+use lib.IntN.{ℤ}
 use lib.ListN.{length, getD}
+use Rattle.c_rows.specs.Row.{entries}
 use Rattle.format.specs.Fmt.{Out, orBad, check, also}
 use Rattle.format.specs.Message.{codeOf, leaves, into, writeMessage}
 use Rattle.format.specs.Promises.{readRecord}
@@ -13,16 +14,16 @@ use Rattle.txhz.specs.declared.reading.Receipt.{Receipt}
 use Rattle.txhz.specs.declared.reading.Txhz.{Txhz}
 
 -- a receipt's numbers before those that follow
-abbrev pub times : Receipt → List ℤ → List ℤ
-times t xs = pos (t .«sent_hour») ∷ pos (t .«sent_minute») ∷ pos (t .«receipt_hour») ∷ pos (t .«receipt_minute») ∷ xs
+abbrev pub times : Receipt → List ℕ → List ℕ
+times t xs = t .«sent_hour» ∷ t .«sent_minute» ∷ t .«receipt_hour» ∷ t .«receipt_minute» ∷ xs
 
 -- a record's numbers, in the paper's order
-unfoldable pub rowOf : Txhz → List ℤ
-rowOf r = pos (r .address) ∷ pos (r .receiver) ∷ pos (r .count) ∷ times (r .first) (times (r .second) (times (r .third) (times (r .fourth) (times (r .fifth) []))))
+abbrev pub rowOf : Txhz → List ℕ
+rowOf r = r .address ∷ r .receiver ∷ r .count ∷ times (r .first) (times (r .second) (times (r .third) (times (r .fourth) (times (r .fifth) []))))
 
 -- the reading of the bytes s, as numbers
 abbrev pub numbersOf : List ℕ → Out (List ℤ)
-numbersOf s = also rowOf (readRecord txhzs framed s)
+numbersOf s = also (λ r. entries (rowOf r)) (readRecord txhzs framed s)
 
 -- the receipt whose bytes stand from k on
 unfoldable pub receiptAt : List ℕ → ℕ → Receipt

@@ -1,10 +1,11 @@
 -- A warning as numbers (paper 01, "AIS"). Assumes nothing.
 use Prim.Native.Nat.{ℕ}
 use mathlib.Core.List.{List, [], _∷_}
-use lib.IntN.{ℤ, pos}
+use lib.IntN.{ℤ}
 use Rattle.warning.specs.Bodies.{typeOf, bodyKind}
 use Rattle.warning.specs.declared.bodies.Body.{Body}
 use Rattle.warning.specs.declared.bodies.Body.the-variants.{Cyclone, Gale, Waves, Fog, Surge}
+use Rattle.c_rows.specs.Row.{entries}
 use Rattle.format.specs.Fmt.{Out, also}
 use Rattle.format.specs.Promises.{readRecord}
 use Rattle.warning.specs.Warning.{warnings, recordOf as read-as}
@@ -30,32 +31,34 @@ sevenOf (Waves b) = fourOf (b .radius) (b .height) (b .period) 0
 sevenOf (Fog b) = fourOf (b .radius) (b .visibility) 0 0
 sevenOf (Surge b) = fourOf (b .radius) (b .rise) (b .tide) (b .period)
 
--- a record's numbers
-unfoldable pub rowOf : Warning → List ℤ
-rowOf r =
-    let n = sevenOf (r .body) in
-    pos (r .repeat)
-    ∷ pos (r .source)
-    ∷ pos (typeOf (bodyKind (r .body)))
-    ∷ pos (r .longitude)
-    ∷ pos (r .latitude)
-    ∷ pos (n .first)
-    ∷ pos (n .second)
-    ∷ pos (n .third)
-    ∷ pos (n .fourth)
-    ∷ pos (n .fifth)
-    ∷ pos (n .sixth)
-    ∷ pos (n .seventh)
-    ∷ pos (r .time .month)
-    ∷ pos (r .time .day)
-    ∷ pos (r .time .hour)
-    ∷ pos (r .time .minute)
-    ∷ pos (r .hours)
+-- a record's numbers, with those of its body
+abbrev pub rowWith : Warning → ℕ → Seven → List ℕ
+rowWith r type n =
+    r .repeat
+    ∷ r .source
+    ∷ type
+    ∷ r .longitude
+    ∷ r .latitude
+    ∷ n .first
+    ∷ n .second
+    ∷ n .third
+    ∷ n .fourth
+    ∷ n .fifth
+    ∷ n .sixth
+    ∷ n .seventh
+    ∷ r .time .month
+    ∷ r .time .day
+    ∷ r .time .hour
+    ∷ r .time .minute
+    ∷ r .hours
     ∷ []
+
+abbrev pub rowOf : Warning → List ℕ
+rowOf r = rowWith r (typeOf (bodyKind (r .body))) (sevenOf (r .body))
 
 -- the reading of the bytes s, as numbers
 abbrev pub numbersOf : List ℕ → Out (List ℤ)
-numbersOf s = also rowOf (readRecord warnings read-as s)
+numbersOf s = also (λ r. entries (rowOf r)) (readRecord warnings read-as s)
 
 -- ---- the record of the numbers that a writing call is given
 

@@ -2,17 +2,16 @@
 ghost use mathlib.Core.Path.{_≡_};
 ghost use Rattle.c_rows.specs.Row.{Fills};
 ghost use Rattle.c_rows.specs.Area.{fourOf, rowOf, numbersOf};
-ghost use Rattle.area.specs.declared.reading.shapes.Shape.the-variants.{Circle as IsCircle, Rectangle as IsRectangle};
 use area::Answer;
 use area::Area;
 use area::Shape;
 
 // A shape's numbers in the paper's order: a circle has three, and 0 behind them.
 struct Four {
-    longitude: i64,
-    latitude: i64,
-    third: i64,
-    fourth: i64,
+    longitude: i32,
+    latitude: i32,
+    third: i32,
+    fourth: i32,
 }
 
 // Reads the area into a row of 19: repeat, source, sequence, destination, resent, kind, shape, four numbers of its shape, month, day, hour, minute, second month, second day, second hour, advice.
@@ -23,7 +22,7 @@ pub fn read(s: &[u8], row: &mut [i64]) -> u8
     match answer {
         Answer::Good(r) => {
             let numbers = numbers(r);
-            crate::fill(row, &numbers)
+            crate::signed::fill(row, &numbers)
         },
         Answer::Refused(code) => code,
     }
@@ -35,6 +34,10 @@ fn numbers(r: Area) -> [i64; 19]
     let shape = r.shape;
     let kind = shape.kind();
     let n = of_shape(shape);
+    let longitude = n.longitude;
+    let latitude = n.latitude;
+    let third = n.third;
+    let fourth = n.fourth;
     let time = r.time;
     let second = r.second_time;
     [
@@ -45,10 +48,10 @@ fn numbers(r: Area) -> [i64; 19]
         r.resent as i64,
         r.kind as i64,
         kind as i64,
-        n.longitude,
-        n.latitude,
-        n.third,
-        n.fourth,
+        longitude as i64,
+        latitude as i64,
+        third as i64,
+        fourth as i64,
         time.month as i64,
         time.day as i64,
         time.hour as i64,
@@ -64,35 +67,27 @@ fn of_shape(shape: Shape) -> Four
     ensures { λ n. ⌜ n ≡ fourOf shape ⌝ }
 {
     match shape {
-        Shape::Circle(b) => circle(b),
-        Shape::Rectangle(b) => rectangle(b),
-    }
-}
-
-fn circle(b: area::Circle) -> Four
-    ensures { λ n. ⌜ n ≡ fourOf (IsCircle b) ⌝ }
-{
-    let longitude = b.longitude;
-    let latitude = b.latitude;
-    Four {
-        longitude: longitude as i64,
-        latitude: latitude as i64,
-        third: b.radius as i64,
-        fourth: 0,
-    }
-}
-
-fn rectangle(b: area::Rectangle) -> Four
-    ensures { λ n. ⌜ n ≡ fourOf (IsRectangle b) ⌝ }
-{
-    let longitude = b.longitude;
-    let latitude = b.latitude;
-    let second_longitude = b.second_longitude;
-    let second_latitude = b.second_latitude;
-    Four {
-        longitude: longitude as i64,
-        latitude: latitude as i64,
-        third: second_longitude as i64,
-        fourth: second_latitude as i64,
+        Shape::Circle(b) => {
+            let longitude = b.longitude;
+            let latitude = b.latitude;
+            Four {
+                longitude,
+                latitude,
+                third: b.radius as i32,
+                fourth: 0,
+            }
+        },
+        Shape::Rectangle(b) => {
+            let longitude = b.longitude;
+            let latitude = b.latitude;
+            let third = b.second_longitude;
+            let fourth = b.second_latitude;
+            Four {
+                longitude,
+                latitude,
+                third,
+                fourth,
+            }
+        },
     }
 }

@@ -19,8 +19,8 @@ pub fn read(s: &[u8], row: &mut [i64]) -> u8
     }
 }
 
-fn numbers(r: Gljc) -> [i64; 2]
+fn numbers(r: Gljc) -> [u32; 2]
     ensures { λ xs. ⌜ xs ≡ rowOf r ⌝ }
 {
-    [r.address as i64, r.minutes as i64]
+    [r.address, r.minutes as u32]
 }

@@ -1,16 +1,15 @@
 // Each family read into a lent row of numbers, as C and Rust are given it.
 ghost use Rattle.format.specs.Fmt.{accepted};
-ghost use Rattle.c_rows.specs.Row.{Fills};
-ghost use mathlib.Core.Path.{_≡_};
-ghost use Rattle.frame.specs.Frame.{bytesFor};
+ghost use Rattle.c_rows.specs.Row.{Fills, entries};
 
 pub mod areas;
 pub mod gljcs;
 pub mod notices;
 pub mod outlines;
 pub mod packets;
-pub mod report;
+pub mod reports;
 pub mod sentences;
+mod signed;
 pub mod slots;
 pub mod txhzs;
 pub mod txsqs;
@@ -18,8 +17,8 @@ pub mod txxxs;
 pub mod warnings;
 
 // Stores the numbers at the front of a row that has room; the entries past them stay.
-pub fn fill(row: &mut [i64], numbers: &[i64]) -> u8
-    ensures { λ code. ⌜ Fills (accepted (now (numbers .entry))) (now (row .entry)) code (now (row .exit)) ⌝ }
+pub(crate) fn fill(row: &mut [i64], numbers: &[u32]) -> u8
+    ensures { λ code. ⌜ Fills (accepted (entries (now (numbers .entry)))) (now (row .entry)) code (now (row .exit)) ⌝ }
 {
     if row.len() < numbers.len() {
         return format::ROOM;
@@ -27,15 +26,8 @@ pub fn fill(row: &mut [i64], numbers: &[i64]) -> u8
     let mut i: usize = 0;
     while i < numbers.len() {
         let number = numbers[i];
-        row[i] = number;
+        row[i] = number as i64;
         i += 1;
     }
     0
-}
-
-// The bytes of so many bits.
-pub(crate) fn whole_bytes(size: u16) -> u64
-    ensures { λ r. ⌜ r ≡ bytesFor size ⌝ }
-{
-    (size as u64 + 7) / 8
 }

@@ -29,7 +29,7 @@ pub fn read(s: &[u8], language: u8, row: &mut [i64], areas: &mut [u32], text: &m
     match answer {
         Answer::Good(r) => {
             let numbers = numbers(r);
-            crate::fill(row, &numbers)
+            crate::signed::fill(row, &numbers)
         },
         Answer::Refused(code) => code,
     }

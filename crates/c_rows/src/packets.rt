@@ -35,16 +35,16 @@ pub fn split(buf: &mut [u8], content: &[u8], language: u8, number: u8, packet: u
     packet::split(buf, content, language == ENGLISH, number, packet)
 }
 
-fn numbers(r: Packet, bytes: usize) -> [i64; 6]
+fn numbers(r: Packet, bytes: usize) -> [u32; 6]
     requires { ⌜ bytes ≤ partBytes ⌝ }
     ensures { λ xs. ⌜ xs ≡ rowOf r bytes ⌝ }
 {
     [
-        r.language as i64,
-        r.number as i64,
-        r.total as i64,
-        r.own as i64,
-        Packet::CONTENT as i64,
-        bytes as i64,
+        r.language as u32,
+        r.number as u32,
+        r.total as u32,
+        r.own as u32,
+        Packet::CONTENT as u32,
+        bytes as u32,
     ]
 }

@@ -1,7 +1,7 @@
 // The distress sentence as numbers.
 ghost use Rattle.c_rows.specs.Row.{Fills};
 ghost use Rattle.c_rows.specs.Sentence.{sentenceNumbers, SentenceWrites};
-use crate::report::numbers;
+use crate::reports::numbers;
 use distress::Report;
 use sentence::Heard;
 use sentence::Sent;
@@ -14,7 +14,7 @@ pub fn read(s: &[u8], row: &mut [i64]) -> u8
     match heard {
         Heard::Good(address, report) => {
             let numbers = numbers(address, report);
-            crate::fill(row, &numbers)
+            crate::signed::fill(row, &numbers)
         },
         Heard::Refused(code) => code,
     }

@@ -58,7 +58,7 @@ fn receipt(bytes: &[u8], at: usize) -> Receipt
     }
 }
 
-fn numbers(r: Txhz) -> [i64; 23]
+fn numbers(r: Txhz) -> [u32; 23]
     ensures { λ xs. ⌜ xs ≡ rowOf r ⌝ }
 {
     let a = r.first;
@@ -67,28 +67,28 @@ fn numbers(r: Txhz) -> [i64; 23]
     let d = r.fourth;
     let e = r.fifth;
     [
-        r.address as i64,
-        r.receiver as i64,
-        r.count as i64,
-        a.sent_hour as i64,
-        a.sent_minute as i64,
-        a.receipt_hour as i64,
-        a.receipt_minute as i64,
-        b.sent_hour as i64,
-        b.sent_minute as i64,
-        b.receipt_hour as i64,
-        b.receipt_minute as i64,
-        c.sent_hour as i64,
-        c.sent_minute as i64,
-        c.receipt_hour as i64,
-        c.receipt_minute as i64,
-        d.sent_hour as i64,
-        d.sent_minute as i64,
-        d.receipt_hour as i64,
-        d.receipt_minute as i64,
-        e.sent_hour as i64,
-        e.sent_minute as i64,
-        e.receipt_hour as i64,
-        e.receipt_minute as i64,
+        r.address,
+        r.receiver,
+        r.count as u32,
+        a.sent_hour as u32,
+        a.sent_minute as u32,
+        a.receipt_hour as u32,
+        a.receipt_minute as u32,
+        b.sent_hour as u32,
+        b.sent_minute as u32,
+        b.receipt_hour as u32,
+        b.receipt_minute as u32,
+        c.sent_hour as u32,
+        c.sent_minute as u32,
+        c.receipt_hour as u32,
+        c.receipt_minute as u32,
+        d.sent_hour as u32,
+        d.sent_minute as u32,
+        d.receipt_hour as u32,
+        d.receipt_minute as u32,
+        e.sent_hour as u32,
+        e.sent_minute as u32,
+        e.receipt_hour as u32,
+        e.receipt_minute as u32,
     ]
 }

@@ -19,18 +19,18 @@ pub fn read(s: &[u8], row: &mut [i64]) -> u8
     }
 }
 
-fn numbers(r: Txsq) -> [i64; 9]
+fn numbers(r: Txsq) -> [u32; 9]
     ensures { λ xs. ⌜ xs ≡ rowOf r ⌝ }
 {
     [
-        r.address as i64,
-        r.category as i64,
-        r.mode as i64,
-        r.password as i64,
-        r.receiver as i64,
-        r.size as i64,
-        r.answer as i64,
-        Txsq::CONTENT as i64,
-        crate::whole_bytes(r.size) as i64,
+        r.address,
+        r.category as u32,
+        r.mode as u32,
+        r.password as u32,
+        r.receiver,
+        r.size as u32,
+        r.answer as u32,
+        Txsq::CONTENT as u32,
+        (r.size as u32 + 7) / 8,
     ]
 }

@@ -19,18 +19,18 @@ pub fn read(s: &[u8], row: &mut [i64]) -> u8
     }
 }
 
-fn numbers(r: Txxx) -> [i64; 9]
+fn numbers(r: Txxx) -> [u32; 9]
     ensures { λ xs. ⌜ xs ≡ rowOf r ⌝ }
 {
     [
-        r.address as i64,
-        r.class as i64,
-        r.sender as i64,
-        r.hour as i64,
-        r.minute as i64,
-        r.size as i64,
-        r.mark as i64,
-        Txxx::CONTENT as i64,
-        crate::whole_bytes(r.size) as i64,
+        r.address,
+        r.class as u32,
+        r.sender,
+        r.hour as u32,
+        r.minute as u32,
+        r.size as u32,
+        r.mark as u32,
+        Txxx::CONTENT as u32,
+        (r.size as u32 + 7) / 8,
     ]
 }

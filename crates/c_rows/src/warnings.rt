@@ -31,7 +31,7 @@ pub fn read(s: &[u8], row: &mut [i64]) -> u8
     }
 }
 
-fn numbers(r: Warning) -> [i64; 17]
+fn numbers(r: Warning) -> [u32; 17]
     ensures { λ xs. ⌜ xs ≡ rowOf r ⌝ }
 {
     let body = r.body;
@@ -39,23 +39,23 @@ fn numbers(r: Warning) -> [i64; 17]
     let n = of_body(body);
     let time = r.time;
     [
-        r.repeat as i64,
-        r.source as i64,
-        kind as i64,
-        r.longitude as i64,
-        r.latitude as i64,
-        n.first as i64,
-        n.second as i64,
-        n.third as i64,
-        n.fourth as i64,
-        n.fifth as i64,
-        n.sixth as i64,
-        n.seventh as i64,
-        time.month as i64,
-        time.day as i64,
-        time.hour as i64,
-        time.minute as i64,
-        r.hours as i64,
+        r.repeat as u32,
+        r.source,
+        kind as u32,
+        r.longitude,
+        r.latitude,
+        n.first as u32,
+        n.second as u32,
+        n.third as u32,
+        n.fourth as u32,
+        n.fifth as u32,
+        n.sixth as u32,
+        n.seventh as u32,
+        time.month as u32,
+        time.day as u32,
+        time.hour as u32,
+        time.minute as u32,
+        r.hours as u32,
     ]
 }
 

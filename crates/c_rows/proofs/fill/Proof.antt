@@ -1,64 +1,42 @@
--- `fill` stores the numbers one by one: the invariant says that the first i of them stand already.
-use Prim.Native.Nat.{_-_, _≤_}
-use mathlib.Core.Path.{_≡_, refl}
-use mathlib.Core.List.{_++_}
+-- `fill` stores the numbers one by one: the invariant says that the first i of them stand already, and each fits an entry.
+use Prim.Native.Nat.{_-_}
+use mathlib.Core.Path.{refl, sym, _∙_}
 use native.Mathlib.Omega.{arith}
 use lib.IntN.{pos}
-use lib.ListN.{length, getD, take, drop, length-set}
+use lib.ListN.{length, getD, length-map, List·getD-map}
 use mir.Syntax.{w64}
-use mir.ValLaws.{toZ-ofZ}
-use Rattle.c_rows.specs.laws.Row.{row-short, row-stored, row-more}
+use mir.ValLaws.{toZ-pos}
+use Rattle.c_rows.specs.Row.{entries}
+use Rattle.c_rows.specs.laws.Row.{row-short, Stored, stored-none, stored-more, stored-all}
 use Rattle.c_rows.proofs.fill.Statement.{statement}
 use Rattle.c_rows.proofs.fill.Tie as tie
 
 abbrev Inv-loop : tie.InvT-loop
-Inv-loop row₀ numbers i₀ row i = (i ≤ length numbers) × (length row ≡ length row₀) × (row ≡ take i numbers ++ drop i row₀)
+Inv-loop row₀ numbers i₀ row i = Stored row₀ (entries numbers) i row
 
 abbrev μ-loop : tie.MeasureT-loop
 μ-loop row₀ numbers i₀ row i = length numbers - i
 
 returns : tie.Need-returns Inv-loop μ-loop
-returns c = let a = c .before .args in row-short (a .row .now) {xs = a .numbers .now} refl (c .if1 .taken)
-
-loop-holds : tie.Need-loop-holds Inv-loop μ-loop
-loop-holds c = (omega arith, refl, refl)
-
-mul-number : tie.Need-mul-number Inv-loop μ-loop
-mul-number c = omega arith
-
-shared-slice-copy-out-number : tie.Need-shared-slice-copy-out-number Inv-loop μ-loop
-shared-slice-copy-out-number c = omega arith
-
-mul-number-2 : tie.Need-mul-number-2 Inv-loop μ-loop
-mul-number-2 c = omega arith
-
-slice-set-from-number : tie.Need-slice-set-from-number Inv-loop μ-loop
-slice-set-from-number c = omega arith
-
-add-i : tie.Need-add-i Inv-loop μ-loop
-add-i c = omega arith
-
-loop-less : tie.Need-loop-less Inv-loop μ-loop
-loop-less c = omega arith
+returns c =
+    let a = c .before .args in
+    row-short (a .row .now) {xs = entries (a .numbers .now)} refl (omega (arith, length-map (a .numbers .now) pos))
 
 loop-again : tie.Need-loop-again Inv-loop μ-loop
 loop-again c =
     let l = c .before .before .loop in
     let a = c .before .before .before .before .args in
-    let same = toZ-ofZ w64 (getD (a .numbers .now) (l .i) (pos 0)) (record { sfits = c .number .given }) in (
-      omega arith,
-      simp length-set (l .inv .1),
-      rw (same, l .inv .2) (row-more (a .row .now) (a .numbers .now) (l .i) (omega arith) (omega arith)),
-    )
-
-same-length : tie.Need-same-length Inv-loop μ-loop
-same-length c = c .before .loop .inv .1
+    let ns = a .numbers .now in
+    let n = length-map ns pos in
+    let same = toZ-pos w64 (getD ns (l .i) 0) (omega (arith, c .shared-slice-known .given (l .i) .fits)) ∙ sym (List·getD-map pos ns (l .i) 0) in
+    stored-more (a .row .now) (entries ns) (l .inv) (omega (arith, n)) (omega arith) same
 
 returns-2 : tie.Need-returns-2 Inv-loop μ-loop
 returns-2 c =
-    let a = c .before .before .before .args in
     let l = c .before .loop in
-    row-stored (a .row .now) (a .numbers .now) (l .i) (omega arith) (omega arith) (l .inv .2)
+    let a = c .before .before .before .args in
+    let n = length-map (a .numbers .now) pos in
+    stored-all (a .row .now) (entries (a .numbers .now)) (l .inv) (omega (arith, n)) (omega (arith, n))
 
 pub fill-spec : {M : Type 1} → statement M
 fill-spec =
@@ -67,13 +45,10 @@ fill-spec =
     Inv-loop
     μ-loop
     returns
-    loop-holds
-    mul-number
-    shared-slice-copy-out-number
-    mul-number-2
-    slice-set-from-number
-    add-i
-    loop-less
+    (λ c. let a = c .before .args in stored-none (a .row .now) (entries (a .numbers .now)))
+    (λ c. omega arith) (λ c. omega arith)
+    (λ c. omega (arith, c .shared-slice-known .given (c .before .before .loop .i) .fits))
+    (λ c. omega arith) (λ c. omega arith) (λ c. omega arith) (λ c. omega arith)
     loop-again
-    same-length
+    (λ c. c .before .loop .inv .long)
     returns-2)

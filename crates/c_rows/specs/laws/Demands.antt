@@ -1,4 +1,4 @@
--- What the promises of the reading calls and of the sentence's writing decide: 0 for no refused message, one answer, and lent memory untouched by a refusal. What holds of every reading in a row stands in rows/specs/laws/Row, and of `bellnewt_distress_write` and `_correct` in format/specs/laws/Family. Assumes nothing.
+-- What the promises of the reading calls and of the sentence's writing decide: 0 for no refused message, one answer, and lent memory untouched by a refusal. What holds of every reading in a row stands in laws/Row, and of `bellnewt_distress_write` and `_correct` in format/specs/laws/Family. Assumes nothing.
 use Prim.Native.Nat.{ℕ}
 use mathlib.Core.Path.{_≡_, sym, subst, _∙_}
 use mathlib.Core.List.{List}
@@ -22,7 +22,7 @@ use Rattle.c_rows.specs.Sentence.{sentenceNumbers, sentenceInto, Sentenc
 -- `bellnewt_distress_read`: a refused report gives its refusal, and the row as it was
 module _ (s : List ℕ) (row : List ℤ) (c : ℕ) (t : List ℤ) (f : Fills (numbersOf s) row c t) where
   pub refused-report : (d : ℕ) → Reads s (Refused d) → (c ≡ d) × (t ≡ row)
-  refused-report d g = one-filling (numbersOf s) row c d t row f (refused-numbers s row d g)
+  refused-report d g = one-filling f (refused-numbers s row d g)
 
   -- 0 is given for no refused one
   pub zero-report : c ≡ 0 → (d : ℕ) → Reads s (Refused d) → ⊥
@@ -31,7 +31,7 @@ module _ (s : List ℕ) (row : List ℤ) (c : ℕ) (t : List ℤ) (f : Fills (nu
 -- `bellnewt_sentence_read`
 module _ (s : List ℕ) (row : List ℤ) (c : ℕ) (t : List ℤ) (f : Fills (sentenceNumbers s) row c t) where
   pub refused-heard : (d : ℕ) → Hears s (Unheard d) → (c ≡ d) × (t ≡ row)
-  refused-heard d g = one-filling (sentenceNumbers s) row c d t row f (refused-sentence s row d g)
+  refused-heard d g = one-filling f (refused-sentence s row d g)
 
   pub zero-heard : c ≡ 0 → (d : ℕ) → Hears s (Unheard d) → ⊥
   zero-heard z d g = no-zero-heard s (subst (λ (d : ℕ). Hears s (Unheard d)) (sym (refused-heard d g .0) ∙ z) g)

@@ -81,7 +81,6 @@ module _ (language : ℕ) (s : List ℕ) (row : List ℤ) (areas text : List ℕ
 
     module _ {areas′ text′ : List ℕ} (ten : 10 ≤ length row) where
       pub lent-good : {r : Told} {c : ℕ} {row′ : List ℤ} → Reads (eqb language 1) s areas text (Good r) areas′ text′ → Fills (accepted (rowOf r)) row c row′ → NoticeFills language s row areas text c row′ areas′ text′
-      unfolding rowOf
       lent-good {r} {c} {row′} (e, a, t) f = shown (go (housing (also wholeOf found)) e a t)
         where
           go : (o : Out Whole) → Good r ≡ answerOf o → areas′ ≡ answered (λ x. ahead (x .1 .0) areas) (λ c. areas) o → text′ ≡ answered (λ x. ahead (x .1 .1) text) (λ c. text) o
@@ -89,7 +88,7 @@ module _ (language : ℕ) (s : List ℕ) (row : List ℤ) (areas text : List ℕ
           go (refused d p) e a t = let z : _≡_ {A = ℕ} 0 1 = cc in absurd (omega arith)
           go (accepted x) e a t =
               let is : r ≡ toldOf x = cc in
-              let full = one-filling (accepted (rowOf r)) row c 0 row′ (rowOf r ++ drop 10 row) f (row-full {o = accepted (rowOf r)} row {xs = rowOf r} refl ten) in
+              let full = one-filling f (row-full {o = accepted (rowOf r)} row {xs = rowOf r} refl ten) in
               rw (le-leb 10 (length row) ten) (full .0, full .1 ∙ ap (λ r. rowOf r ++ drop 10 row) is, a, t)
 
       pub lent-bad : {d : ℕ} → Reads (eqb language 1) s areas text (Refused d) areas′ text′ → NoticeFills language s row areas text d row areas′ text′

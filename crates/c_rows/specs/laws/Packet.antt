@@ -17,7 +17,7 @@ use Rattle.packet.specs.laws.Shown.{shown}
 use Rattle.packet.specs.laws.Sound.{read-sized}
 use Rattle.packet.specs.declared.reading.Packet.{Packet}
 use Rattle.packet.specs.declared.reading.Answer.the-variants.{Good, Refused}
-use Rattle.c_rows.specs.Row.{Fills}
+use Rattle.c_rows.specs.Row.{Fills, entries}
 use Rattle.c_rows.specs.laws.Row.{row-refused}
 use Rattle.c_rows.specs.Packet.{rowOf, numbersOf}
 
@@ -26,14 +26,14 @@ module _ (s : List ℕ) (r : Packet) (reads : Reads s (Good r)) where
   pub good-size : (5 ≤ length s) × (length s ≤ greatest)
   good-size = read-sized s (sym (read-code (λ r. Good (r .0)) Refused recordOf numberOf (λ r. refl) (λ c. refl) packets s reads refl))
 
-  pub good-numbers : Bytes s → numbersOf s ≡ accepted (rowOf r (length s - 4))
+  pub good-numbers : Bytes s → numbersOf s ≡ accepted (entries (rowOf r (length s - 4)))
   good-numbers fine =
       let (n, is) = shown s reads refl fine refl in
       let c = take (length s - 4) (drop 4 s) in
       let long : length c ≡ length s - 4 = length-take-le (length s - 4) (drop 4 s) (omega (arith, length-drop 4 s)) in
-      ap (also (λ r. rowOf (r .0) (length (r .1)))) (good s r c reads is) ∙ ap (λ n. accepted (rowOf r n)) long
+      ap (also (λ r. entries (rowOf (r .0) (length (r .1))))) (good s r c reads is) ∙ ap (λ n. accepted (entries (rowOf r n))) long
 
 pub refused-numbers : (s : List ℕ) (row : List ℤ) (d : ℕ) → Reads s (Refused d) → Fills (numbersOf s) row d row
 refused-numbers s row d e =
     let (p, is) = bad-refuses Good Refused outOf (λ q. refl) (λ c. refl) (λ r. r .0) (readRecord packets recordOf s) e in
-    row-refused row (ap (also (λ r. rowOf (r .0) (length (r .1)))) is)
+    row-refused row (ap (also (λ r. entries (rowOf (r .0) (length (r .1))))) is)

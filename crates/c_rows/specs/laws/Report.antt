@@ -1,26 +1,19 @@
--- A report's answer as numbers: what `read` gives decides them; and the numbers given for a record stand in it as they are.
+-- A refused report gives its refusal, which is never 0, and leaves the row. Assumes nothing.
 use Prim.Native.Nat.{ℕ}
 use mathlib.Core.Path.{_≡_, refl, ap}
 use mathlib.Core.List.{List}
 use lib.IntN.{ℤ}
-use mir.Syntax.{w32}
-use mir.Val.{SFits, toZ, ofZ}
-use mir.ValLaws.{toZ-ofZ}
-use Rattle.format.specs.Fmt.{accepted, refused, also}
+use Rattle.format.specs.Fmt.{refused, also}
 use Rattle.format.specs.laws.Answers.{bad-refuses}
 use Rattle.format.specs.laws.Family.{never-read}
-use Rattle.distress.specs.laws.Demands.{family, good}
+use Rattle.distress.specs.laws.Demands.{family}
 use Rattle.distress.specs.Promises.{Reads}
 use Rattle.distress.specs.Report.{reports, reportOf, outOf}
-use Rattle.distress.specs.declared.reading.Report.{Report}
 use Rattle.distress.specs.declared.reading.Answer.the-variants.{Good, Refused}
 use Rattle.format.specs.Promises.{readRecord}
 use Rattle.c_rows.specs.Row.{Fills}
-use Rattle.c_rows.specs.Report.{rowOf, numbersOf, recordOf}
+use Rattle.c_rows.specs.Report.{rowOf, numbersOf}
 use Rattle.c_rows.specs.laws.Row.{row-refused}
-
-pub good-numbers : (s : List ℕ) (r : Report) → Reads s (Good r) → numbersOf s ≡ accepted (rowOf r)
-good-numbers s r e = ap (also rowOf) (good s r e)
 
 -- a refused report is a refused reading
 refused-read : (s : List ℕ) (c : ℕ) → Reads s (Refused c) → (p : ℕ) × (readRecord reports reportOf s ≡ refused c p)
@@ -32,11 +25,3 @@ refused-numbers s row c e = let (p, is) = refused-read s c e in row-refused row 
 -- no refusal has the number 0
 pub no-zero-read : (s : List ℕ) → Reads s (Refused 0) → ⊥
 no-zero-read s e = let (p, is) = refused-read s 0 e in never-read family s p is
-
--- the record of the numbers that a call is given: the signed ones fit, so they stand in it as they are
-pub kept : (r : Report) → SFits w32 (r .longitude) → SFits w32 (r .latitude)
-    → recordOf (r .mmsi) (toZ w32 (ofZ w32 (r .longitude))) (toZ w32 (ofZ w32 (r .latitude))) (r .day) (r .hour) (r .minute) (r .speed) (r .course) (r .kind) ≡ r
-kept r e n =
-    let east = toZ-ofZ w32 (r .longitude) e in
-    let north = toZ-ofZ w32 (r .latitude) n in
-    λ i. recordOf (r .mmsi) (east i) (north i) (r .day) (r .hour) (r .minute) (r .speed) (r .course) (r .kind)

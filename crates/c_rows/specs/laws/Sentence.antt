@@ -7,7 +7,7 @@ use lib.IntN.{ℤ, pos}
 use lib.ListN.{length}
 use Rattle.format.specs.Fmt.{Out, accepted, refused, also}
 use Rattle.format.specs.Message.{codeOf, leaves}
-use Rattle.format.specs.laws.Answers.{good-read, bad-refuses}
+use Rattle.format.specs.laws.Answers.{bad-refuses}
 use Rattle.sentence.specs.Sentence.{readSentence, outOf, sentOf, Hears, Sends}
 use Rattle.distress.specs.declared.reading.Report.{Report}
 use Rattle.sentence.specs.declared.Heard.the-variants.{Good, Refused}
@@ -17,9 +17,6 @@ use Rattle.c_rows.specs.Row.{Fills}
 use Rattle.c_rows.specs.Report.{rowOf}
 use Rattle.c_rows.specs.Sentence.{sentenceNumbers, sentenceInto, SentenceWrites}
 use Rattle.c_rows.specs.laws.Row.{row-refused}
-
-pub heard-numbers : (s : List ℕ) (a : ℕ) (r : Report) → Hears s (Good a r) → sentenceNumbers s ≡ accepted (pos a ∷ rowOf r)
-heard-numbers s a r e = ap (also (λ x. pos (x .0) ∷ rowOf (x .1))) (good-read (λ x. Good (x .0) (x .1)) Refused outOf (λ q. refl) (λ c. refl) (readSentence s) {q = (a, r)} e)
 
 pub refused-sentence : (s : List ℕ) (row : List ℤ) (c : ℕ) → Hears s (Refused c) → Fills (sentenceNumbers s) row c row
 refused-sentence s row c e =

@@ -1,11 +1,6 @@
 -- `bellnewt_circle_write` writes the area of the record of its numbers: the signed ones fit, so they stand in it as they are.
-use mathlib.Core.Path.{subst}
 use mir.Syntax.{w32}
 use mir.ValLaws.{toZ-ofZ}
-use Rattle.c_rows.specs.Area.{recordOf, circleOf}
-use Rattle.area.specs.Area.{areas, valuesOf}
-use Rattle.area.specs.declared.reading.Area.{Area}
-use Rattle.format.specs.Promises.{Writes}
 use borrow.Author.Needs.{needs}
 use Rattle.c_calls.proofs.area_calls.bellnewt_circle_write.Statement.{statement}
 use Rattle.c_calls.proofs.area_calls.bellnewt_circle_write.Tie as tie
@@ -14,10 +9,7 @@ returns : tie.Need-returns
 returns c =
     let call = c .before .before in
     let st = call .before .before .before in
-    let a = st .args in
-    let longitude = toZ-ofZ w32 (a .longitude) (st .fits .longitude) in
-    let latitude = toZ-ofZ w32 (a .latitude) (st .fits .latitude) in
-    subst (λ (r : Area). Writes areas (a .buf .now) (call .written .result) (call .written .last .0) (valuesOf r)) (λ i. recordOf (a .repeat) (a .source) (a .sequence) (a .destination) (a .resent) (a .kind) (circleOf (longitude i) (latitude i) (a .radius)) (a .month) (a .day) (a .hour) (a .minute) (a .second-month) (a .second-day) (a .second-hour) (a .advice)) (call .written .ensures)
+    rw (toZ-ofZ w32 (st .args .longitude) (st .fits .longitude), toZ-ofZ w32 (st .args .latitude) (st .fits .latitude)) at (call .written .ensures)
 
 pub bellnewt-circle-write-spec : {M : Type 1} → statement M
 bellnewt-circle-write-spec = tie.close (tie.spec (λ c κs. search needs) (λ c. search needs) returns)

@@ -2,7 +2,7 @@
 use mathlib.Core.Path.{sym, ap, subst, _∙_}
 use native.Mathlib.Omega.{arith}
 use Rattle.format.specs.Fmt.{accepted}
-use Rattle.c_rows.specs.Row.{Fills}
+use Rattle.c_rows.specs.Row.{Fills, entries}
 use Rattle.c_rows.specs.laws.Packet.{good-size, good-numbers, refused-numbers}
 use borrow.Author.Needs.{needs}
 use Rattle.c_rows.proofs.packets.read.Statement.{statement}
@@ -34,7 +34,7 @@ returns c =
     let i = known .before in
     let a = i .args in
     let is = good-numbers (a .s .now) (m .answer .given .0 .0) (sym (m .answer .given .1) ∙ read .read .ensures) (λ i. known .shared-slice-known .given i .fits) in
-    subst (λ o. Fills o (a .row .now) (fill .fill .result) (fill .fill .last .0)) (ap accepted (numbers .numbers .ensures) ∙ sym is) (fill .fill .ensures)
+    subst (λ o. Fills o (a .row .now) (fill .fill .result) (fill .fill .last .0)) (ap (λ ns. accepted (entries ns)) (numbers .numbers .ensures) ∙ sym is) (fill .fill .ensures)
 
 returns-2 : tie.Need-returns-2
 returns-2 c =

@@ -1,10 +1,11 @@
--- `read` is the sentence's `read`, and its numbers in the row.
-use mathlib.Core.Path.{sym, ap, subst, _∙_}
-use mathlib.Core.List.{List}
-use lib.IntN.{ℤ}
-use Rattle.format.specs.Fmt.{Out, accepted}
-use Rattle.c_rows.specs.Row.{Fills}
-use Rattle.c_rows.specs.laws.Sentence.{heard-numbers, refused-sentence}
+-- `read` of the sentence is its own `read`, and its record's numbers in the row. Printed by tools/rows.
+use mathlib.Core.Path.{refl}
+use mathlib.Core.List.{_∷_}
+use lib.IntN.{pos}
+use Rattle.c_rows.specs.laws.Row.{fills-good, fills-refused}
+use Rattle.sentence.specs.Sentence.{readSentence, outOf}
+use Rattle.sentence.specs.declared.Heard.the-variants.{Good, Refused}
+use Rattle.c_rows.specs.Report.{rowOf}
 use borrow.Author.Needs.{needs}
 use Rattle.c_rows.proofs.sentences.read.Statement.{statement}
 use Rattle.c_rows.proofs.sentences.read.Tie as tie
@@ -16,17 +17,14 @@ returns c =
     let m = numbers .before .before in
     let read = m .before .before in
     let a = read .before .before .args in
-    let e = heard-numbers (a .s .now) _ _ (sym (m .heard .given .1) ∙ read .read .ensures) in
-    subst (λ (o : Out (List ℤ)). Fills o (a .row .now) (fill .fill .result) (fill .fill .last .0))
-    (ap accepted (numbers .numbers .ensures) ∙ sym e)
-    (fill .fill .ensures)
+    fills-good (λ r. r) (λ r. Good (r .0) (r .1)) Refused outOf (λ q. refl) (λ c. refl) (λ xs. xs) (λ r. pos (r .0) ∷ rowOf (r .1)) (readSentence (a .s .now)) (a .row .now) (read .read .ensures) {q = (_, _)} (m .heard .given .1) (numbers .numbers .ensures) (fill .fill .ensures)
 
 returns-2 : tie.Need-returns-2
 returns-2 c =
     let m = c .before in
     let read = m .before .before in
     let a = read .before .before .args in
-    refused-sentence (a .s .now) (a .row .now) _ (sym (m .heard2 .given .1) ∙ read .read .ensures)
+    fills-refused (λ r. r) (λ r. Good (r .0) (r .1)) Refused outOf (λ q. refl) (λ c. refl) (λ xs. xs) (λ r. pos (r .0) ∷ rowOf (r .1)) (readSentence (a .s .now)) (a .row .now) (read .read .ensures) (m .heard2 .given .1)
 
 pub read-spec : {M : Type 1} → statement M
 read-spec =

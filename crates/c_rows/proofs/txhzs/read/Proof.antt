@@ -1,8 +1,9 @@
--- `read` is the frame's `read`, and its record's numbers in the row.
+-- `read` of the frame TXHZ is its own `read`, and its record's numbers in the row. Printed by tools/rows.
 use mathlib.Core.Path.{refl}
 use Rattle.format.specs.Promises.{readRecord}
+use Rattle.c_rows.specs.Row.{entries}
 use Rattle.c_rows.specs.laws.Row.{fills-good, fills-refused}
-use Rattle.txhz.specs.Txhz.{txhzs, recordOf as framed, outOf}
+use Rattle.txhz.specs.Txhz.{txhzs, recordOf, outOf}
 use Rattle.txhz.specs.declared.reading.Answer.the-variants.{Good, Refused}
 use Rattle.c_rows.specs.Txhz.{rowOf}
 use borrow.Author.Needs.{needs}
@@ -16,15 +17,14 @@ returns c =
     let m = numbers .before .before in
     let read = m .before .before in
     let a = read .before .before .args in
-    fills-good (λ r. r) Good Refused rowOf outOf (λ q. refl) (λ c. refl) (readRecord txhzs framed (a .s .now)) (read .read .ensures) (a .row .now)
-    (m .answer .given .1) (numbers .numbers .ensures) (fill .fill .ensures)
+    fills-good (λ r. r) Good Refused outOf (λ q. refl) (λ c. refl) entries rowOf (readRecord txhzs recordOf (a .s .now)) (a .row .now) (read .read .ensures) (m .answer .given .1) (numbers .numbers .ensures) (fill .fill .ensures)
 
 returns-2 : tie.Need-returns-2
 returns-2 c =
     let m = c .before in
     let read = m .before .before in
     let a = read .before .before .args in
-    fills-refused (λ r. r) Good Refused rowOf outOf (λ q. refl) (λ c. refl) (readRecord txhzs framed (a .s .now)) (read .read .ensures) (a .row .now) (m .answer2 .given .1)
+    fills-refused (λ r. r) Good Refused outOf (λ q. refl) (λ c. refl) entries rowOf (readRecord txhzs recordOf (a .s .now)) (a .row .now) (read .read .ensures) (m .answer2 .given .1)
 
 pub read-spec : {M : Type 1} → statement M
 read-spec =

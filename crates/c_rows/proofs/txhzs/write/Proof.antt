@@ -1,10 +1,8 @@
 -- `write` is the frame's `write` of the record of its numbers and receipts.
-use mathlib.Core.Path.{refl, subst}
+use mathlib.Core.Path.{refl}
 use lib.ListN.{length}
 use borrow.Author.Tests.{eq-eqb, ne-eqb}
-use Rattle.format.specs.Promises.{Writes}
-use Rattle.txhz.specs.Txhz.{txhzs, valuesOf}
-use Rattle.txhz.specs.declared.reading.Txhz.{Txhz}
+use Rattle.txhz.specs.Txhz.{txhzs}
 use borrow.Author.Needs.{needs}
 use Rattle.c_rows.proofs.txhzs.write.Statement.{statement}
 use Rattle.c_rows.proofs.txhzs.write.Tie as tie
@@ -23,10 +21,7 @@ returns-2 c =
     let test = f .before in
     let a = test .before .before .before .args in
     let b = a .receipts .now in
-    rw (eq-eqb (length b) 20 (test .if1 .left))
-    (subst (λ (r : Txhz). Writes txhzs (a .buf .now) (call .write .result) (call .write .last .0) (valuesOf r))
-    (λ i. record { address = a .address; receiver = a .receiver; count = a .count; first = f .receipt .ensures i; second = s .receipt2 .ensures i; third = t .receipt3 .ensures i; fourth = d .receipt4 .ensures i; fifth = e .receipt5 .ensures i })
-    (call .write .ensures))
+    rw (eq-eqb (length b) 20 (test .if1 .left)) (rw (f .receipt .ensures, s .receipt2 .ensures, t .receipt3 .ensures, d .receipt4 .ensures, e .receipt5 .ensures) at (call .write .ensures))
 
 pub write-spec : {M : Type 1} → statement M
 write-spec =

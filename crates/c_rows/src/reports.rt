@@ -15,7 +15,7 @@ pub fn read(s: &[u8], row: &mut [i64]) -> u8
     match answer {
         Answer::Good(report) => {
             let numbers = numbers(0, report);
-            crate::fill(row, &numbers[1..])
+            crate::signed::fill(row, &numbers[1..])
         },
         Answer::Refused(code) => code,
     }
