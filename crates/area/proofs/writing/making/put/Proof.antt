@@ -1,15 +1,14 @@
 -- `put` puts the values in bit order: each step is a law of putting, the shape one law.
-use mathlib.Core.Path.{refl, ap, _∙_}
+use mathlib.Core.Path.{refl, _∙_}
 use Prim.Native.Nat.{_<_}
 use native.Mathlib.Omega.{arith}
 use lib.Dec.{lit≤}
 use Rattle.bits.specs.Bits.{Bytes}
-use Rattle.format.specs.Correcting.{putIn, put-in}
 use Rattle.format.specs.Words.{wide}
 use Rattle.format.specs.laws.Extent.{opens-choice}
-use Rattle.format.specs.laws.Putting.{put-start, put-number, put-step, put-end}
+use Rattle.format.specs.laws.Putting.{put-start, put-step, put-end}
 use Rattle.area.specs.Area.{area, valuesAs}
-use Rattle.area.specs.laws.Walking.{shape-put}
+use Rattle.ais_common.specs.laws.Walking.{put-told}
 use borrow.Author.Needs.{needs}
 use Rattle.area.proofs.writing.making.put.Statement.{statement}
 use Rattle.area.proofs.writing.making.put.Tie as tie
@@ -75,8 +74,8 @@ returns c b e l =
     let r8 = put-step 10 (lit≤ tt) r7 (p8 .put8 .ensures) in
     let r9 = put-step 6 (lit≤ tt) r8 (p9 .put9 .ensures) in
     let r10 = put-step 4 (lit≤ tt) r9 (p10 .put10 .ensures) in
-    let r11 = put-number 2 (lit≤ tt) opens-choice r10 (put-in _ 92 2 _ (p11 .put11 .ensures) ∙ ap (putIn (p10 .put10 .last .0) 92 2) (k .kind .ensures)) in
-    let r12 = shape-put (a .r .shape) r11 (p12 .put12 .ensures) in
+    let r11 = put-told 2 (lit≤ tt) opens-choice (k .kind .ensures) r10 (p11 .put11 .ensures) in
+    let r12 = p12 .put12 .ensures .on r11 in
     let r13 = put-step 20 (lit≤ tt) r12 (p13 .put13 .ensures) in
     let r14 = put-step 14 (lit≤ tt) r13 (p14 .put14 .ensures) in
     let r15 = put-step 4 (lit≤ tt) r14 (p15 .put15 .ensures) in
