@@ -1,4 +1,4 @@
--- `read_fog` walks a fog as its layout stands: one step a field.
+-- `read_fog` walks the body as its layout stands: one step a field. Printed by tools/bodies.
 use mathlib.Core.Path.{refl}
 use lib.Dec.{lit<, lit≤}
 use Rattle.walk.specs.laws.Reading.{step-num, step-blank}

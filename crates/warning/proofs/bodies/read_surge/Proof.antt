@@ -1,4 +1,4 @@
--- `read_surge` walks a surge as its layout stands: one step a field.
+-- `read_surge` walks the body as its layout stands: one step a field. Printed by tools/bodies.
 use mathlib.Core.Path.{refl}
 use lib.Dec.{lit<, lit≤}
 use Rattle.walk.specs.laws.Reading.{step-num, step-fill}

@@ -1,4 +1,4 @@
--- `judged_cyclone` judges a cyclone's values in bit order: one step a field.
+-- `judged_cyclone` judges the body's values in bit order: one step a field. Printed by tools/bodies.
 use lib.Dec.{lit<}
 use Rattle.walk.specs.laws.Judging.{judge-num}
 use borrow.Author.Needs.{needs}

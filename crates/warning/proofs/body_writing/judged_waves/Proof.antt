@@ -1,4 +1,4 @@
--- `judged_waves` judges a waves's values in bit order: one step a field.
+-- `judged_waves` judges the body's values in bit order: one step a field. Printed by tools/bodies.
 use lib.Dec.{lit<}
 use Rattle.walk.specs.laws.Judging.{judge-num, judge-fixed}
 use borrow.Author.Needs.{needs}

@@ -1,4 +1,4 @@
--- `put_cyclone` puts a cyclone's values in bit order: one step a field.
+-- `put_cyclone` puts the body's values in bit order: one step a field. Printed by tools/bodies.
 use mathlib.Core.Path.{_≡_}
 use native.Mathlib.Omega.{arith}
 use lib.Dec.{lit≤}

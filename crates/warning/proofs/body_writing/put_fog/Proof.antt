@@ -1,4 +1,4 @@
--- `put_fog` puts a fog's values in bit order: one step a field.
+-- `put_fog` puts the body's values in bit order: one step a field. Printed by tools/bodies.
 use mathlib.Core.Path.{refl}
 use lib.Dec.{lit<, lit≤}
 use Rattle.format.specs.Correcting.{put-in}

@@ -1,4 +1,4 @@
--- `put_gale` puts a gale's values in bit order: one step a field.
+-- `put_gale` puts the body's values in bit order: one step a field. Printed by tools/bodies.
 use lib.Dec.{lit≤}
 use Rattle.format.specs.laws.Putting.{put-step}
 use borrow.Author.Needs.{needs}

@@ -1,4 +1,4 @@
--- `put_surge` puts a surge's values in bit order: one step a field.
+-- `put_surge` puts the body's values in bit order: one step a field. Printed by tools/bodies.
 use lib.Dec.{lit≤}
 use Rattle.format.specs.laws.Putting.{put-step}
 use borrow.Author.Needs.{needs}

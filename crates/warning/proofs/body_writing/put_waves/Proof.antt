@@ -1,4 +1,4 @@
--- `put_waves` puts a waves's values in bit order: one step a field.
+-- `put_waves` puts the body's values in bit order: one step a field. Printed by tools/bodies.
 use lib.Dec.{lit≤}
 use Rattle.format.specs.laws.Putting.{put-step}
 use borrow.Author.Needs.{needs}

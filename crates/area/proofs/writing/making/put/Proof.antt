@@ -1,8 +1,9 @@
 -- `put` puts the values in bit order: each step is a law of putting, the shape one law.
-use mathlib.Core.Path.{refl, _∙_}
+use mathlib.Core.Path.{_≡_, refl}
 use Prim.Native.Nat.{_<_}
 use native.Mathlib.Omega.{arith}
 use lib.Dec.{lit≤}
+use lib.ListN.{length}
 use Rattle.bits.specs.Bits.{Bytes}
 use Rattle.format.specs.Words.{wide}
 use Rattle.format.specs.laws.Extent.{opens-choice}
@@ -19,25 +20,18 @@ cast-put-7 c =
     let n : k .kind .result < 256 = k .kind .ok in
     record { fits = omega (arith, n) }
 
+-- the first 4 puts leave as many bytes, and so do the 6th to the 10th
+first : (p : tie.After-put4) → length (p .put4 .last .0) ≡ length (p .before .before .before .before .before .before .before .before .before .before .before .before .before .before .before .before .before .before .before .args .buf .now)
+first p = omega arith
+
+next : (p : tie.After-put10) → length (p .put10 .last .0) ≡ length (p .before .before .before .before .before .before .before .before .before .before .before .before .before .before .before .before .before .before .before .before .before .before .put5 .last .0)
+next p = omega arith
+
 same-length : tie.Need-same-length
 same-length c =
-    let p16 = c .before .before in
-    let p15 = p16 .before .before .before .before in
-    let p14 = p15 .before .before .before .before .before in
-    let p13 = p14 .before .before .before .before in
-    let p12 = p13 .before .before .before .before in
-    let p11 = p12 .before .before .before .before in
-    let p10 = p11 .before .before .before .before in
-    let p9 = p10 .before .before .before .before .before in
-    let p8 = p9 .before .before .before .before in
-    let p7 = p8 .before .before .before .before in
-    let p6 = p7 .before .before .before .before in
-    let p5 = p6 .before .before .before .before .before in
-    let p4 = p5 .before .before .before .before .before in
-    let p3 = p4 .before .before .before .before .before in
-    let p2 = p3 .before .before .before .before .before in
-    let p1 = p2 .before .before .before .before .before in
-    p16 .put16 .kept .0 ∙ p15 .put15 .kept .0 ∙ p14 .put14 .kept .0 ∙ p13 .put13 .kept .0 ∙ p12 .put12 .kept .0 ∙ p11 .put11 .kept .0 ∙ p10 .put10 .kept .0 ∙ p9 .put9 .kept .0 ∙ p8 .put8 .kept .0 ∙ p7 .put7 .kept .0 ∙ p6 .put6 .kept .0 ∙ p5 .put5 .kept .0 ∙ p4 .put4 .kept .0 ∙ p3 .put3 .kept .0 ∙ p2 .put2 .kept .0 ∙ p1 .put .kept .0
+    let h = next (c .before .before .before .before .before .before .before .before .before .before .before .before .before .before .before .before .before .before .before .before .before .before .before .before .before .before .before) in
+    let g = first (c .before .before .before .before .before .before .before .before .before .before .before .before .before .before .before .before .before .before .before .before .before .before .before .before .before .before .before .before .before .before .before .before .before .before .before .before .before .before .before .before .before .before .before .before .before .before .before .before .before .before .before .before .before .before) in
+    omega (arith, c .before .before .before .before .before .before .before .before .before .before .before .before .before .before .before .before .before .before .before .before .before .before .before .before .before .before .before .before .before .before .before .before .before .before .before .before .before .before .before .before .before .before .before .before .before .before .before .before .before .put5 .kept .0)
 
 returns : tie.Need-returns
 unfolding area valuesAs wide
