@@ -1,67 +1,57 @@
--- What the code's steps over a shape answer and leave: read, judged, put. Assumes nothing.
-use Prim.Native.Nat.{ℕ, _^_}
-use mathlib.Core.Bool.{true, false}
-use mathlib.Core.List.{List}
+-- What the code's steps over a shape leave: where reading, judging or putting stood at it, bit 94, it stands behind it, bit 204. Assumes nothing.
+use Prim.Native.Nat.{ℕ, _+_, _<_, _^_}
+use mathlib.Core.Path.{_≡_}
+use mathlib.Core.Bool.{Bool}
+use mathlib.Core.List.{List, _∷_}
 use lib.IntN.{ℤ}
-use Rattle.format.specs.Correcting.{putIn}
-use Rattle.walk.specs.Judging.{valued, signedlyValued}
-use Rattle.walk.specs.Reading.{ranged, blanked, signedly}
-use Rattle.walk.specs.Walk.{onward}
+use Rattle.format.specs.Fmt.{Out, Fmt}
+use Rattle.format.specs.laws.Putting.{Putting}
+use Rattle.walk.specs.Reading.{signedly}
+use Rattle.walk.specs.laws.Judging.{Judging}
+use Rattle.walk.specs.laws.Step.{Reading}
 use Rattle.walk.specs.declared.walk.Walk.{Walk}
-use Rattle.area.specs.Shapes.{Kind, circle, rectangle, spellEast, spellNorth, eastOf, northOf}
+use Rattle.area.specs.Shapes.{Kind, kindOf, typeOf, point, shape, spellEast, spellNorth, shapeKind, shapeValues}
 use Rattle.area.specs.declared.reading.shapes.Passed.{Passed}
 use Rattle.area.specs.declared.reading.shapes.Shape.{Shape}
 use Rattle.area.specs.declared.reading.shapes.Shape.the-variants.{Circle, Rectangle}
 
--- ---- read: the walk past the shape's last field, and the value of the walk behind each
-
+-- the walk past a longitude, and past a latitude
 abbrev pub eastRead : List ℕ → Walk → Walk
 eastRead s r = signedly s 28 108_000_000 160_435_456 108_600_000 r
 
 abbrev pub northRead : List ℕ → Walk → Walk
 northRead s r = signedly s 27 54_000_000 80_217_728 54_600_000 r
 
--- past a position
-abbrev pub pointRead : List ℕ → Walk → Walk
-pointRead s r = northRead s (eastRead s r)
+-- the values of a shape, the latest first
+abbrev backwards : Shape → List ℕ → List ℕ
+backwards (Circle b) h = 0 ∷ b .radius ∷ spellNorth (b .latitude) ∷ spellEast (b .longitude) ∷ h
+backwards (Rectangle b) h = spellNorth (b .«second_latitude») ∷ spellEast (b .«second_longitude») ∷ spellNorth (b .latitude) ∷ spellEast (b .longitude) ∷ h
 
-unfoldable pub circleRead : List ℕ → Walk → Passed
-circleRead s r =
-    let p = pointRead s r in
-    let a = ranged s 7 true 0 127 4 p in
-    record { walk = blanked s 48 a; shape = Circle (record { longitude = eastOf (eastRead s r .v); latitude = northOf (p .v); radius = a .v }) }
+-- a shape whose positions fit their bits
+abbrev pub Narrow : Shape → Type 0
+Narrow (Circle b) = (spellEast (b .longitude) < 2 ^ 28) × (spellNorth (b .latitude) < 2 ^ 27)
+Narrow (Rectangle b) = (spellEast (b .longitude) < 2 ^ 28) × (spellNorth (b .latitude) < 2 ^ 27) × (spellEast (b .«second_longitude») < 2 ^ 28) × (spellNorth (b .«second_latitude») < 2 ^ 27)
 
-unfoldable pub rectangleRead : List ℕ → Walk → Passed
-rectangleRead s r =
-    let p = pointRead s r in
-    let q = pointRead s p in
-    record {
-      walk = q;
-      shape = Rectangle (record {
-        longitude = eastOf (eastRead s r .v);
-        latitude = northOf (p .v);
-        «second_longitude» = eastOf (eastRead s p .v);
-        «second_latitude» = northOf (q .v);
-      });
-    }
+-- the layout of a shape in front of f, by its number
+abbrev shaped : Shape → Fmt → Fmt
+shaped b = shape (kindOf (typeOf (shapeKind b)))
 
-abbrev pub shapeRead : List ℕ → Kind → Walk → Passed
-shapeRead s circle r = circleRead s r
-shapeRead s rectangle r = rectangleRead s r
+-- a shape of kind t was read
+pub record ShapeRead (s : List ℕ) (t : Kind) (r : Walk) (g : Passed) : Type 0 where
+  pub kind : shapeKind (g .shape) ≡ t
+  pub narrow : Narrow (g .shape)
+  pub on : {o : Out (List ℕ)} {all f : Fmt} {i : ℕ} {h : List ℕ} {k : List ℕ → List ℕ} → Reading o all i s (shape t f) h 94 k r
+      → Reading o all i s f (backwards (g .shape) h) 204 (λ vs. k (shapeValues (g .shape) vs)) (g .walk)
 
--- ---- judged
+-- a position was judged, wherever it stands
+pub record PointJudged (x y : ℤ) (r g : Walk) : Type 0 where
+  pub on : {o : Out (List Bool)} {f : Fmt} {h vs : List ℕ} {at : ℕ} → at + 28 < 2 ^ 64 → at + 28 + 27 < 2 ^ 64 → Judging o (point f) h at (spellEast x ∷ spellNorth y ∷ vs) r
+      → Judging o f (spellNorth y ∷ spellEast x ∷ h) (at + 28 + 27) vs g
 
-abbrev pub pointJudged : ℤ → ℤ → Walk → Walk
-pointJudged x y r =
-    signedlyValued 27 (spellNorth y) (2 ^ 27) 54_000_000 80_217_728 54_600_000 (signedlyValued 28 (spellEast x) (2 ^ 28) 108_000_000 160_435_456 108_600_000 r)
+-- a shape was judged
+pub record ShapeJudged (b : Shape) (r g : Walk) : Type 0 where
+  pub on : {o : Out (List Bool)} {f : Fmt} {h vs : List ℕ} → Judging o (shaped b f) h 94 (shapeValues b vs) r → Judging o f (backwards b h) 204 vs g
 
-abbrev pub shapeJudged : Shape → Walk → Walk
-shapeJudged (Circle b) r = onward 48 false 0 0 0 (valued 7 (b .radius) 0 127 (pointJudged (b .longitude) (b .latitude) r))
-shapeJudged (Rectangle b) r = pointJudged (b .«second_longitude») (b .«second_latitude») (pointJudged (b .longitude) (b .latitude) r)
-
--- ---- put
-
-abbrev pub shapePut : Shape → List ℕ → List ℕ
-shapePut (Circle b) t = putIn (putIn (putIn (putIn (putIn t 94 28 (spellEast (b .longitude))) 122 27 (spellNorth (b .latitude))) 149 7 (b .radius)) 156 32 0) 188 16 0
-shapePut (Rectangle b) t =
-    putIn (putIn (putIn (putIn t 94 28 (spellEast (b .longitude))) 122 27 (spellNorth (b .latitude))) 149 28 (spellEast (b .«second_longitude»))) 177 27 (spellNorth (b .«second_latitude»))
+-- a shape was put
+pub record ShapePut (b : Shape) (t u : List ℕ) : Type 0 where
+  pub on : {s : List ℕ} {l : List Bool} {f : Fmt} {vs : List ℕ} → Putting s l (shaped b f) 94 (shapeValues b vs) t → Putting s l f 204 vs u

@@ -1,6 +1,5 @@
 // Writing a shape of an area (003, tables 39 and 40): its record judged, then put.
-ghost use mathlib.Core.Path.{_≡_};
-ghost use Rattle.area.specs.Steps.{pointJudged, shapeJudged, shapePut};
+ghost use Rattle.area.specs.Steps.{PointJudged, ShapeJudged, ShapePut};
 ghost use Rattle.area.specs.declared.reading.shapes.Shape.the-variants.{Circle as IsCircle, Rectangle as IsRectangle};
 use crate::reading::shapes::Circle;
 use crate::reading::shapes::EAST;
@@ -9,8 +8,8 @@ use crate::reading::shapes::Rectangle;
 use crate::reading::shapes::Shape;
 use walk::walk::Walk;
 
-pub fn judged(w: Walk, shape: Shape) -> Walk
-    ensures { λ r. ⌜ r ≡ shapeJudged shape w ⌝ }
+pub(crate) fn judged(w: Walk, shape: Shape) -> Walk
+    ensures { λ r. ⌜ ShapeJudged shape w r ⌝ }
 {
     match shape {
         Shape::Circle(b) => judged_circle(w, b),
@@ -19,7 +18,7 @@ pub fn judged(w: Walk, shape: Shape) -> Walk
 }
 
 fn judged_circle(w: Walk, b: Circle) -> Walk
-    ensures { λ r. ⌜ r ≡ shapeJudged (IsCircle b) w ⌝ }
+    ensures { λ r. ⌜ ShapeJudged (IsCircle b) w r ⌝ }
 {
     let east = b.longitude;
     let north = b.latitude;
@@ -28,7 +27,7 @@ fn judged_circle(w: Walk, b: Circle) -> Walk
 }
 
 fn judged_rectangle(w: Walk, b: Rectangle) -> Walk
-    ensures { λ r. ⌜ r ≡ shapeJudged (IsRectangle b) w ⌝ }
+    ensures { λ r. ⌜ ShapeJudged (IsRectangle b) w r ⌝ }
 {
     let east = b.longitude;
     let north = b.latitude;
@@ -39,7 +38,7 @@ fn judged_rectangle(w: Walk, b: Rectangle) -> Walk
 }
 
 fn judged_point(w: Walk, longitude: i32, latitude: i32) -> Walk
-    ensures { λ r. ⌜ r ≡ pointJudged longitude latitude w ⌝ }
+    ensures { λ r. ⌜ PointJudged longitude latitude w r ⌝ }
 {
     let east = walk::sign::spelled(longitude, EAST);
     let north = walk::sign::spelled(latitude, NORTH);
@@ -47,8 +46,8 @@ fn judged_point(w: Walk, longitude: i32, latitude: i32) -> Walk
     w.signed_value(27, north, NORTH, 54_000_000, 80_217_728, 54_600_000)
 }
 
-pub fn put(buf: &mut [u8], shape: Shape)
-    ensures { λ _. ⌜ now (buf .exit) ≡ shapePut shape (now (buf .entry)) ⌝ }
+pub(crate) fn put(buf: &mut [u8], shape: Shape)
+    ensures { λ _. ⌜ ShapePut shape (now (buf .entry)) (now (buf .exit)) ⌝ }
 {
     match shape {
         Shape::Circle(b) => put_circle(buf, b),
@@ -57,7 +56,7 @@ pub fn put(buf: &mut [u8], shape: Shape)
 }
 
 fn put_circle(buf: &mut [u8], b: Circle)
-    ensures { λ _. ⌜ now (buf .exit) ≡ shapePut (IsCircle b) (now (buf .entry)) ⌝ }
+    ensures { λ _. ⌜ ShapePut (IsCircle b) (now (buf .entry)) (now (buf .exit)) ⌝ }
 {
     let east = b.longitude;
     let north = b.latitude;
@@ -71,7 +70,7 @@ fn put_circle(buf: &mut [u8], b: Circle)
 }
 
 fn put_rectangle(buf: &mut [u8], b: Rectangle)
-    ensures { λ _. ⌜ now (buf .exit) ≡ shapePut (IsRectangle b) (now (buf .entry)) ⌝ }
+    ensures { λ _. ⌜ ShapePut (IsRectangle b) (now (buf .entry)) (now (buf .exit)) ⌝ }
 {
     let east = b.longitude;
     let north = b.latitude;

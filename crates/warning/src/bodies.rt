@@ -1,7 +1,7 @@
 // The five bodies of a warning (paper 01, "AIS"; 003, tables 58 to 62): what stands behind its position.
 ghost use mathlib.Core.Path.{_≡_};
-ghost use Rattle.warning.specs.Bodies.{kindOf, typeOf, bodyKind};
-ghost use Rattle.warning.specs.Steps.{cycloneRead, galeRead, wavesRead, fogRead, surgeRead, bodyRead};
+ghost use Rattle.warning.specs.Bodies.{cyclone, gale, waves, fog, surge, kindOf, typeOf, bodyKind};
+ghost use Rattle.warning.specs.Steps.{BodyRead};
 use walk::walk::Walk;
 
 // A number outside the range that 003 prints for it means none; it is carried.
@@ -79,14 +79,14 @@ impl Body {
 // ---- reading
 
 // A body, and the walk past it.
-pub struct Passed {
-    pub walk: Walk,
-    pub body: Body,
+pub(crate) struct Passed {
+    pub(crate) walk: Walk,
+    pub(crate) body: Body,
 }
 
 // The body of a warning of type `kind`; one of no type is read as the last.
-pub fn read(s: &[u8], kind: u64, w: Walk) -> Passed
-    ensures { λ r. ⌜ r ≡ bodyRead (now (s .entry)) (kindOf kind) w ⌝ }
+pub(crate) fn read(s: &[u8], kind: u64, w: Walk) -> Passed
+    ensures { λ r. ⌜ BodyRead (now (s .entry)) (kindOf kind) w r ⌝ }
 {
     if kind == 1 {
         return read_cyclone(s, w);
@@ -104,7 +104,7 @@ pub fn read(s: &[u8], kind: u64, w: Walk) -> Passed
 }
 
 fn read_cyclone(s: &[u8], w: Walk) -> Passed
-    ensures { λ r. ⌜ r ≡ cycloneRead (now (s .entry)) w ⌝ }
+    ensures { λ r. ⌜ BodyRead (now (s .entry)) cyclone w r ⌝ }
 {
     let w = w.num(s, 3, 1, 4);
     let kind = w.v as u8;
@@ -136,7 +136,7 @@ fn read_cyclone(s: &[u8], w: Walk) -> Passed
 }
 
 fn read_gale(s: &[u8], w: Walk) -> Passed
-    ensures { λ r. ⌜ r ≡ galeRead (now (s .entry)) w ⌝ }
+    ensures { λ r. ⌜ BodyRead (now (s .entry)) gale w r ⌝ }
 {
     let w = w.num(s, 8, 0, 255);
     let radius = w.v as u8;
@@ -160,7 +160,7 @@ fn read_gale(s: &[u8], w: Walk) -> Passed
 }
 
 fn read_waves(s: &[u8], w: Walk) -> Passed
-    ensures { λ r. ⌜ r ≡ wavesRead (now (s .entry)) w ⌝ }
+    ensures { λ r. ⌜ BodyRead (now (s .entry)) waves w r ⌝ }
 {
     let w = w.num(s, 8, 0, 255);
     let radius = w.v as u8;
@@ -181,7 +181,7 @@ fn read_waves(s: &[u8], w: Walk) -> Passed
 }
 
 fn read_fog(s: &[u8], w: Walk) -> Passed
-    ensures { λ r. ⌜ r ≡ fogRead (now (s .entry)) w ⌝ }
+    ensures { λ r. ⌜ BodyRead (now (s .entry)) fog w r ⌝ }
 {
     let w = w.num(s, 9, 0, 511);
     let radius = w.v as u16;
@@ -196,7 +196,7 @@ fn read_fog(s: &[u8], w: Walk) -> Passed
 }
 
 fn read_surge(s: &[u8], w: Walk) -> Passed
-    ensures { λ r. ⌜ r ≡ surgeRead (now (s .entry)) w ⌝ }
+    ensures { λ r. ⌜ BodyRead (now (s .entry)) surge w r ⌝ }
 {
     let w = w.num(s, 9, 0, 511);
     let radius = w.v as u16;

@@ -1,6 +1,5 @@
 // Writing a body of a warning (003, tables 58 to 62): its record judged, then put.
-ghost use mathlib.Core.Path.{_≡_};
-ghost use Rattle.warning.specs.Steps.{bodyJudged, bodyPut};
+ghost use Rattle.warning.specs.Steps.{BodyJudged, BodyPut};
 ghost use Rattle.warning.specs.declared.bodies.Body.the-variants.{Cyclone as IsCyclone, Gale as IsGale, Waves as IsWaves, Fog as IsFog, Surge as IsSurge};
 use crate::bodies::Body;
 use crate::bodies::Cyclone;
@@ -10,8 +9,8 @@ use crate::bodies::Surge;
 use crate::bodies::Waves;
 use walk::walk::Walk;
 
-pub fn judged(w: Walk, body: Body) -> Walk
-    ensures { λ r. ⌜ r ≡ bodyJudged body w ⌝ }
+pub(crate) fn judged(w: Walk, body: Body) -> Walk
+    ensures { λ r. ⌜ BodyJudged body w r ⌝ }
 {
     match body {
         Body::Cyclone(b) => judged_cyclone(w, b),
@@ -23,7 +22,7 @@ pub fn judged(w: Walk, body: Body) -> Walk
 }
 
 fn judged_cyclone(w: Walk, b: Cyclone) -> Walk
-    ensures { λ r. ⌜ r ≡ bodyJudged (IsCyclone b) w ⌝ }
+    ensures { λ r. ⌜ BodyJudged (IsCyclone b) w r ⌝ }
 {
     let w = w.value(3, b.kind as u64, 1, 4);
     let w = w.value(9, b.gale_radius as u64, 0, 511);
@@ -35,7 +34,7 @@ fn judged_cyclone(w: Walk, b: Cyclone) -> Walk
 }
 
 fn judged_gale(w: Walk, b: Gale) -> Walk
-    ensures { λ r. ⌜ r ≡ bodyJudged (IsGale b) w ⌝ }
+    ensures { λ r. ⌜ BodyJudged (IsGale b) w r ⌝ }
 {
     let w = w.value(8, b.radius as u64, 0, 255);
     let w = w.value(5, b.least as u64, 0, 31);
@@ -45,7 +44,7 @@ fn judged_gale(w: Walk, b: Gale) -> Walk
 }
 
 fn judged_waves(w: Walk, b: Waves) -> Walk
-    ensures { λ r. ⌜ r ≡ bodyJudged (IsWaves b) w ⌝ }
+    ensures { λ r. ⌜ BodyJudged (IsWaves b) w r ⌝ }
 {
     let w = w.value(8, b.radius as u64, 0, 255);
     let w = w.value(5, b.height as u64, 0, 31);
@@ -54,7 +53,7 @@ fn judged_waves(w: Walk, b: Waves) -> Walk
 }
 
 fn judged_fog(w: Walk, b: Fog) -> Walk
-    ensures { λ r. ⌜ r ≡ bodyJudged (IsFog b) w ⌝ }
+    ensures { λ r. ⌜ BodyJudged (IsFog b) w r ⌝ }
 {
     let w = w.value(9, b.radius as u64, 0, 511);
     let w = w.value(8, b.visibility as u64, 0, 250);
@@ -62,7 +61,7 @@ fn judged_fog(w: Walk, b: Fog) -> Walk
 }
 
 fn judged_surge(w: Walk, b: Surge) -> Walk
-    ensures { λ r. ⌜ r ≡ bodyJudged (IsSurge b) w ⌝ }
+    ensures { λ r. ⌜ BodyJudged (IsSurge b) w r ⌝ }
 {
     let w = w.value(9, b.radius as u64, 0, 511);
     let w = w.value(9, b.rise as u64, 0, 511);
@@ -71,8 +70,8 @@ fn judged_surge(w: Walk, b: Surge) -> Walk
     w.fixed(9, 0)
 }
 
-pub fn put(buf: &mut [u8], body: Body)
-    ensures { λ _. ⌜ now (buf .exit) ≡ bodyPut body (now (buf .entry)) ⌝ }
+pub(crate) fn put(buf: &mut [u8], body: Body)
+    ensures { λ _. ⌜ BodyPut body (now (buf .entry)) (now (buf .exit)) ⌝ }
 {
     match body {
         Body::Cyclone(b) => put_cyclone(buf, b),
@@ -84,7 +83,7 @@ pub fn put(buf: &mut [u8], body: Body)
 }
 
 fn put_cyclone(buf: &mut [u8], b: Cyclone)
-    ensures { λ _. ⌜ now (buf .exit) ≡ bodyPut (IsCyclone b) (now (buf .entry)) ⌝ }
+    ensures { λ _. ⌜ BodyPut (IsCyclone b) (now (buf .entry)) (now (buf .exit)) ⌝ }
 {
     bits::put(buf, 106, 3, b.kind as u64);
     bits::put(buf, 109, 9, b.gale_radius as u64);
@@ -96,7 +95,7 @@ fn put_cyclone(buf: &mut [u8], b: Cyclone)
 }
 
 fn put_gale(buf: &mut [u8], b: Gale)
-    ensures { λ _. ⌜ now (buf .exit) ≡ bodyPut (IsGale b) (now (buf .entry)) ⌝ }
+    ensures { λ _. ⌜ BodyPut (IsGale b) (now (buf .entry)) (now (buf .exit)) ⌝ }
 {
     bits::put(buf, 106, 8, b.radius as u64);
     bits::put(buf, 114, 5, b.least as u64);
@@ -106,7 +105,7 @@ fn put_gale(buf: &mut [u8], b: Gale)
 }
 
 fn put_waves(buf: &mut [u8], b: Waves)
-    ensures { λ _. ⌜ now (buf .exit) ≡ bodyPut (IsWaves b) (now (buf .entry)) ⌝ }
+    ensures { λ _. ⌜ BodyPut (IsWaves b) (now (buf .entry)) (now (buf .exit)) ⌝ }
 {
     bits::put(buf, 106, 8, b.radius as u64);
     bits::put(buf, 114, 5, b.height as u64);
@@ -115,7 +114,7 @@ fn put_waves(buf: &mut [u8], b: Waves)
 }
 
 fn put_fog(buf: &mut [u8], b: Fog)
-    ensures { λ _. ⌜ now (buf .exit) ≡ bodyPut (IsFog b) (now (buf .entry)) ⌝ }
+    ensures { λ _. ⌜ BodyPut (IsFog b) (now (buf .entry)) (now (buf .exit)) ⌝ }
 {
     bits::put(buf, 106, 9, b.radius as u64);
     bits::put(buf, 115, 8, b.visibility as u64);
@@ -124,7 +123,7 @@ fn put_fog(buf: &mut [u8], b: Fog)
 }
 
 fn put_surge(buf: &mut [u8], b: Surge)
-    ensures { λ _. ⌜ now (buf .exit) ≡ bodyPut (IsSurge b) (now (buf .entry)) ⌝ }
+    ensures { λ _. ⌜ BodyPut (IsSurge b) (now (buf .entry)) (now (buf .exit)) ⌝ }
 {
     bits::put(buf, 106, 9, b.radius as u64);
     bits::put(buf, 115, 9, b.rise as u64);

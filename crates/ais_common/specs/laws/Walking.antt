@@ -1,14 +1,18 @@
--- A time read and judged: where the code stands behind it. Assumes nothing.
-use mathlib.Core.Path.{_≡_, refl}
-use mathlib.Core.Bool.{Bool}
+-- A time read and judged, and a number put: where the code stands behind it. Assumes nothing.
+use mathlib.Core.Path.{_≡_, refl, ap, _∙_}
+use mathlib.Core.Bool.{Bool, cond}
 use mathlib.Core.List.{List, [], _∷_}
 use Prim.Native.Nat.{ℕ, _+_, _*_, _≤_, _<_, _^_}
 use native.Mathlib.Omega.{arith}
 use lib.Dec.{lit<, lit≤}
 use lib.ListN.{length}
-use Rattle.bits.specs.Answers.{got}
-use Rattle.format.specs.Fmt.{Out, Fmt}
+use Rattle.bits.specs.Answers.{got, puttable}
+use Rattle.bits.specs.Bits.{putAt}
+use Rattle.format.specs.Correcting.{putIn, put-in}
+use Rattle.format.specs.Fmt.{Out, Judge, Fmt}
 use Rattle.format.specs.Words.{Part, part, _‥_, walk, wide}
+use Rattle.format.specs.laws.Extent.{Opens}
+use Rattle.format.specs.laws.Putting.{Putting, put-number}
 use Rattle.walk.specs.laws.Judging.{Judging}
 use Rattle.walk.specs.laws.Parts.{step-there}
 use Rattle.walk.specs.laws.Pieces.{Pieced, piece-start, piece-step, piece-end, judge-group}
@@ -56,6 +60,12 @@ module _ {o : Out (List ℕ)} {all : Fmt} {i : ℕ} {s : List ℕ} {h : List ℕ
   pub short-read : at + 14 < 2 ^ 64 → at + 14 ≤ length s * 8 → Reading o all i s (shortTime f) h at k r → q ≡ shortRead s r → Reading o all i s f (q .v ∷ h) (at + 14) (λ vs. k (q .v ∷ vs)) q
   unfolding wide
   short-read reach there e d = step-there 14 (lit< tt) (lit≤ tt) reach there (short-pieces h (got s (r .at) 14)) e d
+
+-- ---- a number put, told by another that it is
+
+pub put-told : {s t : List ℕ} {l : List Bool} {f g : Fmt} {at u v : ℕ} {vs : List ℕ} {j : Judge} {r : Bool} {p : List ℕ} (w : ℕ) → w ≤ 32 → Opens f at u vs w j g → v ≡ u
+    → Putting s l f at (u ∷ vs) t → (r ≡ puttable t at w v) × (p ≡ cond r (putAt t at w v) t) → Putting s l g (at + w) vs p
+put-told {t = t} {at = at} w small opens is e d = put-number w small opens e (put-in t at w _ d ∙ ap (putIn t at w) is)
 
 -- ---- their refusals are numbers of the paper
 

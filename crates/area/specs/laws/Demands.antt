@@ -32,7 +32,8 @@ use Rattle.area.specs.Shapes.{Kind, circle, rectangle, kindOf, typeOf, s
 use Rattle.area.specs.laws.Correction.{offsets, widths, kinds, stands, spotted, changed-values}
 use Rattle.area.specs.laws.Sound.{front, bytes, shape-at, sound}
 use Rattle.area.specs.laws.Told.{recorded, kind-type}
-use Rattle.area.specs.laws.Walking.{Narrow, shape-numbered}
+use Rattle.area.specs.Steps.{Narrow}
+use Rattle.area.specs.laws.Walking.{shape-numbered}
 use Rattle.area.specs.declared.reading.Area.{Area}
 use Rattle.area.specs.declared.reading.shapes.Shape.{Shape}
 use Rattle.area.specs.declared.reading.shapes.Shape.the-variants.{Circle, Rectangle}

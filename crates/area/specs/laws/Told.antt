@@ -7,7 +7,7 @@ use Rattle.walk.specs.laws.Sign.{int-spell}
 use Rattle.ais_common.specs.Time.{timeOf, shortOf}
 use Rattle.area.specs.Area.{recordOf}
 use Rattle.area.specs.Shapes.{Kind, circle, rectangle, kindOf, typeOf, shapeKind, shapeValues, shapeOf}
-use Rattle.area.specs.laws.Walking.{Narrow}
+use Rattle.area.specs.Steps.{Narrow}
 use Rattle.area.specs.declared.reading.Area.{Area}
 use Rattle.area.specs.declared.reading.shapes.Shape.{Shape}
 use Rattle.area.specs.declared.reading.shapes.Shape.the-variants.{Circle, Rectangle}

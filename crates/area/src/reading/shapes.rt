@@ -1,7 +1,7 @@
 // The two shapes of an area (003, tables 39 and 40): 110 bits.
 ghost use mathlib.Core.Path.{_≡_};
-ghost use Rattle.area.specs.Shapes.{kindOf, typeOf, shapeKind};
-ghost use Rattle.area.specs.Steps.{eastRead, northRead, circleRead, rectangleRead, shapeRead};
+ghost use Rattle.area.specs.Shapes.{circle, rectangle, kindOf, typeOf, shapeKind};
+ghost use Rattle.area.specs.Steps.{eastRead, northRead, ShapeRead};
 use walk::walk::Walk;
 
 // Ten-thousandths of a minute, 108,600,000 and 54,600,000 for none.
@@ -44,14 +44,14 @@ pub const NORTH: u64 = 134_217_728;
 // ---- reading
 
 // A shape, and the walk past it.
-pub struct Passed {
-    pub walk: Walk,
-    pub shape: Shape,
+pub(crate) struct Passed {
+    pub(crate) walk: Walk,
+    pub(crate) shape: Shape,
 }
 
 // The shape of number `kind`; one of no shape's is read as the last.
-pub fn read(s: &[u8], kind: u64, w: Walk) -> Passed
-    ensures { λ r. ⌜ r ≡ shapeRead (now (s .entry)) (kindOf kind) w ⌝ }
+pub(crate) fn read(s: &[u8], kind: u64, w: Walk) -> Passed
+    ensures { λ r. ⌜ ShapeRead (now (s .entry)) (kindOf kind) w r ⌝ }
 {
     if kind == 1 {
         return read_circle(s, w);
@@ -60,7 +60,7 @@ pub fn read(s: &[u8], kind: u64, w: Walk) -> Passed
 }
 
 fn read_circle(s: &[u8], w: Walk) -> Passed
-    ensures { λ r. ⌜ r ≡ circleRead (now (s .entry)) w ⌝ }
+    ensures { λ r. ⌜ ShapeRead (now (s .entry)) circle w r ⌝ }
 {
     let w = read_longitude(s, w);
     let longitude = walk::sign::int(w.v, EAST);
@@ -81,7 +81,7 @@ fn read_circle(s: &[u8], w: Walk) -> Passed
 }
 
 fn read_rectangle(s: &[u8], w: Walk) -> Passed
-    ensures { λ r. ⌜ r ≡ rectangleRead (now (s .entry)) w ⌝ }
+    ensures { λ r. ⌜ ShapeRead (now (s .entry)) rectangle w r ⌝ }
 {
     let w = read_longitude(s, w);
     let longitude = walk::sign::int(w.v, EAST);

@@ -1,5 +1,5 @@
 -- `fields` walks the area as its layout stands: one step a field, the shape and the times one law each; then the record is that of the values.
-use mathlib.Core.Path.{_≡_, refl, sym, ap, _∙_, subst⁻¹}
+use mathlib.Core.Path.{_≡_, refl, sym, ap, _∙_}
 use mathlib.Core.Bool.{cond}
 use lib.Dec.{eqb, lit<, lit≤}
 use lib.ListN.{length}
@@ -12,9 +12,7 @@ use Rattle.walk.specs.laws.Reading.{start, step-code, step-num, step-decide, st
 use Rattle.walk.specs.laws.Walked.{finish}
 use Rattle.ais_common.specs.laws.Walking.{time-read, short-read}
 use Rattle.area.specs.Area.{area, recordOf, answerOf}
-use Rattle.area.specs.Shapes.{kindOf, shapeKind}
 use Rattle.area.specs.laws.Told.{recorded}
-use Rattle.area.specs.laws.Walking.{Narrow, shape-read, read-kind, read-narrow}
 use Rattle.area.specs.declared.reading.Answer.the-variants.{Good, Refused}
 use borrow.Author.Needs.{needs}
 use Rattle.area.proofs.reading.fields.Statement.{statement}
@@ -69,7 +67,7 @@ returns-2 c =
     let r10 = step-num 4 (lit< tt) (lit≤ tt) (lit< tt) 1 14 r9 (n6 .num6 .ensures .0) in
     let r11 = step-decide 2 (lit< tt) (lit≤ tt) (lit< tt) 1 1 2 (1 ‥ 2) (λ v. refl) r10 (nk .number .ensures .0) in
     let kind = nk .number .result .v in
-    let r12 = shape-read (kindOf kind) r11 (sh .read .ensures) in
+    let r12 = sh .read .ensures .on r11 in
     let long : length s ≡ 31 = test .if1 .left in
     let r13 = time-read {at = 204} (lit< tt) (omega (arith, long)) r12 (s1 .read2 .ensures .0) in
     let r14 = short-read {at = 224} (lit< tt) (omega (arith, long)) r13 (s2 .read-short .ensures .0) in
@@ -77,9 +75,7 @@ returns-2 c =
     let r16 = step-fill 6 (lit≤ tt) (lit< tt) r15 (f2 .fill2 .ensures) in
     let w = finish (lit< tt) r16 (ended .end .ensures) in
     let b = sh .read .result .shape in
-    let is : kindOf kind ≡ shapeKind b = sym (ap (λ g. shapeKind (g .shape)) (sh .read .ensures) ∙ read-kind s (kindOf kind) (nk .number .result)) in
-    let narrow : Narrow b = subst⁻¹ (λ g. Narrow (g .shape)) (sh .read .ensures) (read-narrow s (kindOf kind) (nk .number .result)) in
-    let back = recorded (n1 .num .result .v) (n2 .num2 .result .v) (n3 .num3 .result .v) (n4 .num4 .result .v) (n5 .num5 .result .v) (n6 .num6 .result .v) kind (s1 .read2 .result .v) (s2 .read-short .result .v) (n7 .num7 .result .v) b is narrow in
+    let back = recorded (n1 .num .result .v) (n2 .num2 .result .v) (n3 .num3 .result .v) (n4 .num4 .result .v) (n5 .num5 .result .v) (n6 .num6 .result .v) kind (s1 .read2 .result .v) (s2 .read-short .result .v) (n7 .num7 .result .v) b (sym (sh .read .ensures .kind)) (sh .read .ensures .narrow) in
     let code = ended .end .result .code in
     c .told .ensures
     ∙ (λ i. cond (eqb code 0)

@@ -1,11 +1,8 @@
--- `judged_circle` is the position, then one step of the walk a field.
+-- `judged_circle` judges the centre, then a circle's other values: one step a field.
 use mir.Syntax.{w32}
 use mir.ValLaws.{toZ-ofZ}
-use mathlib.Core.Path.{ap, ap₂, _∙_}
-use mathlib.Core.Bool.{false}
-use Rattle.walk.specs.Judging.{valued}
-use Rattle.walk.specs.Walk.{onward}
-use Rattle.area.specs.Steps.{pointJudged}
+use lib.Dec.{lit<}
+use Rattle.walk.specs.laws.Judging.{judge-num, judge-fixed}
 use borrow.Author.Needs.{needs}
 use Rattle.area.proofs.shape_writing.judged_circle.Statement.{statement}
 use Rattle.area.proofs.shape_writing.judged_circle.Tie as tie
@@ -15,13 +12,14 @@ returns c =
     let n1 = c .before in
     let p = n1 .before .before in
     let t = p .before .before in
-    let st = t .before in
-    let b = st .args .b in
-    let east = toZ-ofZ w32 (b .longitude) (record { sfits = t .struct-told .given .0 .1 }) in
-    let north = toZ-ofZ w32 (b .latitude) (record { sfits = t .struct-told .given .1 .0 .1 }) in
-    let e0 = p .judged-point .ensures ∙ ap₂ (λ x y. pointJudged x y (st .args .w)) east north in
-    let e1 = n1 .value .ensures ∙ ap (valued 7 (b .radius) 0 127) e0 in
-    c .fixed .ensures ∙ ap (onward 48 false 0 0 0) e1
+    let b = t .before .args .b in
+    let known = t .struct-told .given in
+    let centre = rw (toZ-ofZ w32 (b .longitude) (record { sfits = known .0 .1 }), toZ-ofZ w32 (b .latitude) (record { sfits = known .1 .0 .1 })) at (p .judged-point .ensures) in
+    record {
+      on = λ e.
+          let r1 = judge-num 7 (lit< tt) 0 127 (lit< tt) (centre .on (lit< tt) (lit< tt) e) (n1 .value .ensures) in
+          judge-fixed 48 4 0 (lit< tt) (lit< tt) r1 (c .fixed .ensures);
+    }
 
 pub judged-circle-spec : {M : Type 1} → statement M
 judged-circle-spec =

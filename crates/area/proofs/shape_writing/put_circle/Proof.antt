@@ -1,8 +1,12 @@
--- `put_circle` is one put a field, one behind another, of what spells it.
+-- `put_circle` puts a circle's values in bit order, of angles what spells them: one step a field.
 use mir.Syntax.{w32}
 use mir.ValLaws.{toZ-ofZ}
-use mathlib.Core.Path.{ap, ap₂, _∙_}
-use Rattle.format.specs.Correcting.{putIn, put-in}
+use mathlib.Core.Path.{refl, ap, _∙_}
+use lib.Dec.{lit<, lit≤}
+use Rattle.ais_common.specs.laws.Walking.{put-told}
+use Rattle.format.specs.Correcting.{put-in}
+use Rattle.format.specs.laws.Extent.{opens-field}
+use Rattle.format.specs.laws.Putting.{put-step, put-pair}
 use Rattle.area.specs.Shapes.{spellEast, spellNorth}
 use borrow.Author.Needs.{needs}
 use Rattle.area.proofs.shape_writing.put_circle.Statement.{statement}
@@ -24,11 +28,13 @@ returns c =
     let known = t .struct-told .given in
     let east = x .spelled .ensures ∙ ap spellEast (toZ-ofZ w32 (b .longitude) (record { sfits = known .0 .1 })) in
     let north = y .spelled2 .ensures ∙ ap spellNorth (toZ-ofZ w32 (b .latitude) (record { sfits = known .1 .0 .1 })) in
-    let e1 = put-in (a .buf .now) 94 28 _ (p1 .put .ensures) ∙ ap (putIn (a .buf .now) 94 28) east in
-    let e2 = put-in _ 122 27 _ (p2 .put2 .ensures) ∙ ap₂ (λ t v. putIn t 122 27 v) e1 north in
-    let e3 = put-in _ 149 7 (b .radius) (p3 .put3 .ensures) ∙ ap (λ t. putIn t 149 7 (b .radius)) e2 in
-    let e4 = put-in _ 156 32 0 (p4 .put4 .ensures) ∙ ap (λ t. putIn t 156 32 0) e3 in
-    put-in _ 188 16 0 (p5 .put5 .ensures) ∙ ap (λ t. putIn t 188 16 0) e4
+    record {
+      on = λ e.
+          let q1 = put-told 28 (lit≤ tt) opens-field east e (p1 .put .ensures) in
+          let q2 = put-told 27 (lit≤ tt) opens-field north q1 (p2 .put2 .ensures) in
+          let q3 = put-step 7 (lit≤ tt) q2 (p3 .put3 .ensures) in
+          put-pair 32 16 0 0 (lit≤ tt) (lit≤ tt) (lit< tt) (lit< tt) refl opens-field q3 (put-in _ 156 32 0 (p4 .put4 .ensures)) (put-in _ 188 16 0 (p5 .put5 .ensures));
+    }
 
 pub put-circle-spec : {M : Type 1} → statement M
 put-circle-spec =

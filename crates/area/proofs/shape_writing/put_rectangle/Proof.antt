@@ -1,8 +1,10 @@
--- `put_rectangle` is one put a field, one behind another, of what spells it.
+-- `put_rectangle` puts a rectangle's values in bit order, of angles what spells them: one step a field.
 use mir.Syntax.{w32}
 use mir.ValLaws.{toZ-ofZ}
-use mathlib.Core.Path.{ap, ap₂, _∙_}
-use Rattle.format.specs.Correcting.{putIn, put-in}
+use mathlib.Core.Path.{ap, _∙_}
+use lib.Dec.{lit≤}
+use Rattle.ais_common.specs.laws.Walking.{put-told}
+use Rattle.format.specs.laws.Extent.{opens-field}
 use Rattle.area.specs.Shapes.{spellEast, spellNorth}
 use borrow.Author.Needs.{needs}
 use Rattle.area.proofs.shape_writing.put_rectangle.Statement.{statement}
@@ -27,10 +29,13 @@ returns c =
     let north = y .spelled2 .ensures ∙ ap spellNorth (toZ-ofZ w32 (b .latitude) (record { sfits = known .1 .0 .1 })) in
     let east2 = x2 .spelled3 .ensures ∙ ap spellEast (toZ-ofZ w32 (b .«second_longitude») (record { sfits = known .1 .1 .0 .1 })) in
     let north2 = y2 .spelled4 .ensures ∙ ap spellNorth (toZ-ofZ w32 (b .«second_latitude») (record { sfits = known .1 .1 .1 .0 .1 })) in
-    let e1 = put-in (a .buf .now) 94 28 _ (p1 .put .ensures) ∙ ap (putIn (a .buf .now) 94 28) east in
-    let e2 = put-in _ 122 27 _ (p2 .put2 .ensures) ∙ ap₂ (λ t v. putIn t 122 27 v) e1 north in
-    let e3 = put-in _ 149 28 _ (p3 .put3 .ensures) ∙ ap₂ (λ t v. putIn t 149 28 v) e2 east2 in
-    put-in _ 177 27 _ (p4 .put4 .ensures) ∙ ap₂ (λ t v. putIn t 177 27 v) e3 north2
+    record {
+      on = λ e.
+          let q1 = put-told 28 (lit≤ tt) opens-field east e (p1 .put .ensures) in
+          let q2 = put-told 27 (lit≤ tt) opens-field north q1 (p2 .put2 .ensures) in
+          let q3 = put-told 28 (lit≤ tt) opens-field east2 q2 (p3 .put3 .ensures) in
+          put-told 27 (lit≤ tt) opens-field north2 q3 (p4 .put4 .ensures);
+    }
 
 pub put-rectangle-spec : {M : Type 1} → statement M
 put-rectangle-spec =

@@ -8,19 +8,13 @@ use Rattle.txsq.proofs.reading.content.Tie as tie
 returns : tie.Need-returns
 returns c =
     let number = c .before .before in
-    let read = number .before in
-    let known = read .before in
-    let s = known .before .args .s .now in
-    hidden s (read .read .ensures) (number .refusal .ensures) (c .before .if1 .taken)
+    hidden (number .before .before .before .args .s .now) (number .before .read .ensures) (number .refusal .ensures) (c .before .if1 .taken)
 
 returns-2 : tie.Need-returns-2
 returns-2 c =
-    let test = c .before in
-    let number = test .before in
-    let read = number .before in
-    let known = read .before in
-    let s = known .before .args .s .now in
-    c .carried .ensures ∙ shown s (read .read .ensures) (number .refusal .ensures) (λ i. known .shared-slice-known .given i .fits) (test .if1 .left)
+    let number = c .before .before in
+    let known = number .before .before in
+    c .carried .ensures ∙ shown (known .before .args .s .now) (number .before .read .ensures) (number .refusal .ensures) (λ i. known .shared-slice-known .given i .fits) (c .before .if1 .left)
 
 pub content-spec : {M : Type 1} → statement M
 content-spec = tie.close (tie.spec (λ c κs. search needs) (λ c κs. search needs) (λ c. search needs) returns (λ c κs. search needs) returns-2)

@@ -1,28 +1,28 @@
--- `judged_cyclone` is one step of the walk a field.
-use mathlib.Core.Path.{ap, _∙_}
-use Rattle.walk.specs.Judging.{valued}
+-- `judged_cyclone` judges the body's values in bit order: one step a field. Printed by tools/bodies.
+use lib.Dec.{lit<}
+use Rattle.walk.specs.laws.Judging.{judge-num}
 use borrow.Author.Needs.{needs}
 use Rattle.warning.proofs.body_writing.judged_cyclone.Statement.{statement}
 use Rattle.warning.proofs.body_writing.judged_cyclone.Tie as tie
 
 returns : tie.Need-returns
 returns c =
-    let n7 = c in
-    let n6 = n7 .before .before in
+    let n6 = c .before .before in
     let n5 = n6 .before .before in
     let n4 = n5 .before .before in
     let n3 = n4 .before .before in
     let n2 = n3 .before .before in
     let n1 = n2 .before .before in
-    let st = n1 .before .before in
-    let b = st .args .b in
-    let e1 = n1 .value .ensures in
-    let e2 = n2 .value2 .ensures ∙ ap (valued 9 (b .«gale_radius») 0 511) e1 in
-    let e3 = n3 .value3 .ensures ∙ ap (valued 9 (b .«storm_radius») 0 511) e2 in
-    let e4 = n4 .value4 .ensures ∙ ap (valued 6 (b .speed) 0 63) e3 in
-    let e5 = n5 .value5 .ensures ∙ ap (valued 9 (b .direction) 0 511) e4 in
-    let e6 = n6 .value6 .ensures ∙ ap (valued 5 (b .force) 0 31) e5 in
-    c .value7 .ensures ∙ ap (valued 9 (b .pressure) 0 511) e6
+    record {
+      on = λ e.
+          let r1 = judge-num 3 (lit< tt) 1 4 (lit< tt) e (n1 .value .ensures) in
+          let r2 = judge-num 9 (lit< tt) 0 511 (lit< tt) r1 (n2 .value2 .ensures) in
+          let r3 = judge-num 9 (lit< tt) 0 511 (lit< tt) r2 (n3 .value3 .ensures) in
+          let r4 = judge-num 6 (lit< tt) 0 63 (lit< tt) r3 (n4 .value4 .ensures) in
+          let r5 = judge-num 9 (lit< tt) 0 511 (lit< tt) r4 (n5 .value5 .ensures) in
+          let r6 = judge-num 5 (lit< tt) 0 31 (lit< tt) r5 (n6 .value6 .ensures) in
+          judge-num 9 (lit< tt) 0 511 (lit< tt) r6 (c .value7 .ensures);
+    }
 
 pub judged-cyclone-spec : {M : Type 1} → statement M
 judged-cyclone-spec =

@@ -1,22 +1,20 @@
--- `judged_fog` is one step of the walk a field.
-use mathlib.Core.Path.{ap, _∙_}
-use mathlib.Core.Bool.{false}
-use Rattle.walk.specs.Judging.{valued}
-use Rattle.walk.specs.Walk.{onward}
+-- `judged_fog` judges the body's values in bit order: one step a field. Printed by tools/bodies.
+use lib.Dec.{lit<}
+use Rattle.walk.specs.laws.Judging.{judge-num, judge-fixed}
 use borrow.Author.Needs.{needs}
 use Rattle.warning.proofs.body_writing.judged_fog.Statement.{statement}
 use Rattle.warning.proofs.body_writing.judged_fog.Tie as tie
 
 returns : tie.Need-returns
 returns c =
-    let n3 = c in
-    let n2 = n3 .before in
+    let n2 = c .before in
     let n1 = n2 .before .before in
-    let st = n1 .before .before in
-    let b = st .args .b in
-    let e1 = n1 .value .ensures in
-    let e2 = n2 .value2 .ensures ∙ ap (valued 8 (b .visibility) 0 250) e1 in
-    c .fixed .ensures ∙ ap (onward 33 false 0 0 0) e2
+    record {
+      on = λ e.
+          let r1 = judge-num 9 (lit< tt) 0 511 (lit< tt) e (n1 .value .ensures) in
+          let r2 = judge-num 8 (lit< tt) 0 250 (lit< tt) r1 (n2 .value2 .ensures) in
+          judge-fixed 33 4 0 (lit< tt) (lit< tt) r2 (c .fixed .ensures);
+    }
 
 pub judged-fog-spec : {M : Type 1} → statement M
 judged-fog-spec =

@@ -1,26 +1,24 @@
--- `judged_surge` is one step of the walk a field.
-use mathlib.Core.Path.{ap, _∙_}
-use mathlib.Core.Bool.{false}
-use Rattle.walk.specs.Judging.{valued}
-use Rattle.walk.specs.Walk.{onward}
+-- `judged_surge` judges the body's values in bit order: one step a field. Printed by tools/bodies.
+use lib.Dec.{lit<}
+use Rattle.walk.specs.laws.Judging.{judge-num, judge-fixed}
 use borrow.Author.Needs.{needs}
 use Rattle.warning.proofs.body_writing.judged_surge.Statement.{statement}
 use Rattle.warning.proofs.body_writing.judged_surge.Tie as tie
 
 returns : tie.Need-returns
 returns c =
-    let n5 = c in
-    let n4 = n5 .before in
+    let n4 = c .before in
     let n3 = n4 .before .before in
     let n2 = n3 .before .before in
     let n1 = n2 .before .before in
-    let st = n1 .before .before in
-    let b = st .args .b in
-    let e1 = n1 .value .ensures in
-    let e2 = n2 .value2 .ensures ∙ ap (valued 9 (b .rise) 0 511) e1 in
-    let e3 = n3 .value3 .ensures ∙ ap (valued 10 (b .tide) 0 1_023) e2 in
-    let e4 = n4 .value4 .ensures ∙ ap (valued 13 (b .period) 0 8_191) e3 in
-    c .fixed .ensures ∙ ap (onward 9 false 0 0 0) e4
+    record {
+      on = λ e.
+          let r1 = judge-num 9 (lit< tt) 0 511 (lit< tt) e (n1 .value .ensures) in
+          let r2 = judge-num 9 (lit< tt) 0 511 (lit< tt) r1 (n2 .value2 .ensures) in
+          let r3 = judge-num 10 (lit< tt) 0 1_023 (lit< tt) r2 (n3 .value3 .ensures) in
+          let r4 = judge-num 13 (lit< tt) 0 8_191 (lit< tt) r3 (n4 .value4 .ensures) in
+          judge-fixed 9 4 0 (lit< tt) (lit< tt) r4 (c .fixed .ensures);
+    }
 
 pub judged-surge-spec : {M : Type 1} → statement M
 judged-surge-spec =

@@ -1,6 +1,6 @@
--- `put_surge` is one put a field, one behind another.
-use mathlib.Core.Path.{ap, _∙_}
-use Rattle.format.specs.Correcting.{putIn, put-in}
+-- `put_surge` puts the body's values in bit order: one step a field. Printed by tools/bodies.
+use lib.Dec.{lit≤}
+use Rattle.format.specs.laws.Putting.{put-step}
 use borrow.Author.Needs.{needs}
 use Rattle.warning.proofs.body_writing.put_surge.Statement.{statement}
 use Rattle.warning.proofs.body_writing.put_surge.Tie as tie
@@ -12,14 +12,14 @@ returns c =
     let p3 = p4 .before .before .before .before .before in
     let p2 = p3 .before .before .before .before .before in
     let p1 = p2 .before .before .before .before .before in
-    let st = p1 .before .before .before .before in
-    let a = st .args in
-    let b = a .b in
-    let e1 = put-in (a .buf .now) 106 9 (b .radius) (p1 .put .ensures) in
-    let e2 = put-in _ 115 9 (b .rise) (p2 .put2 .ensures) ∙ ap (λ t. putIn t 115 9 (b .rise)) e1 in
-    let e3 = put-in _ 124 10 (b .tide) (p3 .put3 .ensures) ∙ ap (λ t. putIn t 124 10 (b .tide)) e2 in
-    let e4 = put-in _ 134 13 (b .period) (p4 .put4 .ensures) ∙ ap (λ t. putIn t 134 13 (b .period)) e3 in
-    put-in _ 147 9 0 (p5 .put5 .ensures) ∙ ap (λ t. putIn t 147 9 0) e4
+    record {
+      on = λ e.
+          let q1 = put-step 9 (lit≤ tt) e (p1 .put .ensures) in
+          let q2 = put-step 9 (lit≤ tt) q1 (p2 .put2 .ensures) in
+          let q3 = put-step 10 (lit≤ tt) q2 (p3 .put3 .ensures) in
+          let q4 = put-step 13 (lit≤ tt) q3 (p4 .put4 .ensures) in
+          put-step 9 (lit≤ tt) q4 (p5 .put5 .ensures);
+    }
 
 pub put-surge-spec : {M : Type 1} → statement M
 put-surge-spec =

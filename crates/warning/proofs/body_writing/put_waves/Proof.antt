@@ -1,6 +1,6 @@
--- `put_waves` is one put a field, one behind another.
-use mathlib.Core.Path.{ap, _∙_}
-use Rattle.format.specs.Correcting.{putIn, put-in}
+-- `put_waves` puts the body's values in bit order: one step a field. Printed by tools/bodies.
+use lib.Dec.{lit≤}
+use Rattle.format.specs.laws.Putting.{put-step}
 use borrow.Author.Needs.{needs}
 use Rattle.warning.proofs.body_writing.put_waves.Statement.{statement}
 use Rattle.warning.proofs.body_writing.put_waves.Tie as tie
@@ -11,13 +11,13 @@ returns c =
     let p3 = p4 .before .before .before .before in
     let p2 = p3 .before .before .before .before .before in
     let p1 = p2 .before .before .before .before .before in
-    let st = p1 .before .before .before .before in
-    let a = st .args in
-    let b = a .b in
-    let e1 = put-in (a .buf .now) 106 8 (b .radius) (p1 .put .ensures) in
-    let e2 = put-in _ 114 5 (b .height) (p2 .put2 .ensures) ∙ ap (λ t. putIn t 114 5 (b .height)) e1 in
-    let e3 = put-in _ 119 13 (b .period) (p3 .put3 .ensures) ∙ ap (λ t. putIn t 119 13 (b .period)) e2 in
-    put-in _ 132 24 0 (p4 .put4 .ensures) ∙ ap (λ t. putIn t 132 24 0) e3
+    record {
+      on = λ e.
+          let q1 = put-step 8 (lit≤ tt) e (p1 .put .ensures) in
+          let q2 = put-step 5 (lit≤ tt) q1 (p2 .put2 .ensures) in
+          let q3 = put-step 13 (lit≤ tt) q2 (p3 .put3 .ensures) in
+          put-step 24 (lit≤ tt) q3 (p4 .put4 .ensures);
+    }
 
 pub put-waves-spec : {M : Type 1} → statement M
 put-waves-spec =

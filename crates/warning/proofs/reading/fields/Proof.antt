@@ -3,8 +3,7 @@ use mathlib.Core.Path.{_≡_, refl, sym, ap, _∙_}
 use mathlib.Core.Bool.{cond}
 use lib.Dec.{eqb, lit<, lit≤}
 use lib.ListN.{length}
-use Rattle.warning.specs.Bodies.{kindOf, bodyKind}
-use Rattle.warning.specs.laws.Walking.{body-read, read-kind}
+use Rattle.warning.specs.Bodies.{kindOf}
 use Rattle.format.specs.Fmt.{also, read}
 use Rattle.format.specs.Words.{_‥_}
 use Rattle.format.specs.laws.Answers.{told-so}
@@ -63,15 +62,13 @@ returns-2 c =
     let r7 = step-decide 4 (lit< tt) (lit≤ tt) (lit< tt) 1 1 5 (1 ‥ 5) (λ v. refl) r6 (type .number .ensures .0) in
     let r8 = step-num 23 (lit< tt) (lit≤ tt) (lit< tt) 0 7_200_000 r7 (n3 .num3 .ensures .0) in
     let r9 = step-num 23 (lit< tt) (lit≤ tt) (lit< tt) 0 7_200_000 r8 (n4 .num4 .ensures .0) in
-    let kind = kindOf (type .number .result .v) in
-    let r10 = body-read kind r9 (body .read .ensures) in
+    let r10 = body .read .ensures .on r9 in
     let long : length s ≡ 23 = test .if1 .left in
     let r11 = time-read {at = 156} (lit< tt) (omega (arith, long)) r10 (times .read2 .ensures .0) in
     let r12 = step-num 6 (lit< tt) (lit≤ tt) (lit< tt) 0 48 r11 (n5 .num5 .ensures .0) in
     let r13 = step-fill 2 (lit≤ tt) (lit< tt) r12 (fill2 .fill2 .ensures) in
     let w = finish (lit< tt) r13 (ended .end .ensures) in
-    let same : kind ≡ bodyKind (body .read .result .body) = sym (ap (λ g. bodyKind (g .body)) (body .read .ensures) ∙ read-kind s kind (n4 .num4 .result)) in
-    let made = recorded (n1 .num .result .v) (n2 .num2 .result .v) (type .number .result .v) (n3 .num3 .result .v) (n4 .num4 .result .v) (times .read2 .result .v) (n5 .num5 .result .v) (body .read .result .body) kind same in
+    let made = recorded (n1 .num .result .v) (n2 .num2 .result .v) (type .number .result .v) (n3 .num3 .result .v) (n4 .num4 .result .v) (times .read2 .result .v) (n5 .num5 .result .v) (body .read .result .body) (kindOf (type .number .result .v)) (sym (body .read .ensures .kind)) in
     let told : Warning → Answer = λ r. cond (eqb (ended .end .result .code) 0) (Good r) (Refused (ended .end .result .code)) in
     c .told .ensures
     ∙ (λ i. told (record { repeat = n1 .num .result .v; source = n2 .num2 .result .v; longitude = n3 .num3 .result .v; latitude = n4 .num4 .result .v; body = body .read .result .body; time = of .of .ensures i; hours = n5 .num5 .result .v }))

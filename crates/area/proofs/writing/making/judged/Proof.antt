@@ -9,7 +9,7 @@ use Rattle.walk.specs.laws.Judging.{judge-start, judge-fixed, judge-num, judge-
 use Rattle.ais_common.specs.laws.Walking.{time-judged, short-judged}
 use Rattle.area.specs.Area.{area, valuesAs}
 use Rattle.area.specs.Shapes.{shapeKind}
-use Rattle.area.specs.laws.Walking.{kind-judged, shape-judged}
+use Rattle.area.specs.laws.Walking.{kind-judged}
 use borrow.Author.Needs.{needs}
 use Rattle.area.proofs.writing.making.judged.Statement.{statement}
 use Rattle.area.proofs.writing.making.judged.Tie as tie
@@ -57,7 +57,7 @@ returns c =
     let r9 = judge-fixed 6 1 11 (lit< tt) (lit< tt) r8 (f4 .fixed4 .ensures) in
     let r10 = judge-num 4 (lit< tt) 1 14 (lit< tt) r9 (v6 .value6 .ensures) in
     let r11 = kind-judged (shapeKind (a .r .shape)) r10 (f5 .fixed5 .ensures ∙ ap (λ v. onward 2 false v 0 0 (v6 .value6 .result)) (k .kind .ensures)) in
-    let r12 = shape-judged (a .r .shape) r11 (j1 .judged .ensures) in
+    let r12 = j1 .judged .ensures .on r11 in
     let r13 = time-judged (lit< tt) r12 (j2 .judged2 .ensures) in
     let r14 = short-judged (lit< tt) r13 (j3 .judged-short .ensures) in
     let r15 = judge-num 4 (lit< tt) 1 6 (lit< tt) r14 (v7 .value7 .ensures) in

@@ -4,6 +4,7 @@ use mathlib.Core.List.{[]}
 use Prim.Native.Nat.{_+_, _*_, _/_}
 use native.Mathlib.Omega.{arith}
 use lib.Dec.{lit≤}
+use lib.ListN.{length}
 use Rattle.bits.specs.Bits.{Bytes, putBytesAt}
 use Rattle.frame.specs.Steps.{headPut}
 use Rattle.frame.specs.laws.Content.{padded, content-bits}
@@ -20,17 +21,12 @@ use Rattle.txxx.proofs.writing.making.put.Statement.{statement}
 use Rattle.txxx.proofs.writing.making.put.Tie as tie
 use Rattle.frame.proofs.put.Reads as put-reads′
 
+-- the first 4 puts leave as many bytes
+half : (p : tie.After-put4) → length (p .put4 .last .0) ≡ length (p .before .before .before .before .before .before .before .before .before .before .before .before .before .before .before .before .before .before .before .before .before .args .buf .now)
+half p = omega arith
+
 same-length : tie.Need-same-length
-same-length c =
-    let p8 = c .before .before in
-    let p7 = p8 .before .before .before .before .before .before in
-    let p6 = p7 .before .before .before .before in
-    let p5 = p6 .before .before .before .before .before in
-    let p4 = p5 .before .before .before .before .before in
-    let p3 = p4 .before .before .before .before .before in
-    let p2 = p3 .before .before .before .before .before in
-    let p1 = p2 .before .before .before .before .before in
-    p8 .put7 .kept .0 ∙ p7 .put-bytes .kept .0 ∙ p6 .put6 .kept .0 ∙ p5 .put5 .kept .0 ∙ p4 .put4 .kept .0 ∙ p3 .put3 .kept .0 ∙ p2 .put2 .kept .0 ∙ p1 .put .kept .0
+same-length c = let h = half (c .before .before .before .before .before .before .before .before .before .before .before .before .before .before .before .before .before .before .before .before .before .before) in omega arith
 
 returns : tie.Need-returns
 unfolding txxx valuesOf putBytesAt

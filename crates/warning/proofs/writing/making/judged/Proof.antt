@@ -5,7 +5,7 @@ use Prim.Native.Nat.{ℕ}
 use native.Mathlib.Omega.{arith}
 use lib.Dec.{leb, lit<}
 use Rattle.warning.specs.Bodies.{Kind, cyclone, gale, waves, fog, surge, typeOf, bodyKind}
-use Rattle.warning.specs.laws.Walking.{type-small, body-judged}
+use Rattle.warning.specs.laws.Walking.{type-small}
 use Rattle.format.specs.Words.{_‥_}
 use Rattle.format.specs.laws.Extent.{opens-choice}
 use Rattle.format.specs.laws.Tells.{only-tells}
@@ -63,7 +63,7 @@ returns c =
     let r7 = judge-tells 4 false _ 0 (lit< tt) (omega (arith, type-small (bodyKind w))) (only-tells 4 1 (1 ‥ 5) _) (typed (bodyKind w)) opens-choice r6 (x5 .fixed5 .ensures) in
     let r8 = judge-num 23 (lit< tt) 0 7_200_000 (lit< tt) r7 (v3 .value3 .ensures) in
     let r9 = judge-num 23 (lit< tt) 0 7_200_000 (lit< tt) r8 (v4 .value4 .ensures) in
-    let r10 = body-judged w r9 (body .judged .ensures) in
+    let r10 = body .judged .ensures .on r9 in
     let r11 = time-judged (lit< tt) r10 (times .judged2 .ensures) in
     let r12 = judge-num 6 (lit< tt) 0 48 (lit< tt) r11 (v5 .value5 .ensures) in
     judge-end (judge-fixed 2 4 0 (lit< tt) (lit< tt) r12 (c .fixed6 .ensures))

@@ -1,15 +1,15 @@
 -- `put` puts the values in bit order: one step a field, and one law for the body.
-use mathlib.Core.Path.{_≡_, refl, ap, _∙_}
+use mathlib.Core.Path.{_≡_, refl}
 use native.Mathlib.Omega.{arith}
 use lib.Dec.{lit≤}
 use lib.ListN.{length}
 use Rattle.bits.specs.Bits.{Bytes}
 use Rattle.warning.specs.Bodies.{bodyKind}
-use Rattle.warning.specs.laws.Walking.{type-small, body-put}
-use Rattle.format.specs.Correcting.{putIn, put-in}
+use Rattle.warning.specs.laws.Walking.{type-small}
+use Rattle.ais_common.specs.laws.Walking.{put-told}
 use Rattle.format.specs.Words.{wide}
 use Rattle.format.specs.laws.Extent.{opens-choice}
-use Rattle.format.specs.laws.Putting.{put-start, put-number, put-step, put-end}
+use Rattle.format.specs.laws.Putting.{put-start, put-step, put-end}
 use Rattle.warning.specs.Warning.{warning, valuesAs}
 use borrow.Author.Needs.{needs}
 use Rattle.warning.proofs.writing.making.put.Statement.{statement}
@@ -59,10 +59,10 @@ returns c b e l =
     let q4 = put-step 2 (lit≤ tt) q3 (p4 .put4 .ensures) in
     let q5 = put-step 10 (lit≤ tt) q4 (p5 .put5 .ensures) in
     let q6 = put-step 6 (lit≤ tt) q5 (p6 .put6 .ensures) in
-    let q7 = put-number 4 (lit≤ tt) opens-choice q6 (put-in _ 56 4 _ (p7 .put7 .ensures) ∙ ap (putIn (p6 .put6 .last .0) 56 4) (kind .kind .ensures)) in
+    let q7 = put-told 4 (lit≤ tt) opens-choice (kind .kind .ensures) q6 (p7 .put7 .ensures) in
     let q8 = put-step 23 (lit≤ tt) q7 (p8 .put8 .ensures) in
     let q9 = put-step 23 (lit≤ tt) q8 (p9 .put9 .ensures) in
-    let q10 = body-put (r .body) q9 (p10 .put10 .ensures) in
+    let q10 = p10 .put10 .ensures .on q9 in
     let q11 = put-step 20 (lit≤ tt) q10 (p11 .put11 .ensures) in
     let q12 = put-step 6 (lit≤ tt) q11 (p12 .put12 .ensures) in
     put-end fine refl (put-step 2 (lit≤ tt) q12 (p13 .put13 .ensures))
