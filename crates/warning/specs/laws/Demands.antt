@@ -13,7 +13,7 @@ use Rattle.bits.specs.laws.Answers.{got-fits}
 use Rattle.warning.specs.Bodies.{Kind, cyclone, gale, waves, fog, surge, kindOf, typeOf, body, bodyKind, bodyLong, bodyValues, bodyOf}
 use Rattle.warning.specs.declared.bodies.Body.{Body}
 use Rattle.warning.specs.declared.bodies.Body.the-variants.{Cyclone, Gale, Waves, Fog, Surge}
-use Rattle.warning.specs.laws.Kinds.{body-numbered}
+use Rattle.warning.specs.laws.Walking.{body-numbered}
 use Rattle.format.specs.Correcting.{standing, ofKind}
 use Rattle.format.specs.Fmt.{accepted, end, found, spot}
 use Rattle.format.specs.Message.{codeOf, leaves}

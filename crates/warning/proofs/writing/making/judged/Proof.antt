@@ -5,7 +5,7 @@ use Prim.Native.Nat.{ℕ}
 use native.Mathlib.Omega.{arith}
 use lib.Dec.{leb, lit<}
 use Rattle.warning.specs.Bodies.{Kind, cyclone, gale, waves, fog, surge, typeOf, bodyKind}
-use Rattle.warning.specs.laws.Kinds.{type-small}
+use Rattle.warning.specs.laws.Walking.{type-small}
 use Rattle.format.specs.Words.{_‥_}
 use Rattle.format.specs.laws.Extent.{opens-choice}
 use Rattle.format.specs.laws.Tells.{only-tells}

@@ -5,7 +5,7 @@ use lib.Dec.{lit≤}
 use lib.ListN.{length}
 use Rattle.bits.specs.Bits.{Bytes}
 use Rattle.warning.specs.Bodies.{bodyKind}
-use Rattle.warning.specs.laws.Kinds.{type-small}
+use Rattle.warning.specs.laws.Walking.{type-small}
 use Rattle.ais_common.specs.laws.Walking.{put-told}
 use Rattle.format.specs.Words.{wide}
 use Rattle.format.specs.laws.Extent.{opens-choice}
