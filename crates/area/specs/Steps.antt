@@ -2,7 +2,7 @@
 use Prim.Native.Nat.{ℕ, _+_, _<_, _^_}
 use mathlib.Core.Path.{_≡_}
 use mathlib.Core.Bool.{Bool}
-use mathlib.Core.List.{List, _∷_}
+use mathlib.Core.List.{List, [], _∷_, reverseAux}
 use lib.IntN.{ℤ}
 use Rattle.format.specs.Fmt.{Out, Fmt}
 use Rattle.format.specs.laws.Putting.{Putting}
@@ -22,10 +22,9 @@ eastRead s r = signedly s 28 108_000_000 160_435_456 108_600_000 r
 abbrev pub northRead : List ℕ → Walk → Walk
 northRead s r = signedly s 27 54_000_000 80_217_728 54_600_000 r
 
--- the values of a shape, the latest first
+-- the values of a shape, the latest first, in front of h
 abbrev backwards : Shape → List ℕ → List ℕ
-backwards (Circle b) h = 0 ∷ b .radius ∷ spellNorth (b .latitude) ∷ spellEast (b .longitude) ∷ h
-backwards (Rectangle b) h = spellNorth (b .«second_latitude») ∷ spellEast (b .«second_longitude») ∷ spellNorth (b .latitude) ∷ spellEast (b .longitude) ∷ h
+backwards b h = reverseAux (shapeValues b []) h
 
 -- a shape whose positions fit their bits
 abbrev pub Narrow : Shape → Type 0

@@ -2,7 +2,7 @@
 use Prim.Native.Nat.{ℕ}
 use mathlib.Core.Path.{_≡_}
 use mathlib.Core.Bool.{Bool}
-use mathlib.Core.List.{List, _∷_}
+use mathlib.Core.List.{List, [], reverseAux}
 use Rattle.format.specs.Fmt.{Out, Fmt}
 use Rattle.format.specs.laws.Putting.{Putting}
 use Rattle.walk.specs.laws.Judging.{Judging}
@@ -10,16 +10,11 @@ use Rattle.walk.specs.laws.Step.{Reading}
 use Rattle.walk.specs.declared.walk.Walk.{Walk}
 use Rattle.warning.specs.Bodies.{Kind, kindOf, typeOf, body, bodyKind, bodyValues}
 use Rattle.warning.specs.declared.bodies.Body.{Body}
-use Rattle.warning.specs.declared.bodies.Body.the-variants.{Cyclone, Gale, Waves, Fog, Surge}
 use Rattle.warning.specs.declared.bodies.Passed.{Passed}
 
--- the values of a body, the latest first
+-- the values of a body, the latest first, in front of h
 abbrev backwards : Body → List ℕ → List ℕ
-backwards (Cyclone b) h = b .pressure ∷ b .force ∷ b .direction ∷ b .speed ∷ b .«storm_radius» ∷ b .«gale_radius» ∷ b .kind ∷ h
-backwards (Gale b) h = 0 ∷ b .direction ∷ b .greatest ∷ b .least ∷ b .radius ∷ h
-backwards (Waves b) h = 0 ∷ b .period ∷ b .height ∷ b .radius ∷ h
-backwards (Fog b) h = 0 ∷ b .visibility ∷ b .radius ∷ h
-backwards (Surge b) h = 0 ∷ b .period ∷ b .tide ∷ b .rise ∷ b .radius ∷ h
+backwards b h = reverseAux (bodyValues b []) h
 
 -- the layout of a body in front of f, by its warning type
 abbrev bodied : Body → Fmt → Fmt

@@ -1,4 +1,4 @@
--- What is proved of bodies: where the code stands behind one, and that it has 50 bits whichever it is.
+-- What is proved of a warning: of every kind of body, what its fields accept is right, the record of what the code read, a correction as a record, the demands.
 pub mod Walking
 pub mod Sound
 pub mod Told

@@ -1,4 +1,4 @@
--- A body's warning type is small, and its refusals are numbers of the paper. Assumes nothing.
+-- Every kind of body: its warning type is small, and its refusals are numbers of the paper. Assumes nothing.
 use Prim.Native.Nat.{_≤_}
 use lib.Dec.{lit≤}
 use Rattle.format.specs.Fmt.{Fmt}
