@@ -87,7 +87,7 @@ rows [] ws = []
 rows (p ∷ ps) [] = []
 rows (p ∷ ps) (w ∷ ws) = standing p w ∷ rows ps ws
 
-row-at : (ps ws : List ℕ) (i : ℕ) → length ps ≡ length ws → standing (getD ps i 0) (getD ws i 0) ≡ getD (rows ps ws) i none
+pub row-at : (ps ws : List ℕ) (i : ℕ) → length ps ≡ length ws → standing (getD ps i 0) (getD ws i 0) ≡ getD (rows ps ws) i none
 unfolding rows
 row-at [] [] i e = refl
 row-at [] (w ∷ ws) i e = absurd (omega arith)
@@ -108,11 +108,6 @@ slim-at (w ∷ ws) i e = each (leb w 32) refl i e (λ i e. slim-at ws i e)
     each true f zero e rest = leb-true w 32 f
     each true f (suc i) e rest = rest i e
     each false f i e rest = absurd (false≢true e)
-
--- a width that hangs on a test
-pub where-row : (b : Bool) (p w : ℕ) → later p (where? b (suc w)) ≡ standing p (cond b (suc w) 0)
-where-row true p w = rw (ne-eqb (suc w) 0 (λ z. omega arith), add-zero p) refl
-where-row false p w = refl
 
 -- The field i looked up in the table of ps and ws.
 module _ (ps ws : List ℕ) (i : ℕ) {p w : ℕ} (looked-up : (p ≡ getD ps i 0) × (w ≡ getD ws i 0)) where
