@@ -4,6 +4,7 @@ use mathlib.Core.Bool.{cond}
 use mathlib.Core.List.{List, [], _∷_}
 use lib.Dec.{eqb}
 use lib.ListN.{getD}
+use Rattle.format.specs.Correcting.{entryOf}
 use Rattle.format.specs.Fmt.{Spot, none, found}
 use Rattle.ais_common.specs.Time.{timeOf, shortOf}
 use Rattle.area.specs.Shapes.{Kind, circle, rectangle, kindOf, eastOf, northOf}
@@ -42,8 +43,8 @@ spotOf t i = getD (spots t) i none
 
 -- ---- the numbers that name fields, the same for every area: which of its values each is, 0 (the message's number) for none of them
 
-abbrev pub common : List ℕ → List ℕ
-common l =
+abbrev pub common : List ℕ
+common =
     0
     ∷ 1  -- 1 repeat
     ∷ 2  -- 2 source
@@ -56,15 +57,20 @@ common l =
     ∷ 15  -- 9 time
     ∷ 16  -- 10 second time
     ∷ 17  -- 11 advice
-    ∷ l
+    ∷ []
 
-abbrev pub fields : Kind → List ℕ
-fields circle = common (13 ∷ 0 ∷ 0 ∷ [])  -- 12 radius
-fields rectangle = common (0 ∷ 13 ∷ 14 ∷ [])  -- 13 second longitude, 14 second latitude
+-- those of its shape, and the number of the first of them
+abbrev pub own : Kind → List ℕ
+own circle = 13 ∷ []
+own rectangle = 13 ∷ 14 ∷ []
+
+abbrev pub first : Kind → ℕ
+first circle = 12
+first rectangle = 13
 
 -- the field of number n in an area whose shape has the number t
 abbrev pub fieldOf : ℕ → ℕ → ℕ
-fieldOf t n = getD (fields (kindOf t)) n 0
+fieldOf t n = let k = kindOf t in entryOf 12 common (first k) (own k) n
 
 -- ---- the record with one of its values changed
 

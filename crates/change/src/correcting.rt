@@ -1,10 +1,8 @@
 // Correcting a field in the message itself.
-ghost use mathlib.Core.Bool.{cond};
+ghost use mathlib.Core.Bool.{true, false};
 ghost use mathlib.Core.Path.{_≡_};
-ghost use lib.Dec.{eqb};
 ghost use lib.ListN.{getD};
-ghost use Rattle.bits.specs.Answers.{got};
-ghost use Rattle.format.specs.Correcting.{ofKind, admitted, putIn};
+ghost use Rattle.format.specs.Correcting.{entryFrom, admitted, Begins, Finishes};
 
 // Where a field stands, and its width: 0 for none that may be corrected.
 pub struct Spot {
@@ -21,33 +19,14 @@ pub fn look_up(offsets: &[usize], widths: &[usize], field: usize) -> Spot
     Spot { at, width }
 }
 
-// The same where some fields stand in messages of one kind alone: `kinds` has it, or 0 for a field of every message.
-pub fn look_up_of(
-    offsets: &[usize],
-    widths: &[usize],
-    kinds: &[usize],
-    field: usize,
-    kind: usize,
-) -> Spot
-    ensures { λ r. ⌜ (r .at ≡ getD (now (offsets .entry)) field 0) × (r .width ≡ ofKind kind (getD (now (kinds .entry)) field 0) (getD (now (widths .entry)) field 0)) ⌝ }
+// The same where the table's numbers begin with `first`.
+pub fn look_up_from(first: usize, offsets: &[usize], widths: &[usize], field: usize) -> Spot
+    ensures { λ r. ⌜ (r .at ≡ entryFrom first (now (offsets .entry)) field) × (r .width ≡ entryFrom first (now (widths .entry)) field) ⌝ }
 {
-    let at = entry(offsets, field);
-    let width = entry(widths, field);
-    let of = entry(kinds, field);
-    Spot {
-        at,
-        width: width_of_kind(of, kind, width),
+    if field < first {
+        return Spot { at: 0, width: 0 };
     }
-}
-
-// A field's width, where its message has that kind.
-fn width_of_kind(of: usize, kind: usize, width: usize) -> usize
-    ensures { λ r. ⌜ r ≡ ofKind kind of width ⌝ }
-{
-    if of == 0 {
-        return width;
-    }
-    if of == kind { width } else { 0 }
+    look_up(offsets, widths, field - first)
 }
 
 // The entry of a table, 0 past its end.
@@ -58,7 +37,7 @@ fn entry(table: &[usize], i: usize) -> usize
 }
 
 // What a correction to v answers before a bit is changed: the message's own refusal, 10, too wide; 0 to go on.
-pub fn admits(code: u8, width: usize, v: u64) -> u8
+fn admits(code: u8, width: usize, v: u64) -> u8
     ensures { λ r. ⌜ r ≡ admitted code width v ⌝ }
 {
     if code != 0 {
@@ -75,22 +54,53 @@ pub fn admits(code: u8, width: usize, v: u64) -> u8
     0
 }
 
-// Makes the field v, and gives what it was.
-pub fn swap(buf: &mut [u8], at: usize, width: usize, v: u64) -> u64
-    ensures { λ r. ⌜ (r ≡ got (now (buf .entry)) at width) × (now (buf .exit) ≡ putIn (now (buf .entry)) at width v) ⌝ }
-{
-    let old = bits::get(buf, at, width);
-    bits::put(buf, at, width, v);
-    old
+// A correction that was begun: 0, where the field was changed, or the refusal; where the field stands, and what it was.
+pub struct Begun {
+    pub code: u8,
+    pub at: usize,
+    pub width: usize,
+    pub old: u64,
 }
 
-// Puts the old value back where the changed message was refused.
-pub fn settle(buf: &mut [u8], at: usize, width: usize, old: u64, code: u8) -> u8
-    ensures { λ r. ⌜ (r ≡ code) × (now (buf .exit) ≡ cond (eqb code 0) (now (buf .entry)) (putIn (now (buf .entry)) at width old)) ⌝ }
+// Makes the field at `spot` be v, in a message that was read with the code `code`, or leaves every byte.
+pub fn begin(buf: &mut [u8], code: u8, spot: Spot, v: u64) -> Begun
+    ensures { λ r. ⌜ Begins (now (buf .entry)) code (spot .at) (spot .width) v (r .code) (r .at) (r .width) (r .old) (now (buf .exit)) ⌝ }
 {
-    if code != 0 {
-        bits::put(buf, at, width, old);
-        return code;
+    let at = spot.at;
+    let width = spot.width;
+    let code = admits(code, width, v);
+    let old = bits::get(buf, at, width);
+    if code == 0 {
+        bits::put(buf, at, width, v);
     }
-    0
+    Begun {
+        code,
+        at,
+        width,
+        old,
+    }
+}
+
+// Puts the old value back where the changed message was refused. What was not begun leaves every byte.
+pub fn finish(buf: &mut [u8], begun: Begun, code: u8) -> u8
+    ensures { λ r. ⌜ Finishes false (begun .code) (begun .at) (begun .width) (begun .old) code (now (buf .entry)) r (now (buf .exit)) ⌝ }
+{
+    if begun.code != 0 {
+        return begun.code;
+    }
+    if code != 0 {
+        bits::put(buf, begun.at, begun.width, begun.old);
+    }
+    code
+}
+
+// The same, and makes the seal anew where the changed message was accepted.
+pub fn finish_sealed(buf: &mut [u8], begun: Begun, code: u8) -> u8
+    ensures { λ r. ⌜ Finishes true (begun .code) (begun .at) (begun .width) (begun .old) code (now (buf .entry)) r (now (buf .exit)) ⌝ }
+{
+    let last = finish(buf, begun, code);
+    if last == 0 {
+        crate::sealing::seal(buf);
+    }
+    last
 }

@@ -2,19 +2,25 @@
 use mathlib.Core.Path.{_≡_, ap, _∙_}
 use mathlib.Core.Bool.{Bool, cond}
 use mathlib.Core.List.{List}
-use Prim.Native.Nat.{ℕ, _^_}
+use Prim.Native.Nat.{ℕ, _-_, _^_}
 use lib.Dec.{ltb, eqb}
-use Rattle.bits.specs.Answers.{puttable}
+use lib.ListN.{getD}
+use Rattle.bits.specs.Answers.{got, puttable}
 use Rattle.bits.specs.Bits.{putAt}
 use Rattle.format.specs.Fmt.{Spot, none, found}
+use Rattle.format.specs.Sealing.{reclosed}
 
 -- where a field that may be corrected stands, width 0 being none
 abbrev pub standing : ℕ → ℕ → Spot
 standing at width = cond (eqb width 0) none (found at width)
 
--- the width of a field of messages of the kind `of`, 0 being any, in one of kind k
-abbrev pub ofKind : ℕ → ℕ → ℕ → ℕ
-ofKind k of width = cond (eqb of 0) width (cond (eqb of k) width 0)
+-- entry n of a table whose numbers begin with `first`
+abbrev pub entryFrom : ℕ → List ℕ → ℕ → ℕ
+entryFrom first l n = cond (ltb n first) 0 (getD l (n - first) 0)
+
+-- the same where the entries below k are every message's, and those of one kind of message begin with `first`
+abbrev pub entryOf : ℕ → List ℕ → ℕ → List ℕ → ℕ → ℕ
+entryOf k common first own n = cond (ltb n k) (getD common n 0) (entryFrom first own n)
 
 -- the message's own refusal, 10, then too wide
 abbrev pub admitted : ℕ → ℕ → ℕ → ℕ
@@ -27,3 +33,16 @@ putIn s at w v = cond (puttable s at w v) (putAt s at w v) s
 -- what a call of `bits::put` leaves
 pub put-in : (s : List ℕ) (at w v : ℕ) {b : Bool} {t : List ℕ} → (b ≡ puttable s at w v) × (t ≡ cond b (putAt s at w v) s) → t ≡ putIn s at w v
 put-in s at w v p = p .1 ∙ ap (λ b. cond b (putAt s at w v) s) (p .0)
+
+-- A correction to v is begun in s, which was read with the code c, of the field that has w bits at p: its code, the field's offset and width and what it was, and t left of s.
+pub record Begins (s : List ℕ) (c p w v code at width old : ℕ) (t : List ℕ) : Type 0 where
+  pub admits : code ≡ admitted c w v
+  pub offset : at ≡ p
+  pub wide : width ≡ w
+  pub was : old ≡ got s p w
+  pub puts : t ≡ cond (eqb code 0) (putIn s p w v) s
+
+-- It is finished in t, whose fields were read with the code d: its last code, and x left of t, with its seal made anew where the layout has one. What is refused is as it was.
+pub record Finishes (seal : Bool) (code at width old d : ℕ) (t : List ℕ) (last : ℕ) (x : List ℕ) : Type 0 where
+  pub answers : last ≡ cond (eqb code 0) d code
+  pub leaves : x ≡ cond (eqb code 0) (cond (eqb d 0) (reclosed seal t) (putIn t at width old)) t

@@ -15,15 +15,7 @@ pub fn correct(buf: &mut [u8], field: usize, value: u64) -> u8
 {
     let was = read(buf);
     let spot = change::correcting::look_up(&OFFSETS, &WIDTHS, field);
-    let at = spot.at;
-    let width = spot.width;
-    let code = change::correcting::admits(was.refusal(), width, value);
-    if code != 0 {
-        return code;
-    }
-    let old = change::correcting::swap(buf, at, width, value);
+    let begun = change::correcting::begin(buf, was.refusal(), spot, value);
     let again = fields(change::sealing::inner(buf), 0);
-    let code = change::correcting::settle(buf, at, width, old, again.refusal());
-    change::sealing::seal(buf);
-    code
+    change::correcting::finish_sealed(buf, begun, again.refusal())
 }

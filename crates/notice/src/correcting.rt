@@ -2,6 +2,7 @@
 ghost use Rattle.format.specs.Promises.{Corrects};
 ghost use Rattle.notice.specs.Notice.{notices};
 use crate::reading::fields;
+use change::correcting::Spot;
 
 // Makes field number `field` of the notice be `value`, or leaves every byte. The walk finds where the field stands.
 pub fn correct(buf: &mut [u8], english: bool, field: usize, value: u64) -> u8
@@ -9,14 +10,12 @@ pub fn correct(buf: &mut [u8], english: bool, field: usize, value: u64) -> u8
 {
     let was = fields(buf, field, english);
     let walk = was.walk;
-    let at = walk.spot;
-    let width = walk.width;
-    let code = change::correcting::admits(walk.code, width, value);
-    if code != 0 {
-        return code;
-    }
-    let old = change::correcting::swap(buf, at, width, value);
+    let spot = Spot {
+        at: walk.spot,
+        width: walk.width,
+    };
+    let begun = change::correcting::begin(buf, walk.code, spot, value);
     let again = fields(buf, 0, english);
     let last = again.walk;
-    change::correcting::settle(buf, at, width, old, last.code)
+    change::correcting::finish(buf, begun, last.code)
 }

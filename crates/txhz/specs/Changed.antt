@@ -13,23 +13,23 @@ abbrev pub receiptSpots : Bool → ℕ → List Spot → List Spot
 receiptSpots live at l =
     cond live (found at 8) none ∷ cond live (found (at + 8) 8) none ∷ cond live (found (at + 16) 8) none ∷ cond live (found (at + 24) 8) none ∷ l
 
--- the fields in bit order: where each that may be corrected stands, and its width
-abbrev pub spots : Txhz → List Spot
-spots r =
+-- the fields in bit order, where n receipts are counted: where each that may be corrected stands, and its width
+abbrev pub spots : ℕ → List Spot
+spots n =
     none  -- `$`
     ∷ none  -- letters
     ∷ none  -- length
     ∷ found 56 24  -- 3 own address
     ∷ found 80 24  -- 4 receiver
     ∷ found 104 8  -- 5 count
-    ∷ receiptSpots (ltb 0 (r .count)) 112  -- 6 to 9
-    (receiptSpots (ltb 1 (r .count)) 144  -- 10 to 13
-    (receiptSpots (ltb 2 (r .count)) 176  -- 14 to 17
-    (receiptSpots (ltb 3 (r .count)) 208  -- 18 to 21
-    (receiptSpots (ltb 4 (r .count)) 240 []))))  -- 22 to 25
+    ∷ receiptSpots (ltb 0 n) 112  -- 6 to 9
+    (receiptSpots (ltb 1 n) 144  -- 10 to 13
+    (receiptSpots (ltb 2 n) 176  -- 14 to 17
+    (receiptSpots (ltb 3 n) 208  -- 18 to 21
+    (receiptSpots (ltb 4 n) 240 []))))  -- 22 to 25
 
 abbrev pub spotOf : Txhz → ℕ → Spot
-spotOf r i = getD (spots r) i none
+spotOf r i = getD (spots (r .count)) i none
 
 -- the receipt whose first byte is field number k
 abbrev pub changedReceipt : ℕ → ℕ → ℕ → Receipt → Receipt

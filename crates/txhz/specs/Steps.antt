@@ -1,8 +1,7 @@
--- What the code's steps over one receipt answer and leave: read, judged, put; and the table of a correction. Assumes nothing.
+-- What the code's steps over one receipt answer and leave: read, judged, put. Assumes nothing.
 use Prim.Native.Nat.{ℕ, _+_, _*_, _/_}
 use mathlib.Core.Bool.{Bool, cond}
-use mathlib.Core.List.{List, [], _∷_}
-use lib.Dec.{ltb}
+use mathlib.Core.List.{List}
 use Rattle.bits.specs.Answers.{got}
 use Rattle.walk.specs.Faults.{ranging}
 use Rattle.format.specs.Correcting.{putIn}
@@ -38,10 +37,3 @@ receiptJudged live t r =
 abbrev pub receiptPut : ℕ → Receipt → List ℕ → List ℕ
 receiptPut at t s =
     putIn (putIn (putIn (putIn s at 8 (t .«sent_hour»)) (at + 8) 8 (t .«sent_minute»)) (at + 16) 8 (t .«receipt_hour»)) (at + 24) 8 (t .«receipt_minute»)
-
--- the widths of the fields that may be corrected, where n receipts are counted
-abbrev pub wide : ℕ → ℕ → List ℕ → List ℕ
-wide k n l = let w : ℕ = cond (ltb k n) 8 0 in w ∷ w ∷ w ∷ w ∷ l
-
-unfoldable pub tableOf : ℕ → List ℕ
-tableOf n = 0 ∷ 0 ∷ 0 ∷ 24 ∷ 24 ∷ 8 ∷ wide 0 n (wide 1 n (wide 2 n (wide 3 n (wide 4 n []))))

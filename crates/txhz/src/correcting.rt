@@ -1,105 +1,47 @@
 // A frame TXHZ corrected in place, and sealed anew (paper 01, "Correcting a field").
 ghost use mathlib.Core.Path.{_≡_};
-ghost use mathlib.Core.Bool.{cond};
-ghost use lib.Dec.{ltb};
+ghost use Prim.Native.Nat.{_≤_};
+ghost use lib.ListN.{getD};
+ghost use Rattle.format.specs.Correcting.{standing};
+ghost use Rattle.format.specs.Fmt.{none};
 ghost use Rattle.format.specs.Promises.{Corrects};
-ghost use Rattle.txhz.specs.Steps.{tableOf};
+ghost use Rattle.txhz.specs.Changed.{spots};
 ghost use Rattle.txhz.specs.Txhz.{txhzs};
+use crate::reading::Txhz;
 use crate::reading::fields;
 use crate::reading::read;
+use change::correcting::Spot;
 
-// Where the fields stand in every frame.
-const OFFSETS: [usize; 26] = [
-    0,
-    8,
-    40,
-    56,
-    80,
-    104,
-    112,
-    120,
-    128,
-    136,
-    144,
-    152,
-    160,
-    168,
-    176,
-    184,
-    192,
-    200,
-    208,
-    216,
-    224,
-    232,
-    240,
-    248,
-    256,
-    264,
-];
+// Where the fields in front of the receipts stand, and the widths of those that may be corrected.
+const OFFSETS: [usize; 6] = [0, 8, 40, 56, 80, 104];
+
+const WIDTHS: [usize; 6] = [0, 0, 0, 24, 24, 8];
 
 // Makes field number `field` of the frame be `value`, and its seal anew, or leaves every byte.
 pub fn correct(buf: &mut [u8], field: usize, value: u64) -> u8
     ensures { λ code. ⌜ Corrects txhzs (now (buf .entry)) field value code (now (buf .exit)) ⌝ }
 {
     let was = read(buf);
-    let widths = table(was.count());
-    let spot = change::correcting::look_up(&OFFSETS, &widths, field);
-    let at = spot.at;
-    let width = spot.width;
-    let code = change::correcting::admits(was.refusal(), width, value);
-    if code != 0 {
-        return code;
-    }
-    let old = change::correcting::swap(buf, at, width, value);
+    let spot = stands(was.count(), field);
+    let begun = change::correcting::begin(buf, was.refusal(), spot, value);
     let again = fields(change::sealing::inner(buf), 0);
-    let code = change::correcting::settle(buf, at, width, old, again.refusal());
-    change::sealing::seal(buf);
-    code
+    change::correcting::finish_sealed(buf, begun, again.refusal())
 }
 
-// The widths of the fields that may be corrected, where `count` receipts are counted.
-fn table(count: u8) -> [usize; 26]
-    ensures { λ r. ⌜ r ≡ tableOf count ⌝ }
+// Where field number `field` stands in a frame that counts `count` receipts. A receipt has four fields of a byte each, and past the count they are fill.
+fn stands(count: u8, field: usize) -> Spot
+    ensures { λ r. ⌜ (standing (r .at) (r .width) ≡ getD (spots count) field none) × (r .width ≤ 32) ⌝ }
 {
-    let a = width(0, count);
-    let b = width(1, count);
-    let c = width(2, count);
-    let d = width(3, count);
-    let e = width(4, count);
-    [
-        0,
-        0,
-        0,
-        24,
-        24,
-        8,
-        a,
-        a,
-        a,
-        a,
-        b,
-        b,
-        b,
-        b,
-        c,
-        c,
-        c,
-        c,
-        d,
-        d,
-        d,
-        d,
-        e,
-        e,
-        e,
-        e,
-    ]
-}
-
-// The width of a byte of receipt k: a receipt past the count is fill.
-fn width(k: u8, count: u8) -> usize
-    ensures { λ r. ⌜ r ≡ cond (ltb k count) 8 0 ⌝ }
-{
-    if k < count { 8 } else { 0 }
+    if field < Txhz::RECEIPTS {
+        return change::correcting::look_up(&OFFSETS, &WIDTHS, field);
+    }
+    if field < Txhz::RECEIPTS + 20 {
+        if (field - Txhz::RECEIPTS) / 4 < count as usize {
+            return Spot {
+                at: 64 + field * 8,
+                width: 8,
+            };
+        }
+    }
+    Spot { at: 0, width: 0 }
 }

@@ -9,7 +9,9 @@ use crate::reading::Txxx;
 use crate::reading::fields;
 use crate::reading::read;
 
-// The widths of the fields that may be corrected: neither bit length, content nor fill.
+// Where the fields stand in every frame, but for the mark, and the widths of those that may be corrected: neither bit length, content nor fill.
+const OFFSETS: [usize; 12] = [0, 8, 40, 56, 80, 88, 112, 120, 128, 144, 144, 0];
+
 const WIDTHS: [usize; 12] = [0, 0, 0, 24, 8, 24, 8, 8, 0, 0, 0, 8];
 
 // Makes field number `field` of the frame be `value`, and its seal anew, or leaves every byte.
@@ -17,33 +19,12 @@ pub fn correct(buf: &mut [u8], field: usize, value: u64) -> u8
     ensures { λ code. ⌜ Corrects txxxs (now (buf .entry)) field value code (now (buf .exit)) ⌝ }
 {
     let was = read(buf);
-    // All but the mark stand at the same offsets in every frame.
-    let offsets = [
-        0,
-        8,
-        40,
-        56,
-        80,
-        88,
-        112,
-        120,
-        128,
-        144,
-        144,
-        mark(buf.len()),
-    ];
+    let mut offsets = OFFSETS;
+    offsets[Txxx::MARK] = mark(buf.len());
     let spot = change::correcting::look_up(&offsets, &WIDTHS, field);
-    let at = spot.at;
-    let width = spot.width;
-    let code = change::correcting::admits(was.refusal(), width, value);
-    if code != 0 {
-        return code;
-    }
-    let old = change::correcting::swap(buf, at, width, value);
+    let begun = change::correcting::begin(buf, was.refusal(), spot, value);
     let again = fields(change::sealing::inner(buf), 0);
-    let code = change::correcting::settle(buf, at, width, old, again.refusal());
-    change::sealing::seal(buf);
-    code
+    change::correcting::finish_sealed(buf, begun, again.refusal())
 }
 
 // Where the mark stands in a frame of `len` bytes.

@@ -7,6 +7,7 @@ use lib.ListN.{getD}
 use Rattle.warning.specs.Bodies.{Kind, cyclone, gale, waves, fog, surge, kindOf, bodyKind}
 use Rattle.warning.specs.declared.bodies.Body.{Body}
 use Rattle.warning.specs.declared.bodies.Body.the-variants.{Cyclone, Gale, Waves, Fog, Surge}
+use Rattle.format.specs.Correcting.{entryOf}
 use Rattle.format.specs.Fmt.{Spot, none, found}
 use Rattle.ais_common.specs.Time.{timeOf}
 use Rattle.warning.specs.Warning.{timeAt, hoursAt}
@@ -43,8 +44,8 @@ spotOf t i = getD (spots t) i none
 
 -- ---- the numbers that name fields, the same for every warning: which of its values each is, 0 (the message's number) for none of them
 
-abbrev pub common : Kind → List ℕ → List ℕ
-common t l =
+abbrev pub common : Kind → List ℕ
+common t =
     0
     ∷ 1  -- 1 repeat
     ∷ 2  -- 2 source
@@ -52,18 +53,26 @@ common t l =
     ∷ 8  -- 4 latitude
     ∷ timeAt t  -- 5 time
     ∷ hoursAt t  -- 6 hours
-    ∷ l
+    ∷ []
 
-abbrev pub fields : Kind → List ℕ
-fields cyclone = common cyclone (9 ∷ 10 ∷ 11 ∷ 12 ∷ 13 ∷ 14 ∷ 15 ∷ 0 ∷ 0 ∷ 0 ∷ 0 ∷ 0 ∷ 0 ∷ 0 ∷ 0 ∷ 0 ∷ 0 ∷ 0 ∷ 0 ∷ 0 ∷ [])  -- 7 to 13
-fields gale = common gale (0 ∷ 0 ∷ 0 ∷ 0 ∷ 0 ∷ 0 ∷ 0 ∷ 9 ∷ 10 ∷ 11 ∷ 12 ∷ 0 ∷ 0 ∷ 0 ∷ 0 ∷ 0 ∷ 0 ∷ 0 ∷ 0 ∷ 0 ∷ [])  -- 14 to 17
-fields waves = common waves (0 ∷ 0 ∷ 0 ∷ 0 ∷ 0 ∷ 0 ∷ 0 ∷ 0 ∷ 0 ∷ 0 ∷ 0 ∷ 9 ∷ 10 ∷ 11 ∷ 0 ∷ 0 ∷ 0 ∷ 0 ∷ 0 ∷ 0 ∷ [])  -- 18 to 20
-fields fog = common fog (0 ∷ 0 ∷ 0 ∷ 0 ∷ 0 ∷ 0 ∷ 0 ∷ 0 ∷ 0 ∷ 0 ∷ 0 ∷ 0 ∷ 0 ∷ 0 ∷ 9 ∷ 10 ∷ 0 ∷ 0 ∷ 0 ∷ 0 ∷ [])  -- 21 and 22
-fields surge = common surge (0 ∷ 0 ∷ 0 ∷ 0 ∷ 0 ∷ 0 ∷ 0 ∷ 0 ∷ 0 ∷ 0 ∷ 0 ∷ 0 ∷ 0 ∷ 0 ∷ 0 ∷ 0 ∷ 9 ∷ 10 ∷ 11 ∷ 12 ∷ [])  -- 23 to 26
+-- those of its body, and the number of the first of them
+abbrev pub own : Kind → List ℕ
+own cyclone = 9 ∷ 10 ∷ 11 ∷ 12 ∷ 13 ∷ 14 ∷ 15 ∷ []
+own gale = 9 ∷ 10 ∷ 11 ∷ 12 ∷ []
+own waves = 9 ∷ 10 ∷ 11 ∷ []
+own fog = 9 ∷ 10 ∷ []
+own surge = 9 ∷ 10 ∷ 11 ∷ 12 ∷ []
+
+abbrev pub first : Kind → ℕ
+first cyclone = 7
+first gale = 14
+first waves = 18
+first fog = 21
+first surge = 23
 
 -- the field of number n in a warning of type t
 abbrev pub fieldOf : ℕ → ℕ → ℕ
-fieldOf t n = getD (fields (kindOf t)) n 0
+fieldOf t n = let k = kindOf t in entryOf 7 (common k) (first k) (own k) n
 
 -- ---- the record with one of its values changed
 

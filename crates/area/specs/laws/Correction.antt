@@ -1,35 +1,44 @@
 -- An area with one field changed has the values with that one changed, and where its fields stand is a table by their numbers. Assumes nothing.
 use mathlib.Core.Path.{_≡_, refl, sym, ap, _∙_}
-use mathlib.Core.Bool.{cond}
+use mathlib.Core.Bool.{true, cond}
 use mathlib.Core.List.{List, [], _∷_}
 use Prim.Native.Nat.{ℕ, _≤_, _<_, _^_}
 use lib.Dec.{eqb, lit≤}
 use lib.IntN.{ℤ}
 use lib.ListN.{length, getD, set}
 use Rattle.walk.specs.laws.Sign.{spell-int}
-use Rattle.format.specs.Correcting.{standing, ofKind}
+use Rattle.format.specs.Correcting.{standing, entryOf}
 use Rattle.format.specs.Fmt.{none, found, spot}
 use Rattle.format.specs.Words.{wide}
-use Rattle.format.specs.laws.Spots.{spotsAlong, spot-along, rows, slim, eachAt, set-each, kept-entry, spelled-entry, picks, ofKinds, named-stands, named-slim}
+use Rattle.format.specs.laws.Spots.{spotsAlong, spot-along, rows, slim, eachAt, set-each, kept-entry, spelled-entry, picks, numbered-stands, numbered-slim}
 use Rattle.ais_common.specs.Time.{spellTime, timeOf, spellShort, shortOf}
 use Rattle.ais_common.specs.laws.Spelling.{spell-time, spell-short}
 use Rattle.area.specs.Area.{area, areas, headed, valuesAs, valuesOf}
-use Rattle.area.specs.Changed.{spots, spotOf, fields, changedShape, changed}
+use Rattle.area.specs.Changed.{spots, spotOf, common, own, first, changedShape, changed}
 use Rattle.area.specs.Shapes.{Kind, circle, rectangle, typeOf, spellEast, spellNorth, eastOf, northOf, shapeKind, shapeValues}
 use Rattle.area.specs.declared.reading.Area.{Area}
 use Rattle.area.specs.declared.reading.shapes.Shape.{Shape}
 use Rattle.area.specs.declared.reading.shapes.Shape.the-variants.{Circle, Rectangle}
 
--- ---- the table of the fields' numbers
+-- ---- the tables of the fields' numbers: every area's, and those of its shape
 
-abbrev pub offsets : List ℕ
-offsets = 0 ∷ 6 ∷ 8 ∷ 38 ∷ 40 ∷ 70 ∷ 88 ∷ 94 ∷ 122 ∷ 204 ∷ 224 ∷ 238 ∷ 149 ∷ 149 ∷ 177 ∷ []
+abbrev offsets : List ℕ
+offsets = 0 ∷ 6 ∷ 8 ∷ 38 ∷ 40 ∷ 70 ∷ 88 ∷ 94 ∷ 122 ∷ 204 ∷ 224 ∷ 238 ∷ []
 
-abbrev pub widths : List ℕ
-widths = 0 ∷ 2 ∷ 30 ∷ 2 ∷ 30 ∷ 1 ∷ 4 ∷ 28 ∷ 27 ∷ 20 ∷ 14 ∷ 4 ∷ 7 ∷ 28 ∷ 27 ∷ []
+abbrev widths : List ℕ
+widths = 0 ∷ 2 ∷ 30 ∷ 2 ∷ 30 ∷ 1 ∷ 4 ∷ 28 ∷ 27 ∷ 20 ∷ 14 ∷ 4 ∷ []
 
-abbrev pub kinds : List ℕ
-kinds = 0 ∷ 0 ∷ 0 ∷ 0 ∷ 0 ∷ 0 ∷ 0 ∷ 0 ∷ 0 ∷ 0 ∷ 0 ∷ 0 ∷ 1 ∷ 2 ∷ 2 ∷ []
+abbrev pub ownOffsets : Kind → List ℕ
+ownOffsets circle = 149 ∷ []
+ownOffsets rectangle = 149 ∷ 177 ∷ []
+
+abbrev pub ownWidths : Kind → List ℕ
+ownWidths circle = 7 ∷ []
+ownWidths rectangle = 28 ∷ 27 ∷ []
+
+-- what the tables have for the field of number n in an area of shape t
+abbrev pub Looked : Kind → ℕ → ℕ → ℕ → Type 0
+Looked t n p w = (p ≡ entryOf 12 offsets (first t) (ownOffsets t) n) × (w ≡ entryOf 12 widths (first t) (ownWidths t) n)
 
 -- where each field stands hangs on the kind of shape alone
 along : (r : Area) → spotsAlong (areas .fmt) [] (valuesOf r) 0 ≡ spots (shapeKind (r .shape))
@@ -40,23 +49,28 @@ along r = go (r .shape)
     go (Circle b) = refl
     go (Rectangle b) = refl
 
--- the table has the fields of either kind
-tabled : (t : Kind) → (length offsets ≡ length (ofKinds (typeOf t) kinds widths)) × (picks (spots t) (fields t) ≡ rows offsets (ofKinds (typeOf t) kinds widths))
-unfolding picks rows ofKinds
-tabled circle = (refl, refl)
-tabled rectangle = (refl, refl)
+-- the tables have the fields of either shape
+record Tabled (t : Kind) : Type 0 where
+  long : length (ownOffsets t) ≡ length (ownWidths t)
+  every : picks (spots t) common ≡ rows offsets widths
+  shape : picks (spots t) (own t) ≡ rows (ownOffsets t) (ownWidths t)
+  narrow : slim (ownWidths t) ≡ true
 
--- the field of number n, looked up for an area whose shape has the number k
-module _ (k n : ℕ) {p w : ℕ} (looked-up : (p ≡ getD offsets n 0) × (w ≡ ofKind k (getD kinds n 0) (getD widths n 0))) where
-  pub stands : (r : Area) → k ≡ typeOf (shapeKind (r .shape)) → spot (areas .fmt) [] (valuesOf r) (getD (fields (shapeKind (r .shape))) n 0) ≡ standing p w
+tabled : (t : Kind) → Tabled t
+unfolding picks rows slim
+tabled circle = record { long = refl; every = refl; shape = refl; narrow = refl }
+tabled rectangle = record { long = refl; every = refl; shape = refl; narrow = refl }
+
+module _ (t : Kind) (n : ℕ) {p w : ℕ} (looked-up : Looked t n p w) where
+  pub stands : (r : Area) → t ≡ shapeKind (r .shape) → spot (areas .fmt) [] (valuesOf r) (entryOf 12 common (first t) (own t) n) ≡ standing p w
   stands r e =
-      let t = shapeKind (r .shape) in
-      let l : w ≡ ofKind (typeOf t) (getD kinds n 0) (getD widths n 0) = looked-up .1 ∙ ap (λ k. ofKind k (getD kinds n 0) (getD widths n 0)) e in
-      named-stands (fields t) offsets widths kinds (typeOf t) n (looked-up .0, l) (areas .fmt) (valuesOf r) (tabled t .0) (ap (λ l. getD l 0 none) (along r)) (ap (λ l. picks l (fields t)) (along r) ∙ tabled t .1)
+      let x = tabled t in
+      let is = along r ∙ ap spots (sym e) in
+      numbered-stands 12 (first t) n offsets widths (ownOffsets t) (ownWidths t) looked-up (areas .fmt) (valuesOf r) common (own t) refl (x .long) (ap (λ l. getD l 0 none) is) (ap (λ l. picks l common) is ∙ x .every) (ap (λ l. picks l (own t)) is ∙ x .shape)
 
   pub thin : w ≤ 32
   unfolding slim
-  thin = named-slim (fields circle) offsets widths kinds k n {p = p} looked-up refl
+  thin = numbered-slim 12 (first t) n {p = p} offsets widths (ownOffsets t) (ownWidths t) looked-up refl (tabled t .narrow)
 
 pub spotted : (r : Area) (i : ℕ) → spot (areas .fmt) [] (valuesOf r) i ≡ spotOf (shapeKind (r .shape)) i
 spotted r i = spot-along (areas .fmt) (valuesOf r) i ∙ ap (λ t. getD t i none) (along r)

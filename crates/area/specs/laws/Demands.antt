@@ -11,7 +11,7 @@ use Rattle.bits.specs.Answers.{got}
 use Rattle.bits.specs.Bits.{Bytes, fieldAt}
 use Rattle.bits.specs.laws.Answers.{got-fits}
 use Rattle.walk.specs.laws.Sign.{spell-int}
-use Rattle.format.specs.Correcting.{standing, ofKind}
+use Rattle.format.specs.Correcting.{standing}
 use Rattle.format.specs.Fmt.{accepted, end, found, spot}
 use Rattle.format.specs.Message.{codeOf, leaves}
 use Rattle.format.specs.Promises.{readRecord, Writes, Corrects}
@@ -26,10 +26,10 @@ use Rattle.ais_common.specs.Time.{shortTime, spellTime, timeOf, spellShort, sho
 use Rattle.ais_common.specs.laws.Spelling.{time-spell, spell-time, short-spell, spell-short}
 use Rattle.ais_common.specs.laws.Walking.{time-numbered, short-numbered}
 use Rattle.area.specs.Area.{tail, area, areas, valuesAs, valuesOf, recordOf, answerOf, outOf}
-use Rattle.area.specs.Changed.{spotOf, fields, fieldOf, changed}
+use Rattle.area.specs.Changed.{spotOf, fieldOf, changed}
 use Rattle.area.specs.Promises.{Reads}
 use Rattle.area.specs.Shapes.{Kind, circle, rectangle, kindOf, typeOf, shape, shapeKind, shapeValues, shapeOf}
-use Rattle.area.specs.laws.Correction.{offsets, widths, kinds, stands, spotted, changed-values}
+use Rattle.area.specs.laws.Correction.{Looked, stands, spotted, changed-values}
 use Rattle.area.specs.laws.Sound.{front, bytes, shape-at, sound}
 use Rattle.area.specs.laws.Told.{recorded, kind-type}
 use Rattle.area.specs.Steps.{Narrow}
@@ -181,15 +181,14 @@ pub shape-number : (s : List ℕ) (r : Area) → Bytes s → readRecord areas re
 unfolding areas valuesAs
 shape-number s r fine e = let m = read-values family s r fine e .0 in shape-at s (valuesOf r) (was areas s (valuesOf r) m .walked)
 
--- the field of number n, looked up by the shape's number k that the code found there, stands where the table says
-pub looked-stands : (s : List ℕ) (n : ℕ) {k p w : ℕ} → Bytes s → k ≡ got s 92 2 → (p ≡ getD offsets n 0) × (w ≡ ofKind k (getD kinds n 0) (getD widths n 0))
+-- the field of number n, looked up by the shape's number k that the code found there, stands where the tables say
+pub looked-stands : (s : List ℕ) (n k : ℕ) {p w : ℕ} → Bytes s → k ≡ got s 92 2 → Looked (kindOf k) n p w
     → (r : Area) → readRecord areas recordOf s ≡ accepted r → spot (areas .fmt) [] (valuesOf r) (fieldOf (fieldAt s 92 2) n) ≡ standing p w
 unfolding areas
-looked-stands s n {k} fine is l r e =
+looked-stands s n k fine is l r e =
     let m = was areas s (valuesOf r) (read-values family s r fine e .0) .walked in
-    let type = shape-number s r fine e in
-    let found-so = is ∙ got-fits s 92 2 (lit≤ tt) (omega (arith, bytes s (valuesOf r) m)) ∙ type in
-    ap (λ i. spot (areas .fmt) [] (valuesOf r) i) (ap (λ t. fieldOf t n) type ∙ ap (λ k. getD (fields k) n 0) (kind-type (shapeKind (r .shape)))) ∙ stands k n l r found-so
+    let found-so = is ∙ got-fits s 92 2 (lit≤ tt) (omega (arith, bytes s (valuesOf r) m)) in
+    ap (λ t. spot (areas .fmt) [] (valuesOf r) (fieldOf t n)) (sym found-so) ∙ stands (kindOf k) n l r (ap kindOf (found-so ∙ shape-number s r fine e) ∙ kind-type (shapeKind (r .shape)))
 
 -- Demand 3: correcting an area, where the field of that number can spell the value, is writing the area with that field changed; else nothing differs.
 pub corrected : (s : List ℕ) (r : Area) → Bytes s → Reads s (Good r) → (n v p w : ℕ) → let i = fieldOf (fieldAt s 92 2) n in spotOf (shapeKind (r .shape)) i ≡ found p w → v < 2 ^ w

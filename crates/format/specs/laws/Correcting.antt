@@ -6,18 +6,18 @@ use Prim.Native.Nat.{ℕ, _+_, _*_, _≤_, _<_, _^_}
 use native.Mathlib.Omega.{arith}
 use lib.Dec.{ltb, eqb}
 use lib.ListN.{length}
-use borrow.Author.Tests.{eqb-true, eqb-false, ltb-true, ltb-false}
+use borrow.Author.Tests.{eq-eqb, eqb-true, eqb-false, ltb-true, ltb-false}
 use Rattle.bits.specs.Answers.{got}
 use Rattle.bits.specs.Bits.{Bytes, bitsOf, fieldAt, putAt}
 use Rattle.bits.specs.laws.Answers.{got-fits, puttable-fits}
 use Rattle.bits.specs.laws.Fields.{field-lt, length-put, put-put, put-field}
-use Rattle.format.specs.Correcting.{standing, admitted, putIn}
+use Rattle.format.specs.Correcting.{standing, admitted, putIn, Begins, Finishes}
 use Rattle.format.specs.Promises.{Corrects}
 use Rattle.format.specs.Fmt.{Out, accepted, refused, also, read, spot, found}
 use Rattle.format.specs.Message.{Layout, Sound, body, sealed, codeOf, readMessage, correctMessage, refuses, accepts}
 use Rattle.format.specs.Sealing.{reclosed}
 use Rattle.format.specs.laws.Sealing.{length-body, body-put, reclosed-body}
-use Rattle.format.specs.laws.Whole.{was, spot-fits, filled, whole-again, correct-narrow, correct-wide}
+use Rattle.format.specs.laws.Whole.{was, spot-fits, filled, correct-narrow, correct-wide}
 use Rattle.format.specs.laws.Zero.{Judged, read-zero, read-zero-message}
 
 -- a correction that goes on is of a message that was read
@@ -63,75 +63,85 @@ module _ (l : Layout) (ok : Sound l) (numbers : Judged (l .fmt)) (s : List ℕ) 
           rw (ex, ey, ez) (refuses e)
       go true false true ex ey ez = absurd (h (rw (ex, ey, ez) refl))
 
-  -- Nothing is changed.
-  pub correct-early : {code : ℕ} → code ≡ admitted c w v → (code ≡ 0 → ⊥) → Corrects l s i v code s
-  correct-early e h = let x = early (λ z. h (e ∙ z)) in (e ∙ x .0, x .1)
+  -- The correction begun leaves t, whose fields are read with the code d, and finished it answers `last` and leaves x.
+  module _ (fine : Bytes s) {code at width old d last : ℕ} {t x : List ℕ} (begun : Begins s c p w v code at width old t)
+      (again : c ≡ 0 → length t ≡ length s → d ≡ codeOf (read (l .fmt) [] 0 (bitsOf (body (l .seal) t)))) (finished : Finishes (l .seal) code at width old d t last x) where
+    -- the field was changed
+    module _ (on : code ≡ 0) where
+      record Fits : Type 0 where
+        values : List ℕ
+        read-so : readMessage l s ≡ accepted values
+        spot-so : spot (l .fmt) [] values i ≡ found p w
+        narrow : v < 2 ^ w
 
-  -- t is the message with the field changed, d the code of its fields, u what is left when that is settled, and x when the seal is made.
-  module _ (fine : Bytes s) {old go d last : ℕ} {t u x : List ℕ} (go-on : go ≡ admitted c w v) (good : go ≡ 0) (swapped : (old ≡ got s p w) × (t ≡ putIn s p w v))
-      (again : d ≡ codeOf (read (l .fmt) [] 0 (bitsOf (body (l .seal) t)))) (settled : (last ≡ d) × (u ≡ cond (eqb d 0) t (putIn t p w old))) (closes : x ≡ reclosed (l .seal) u) where
-    record Fits : Type 0 where
-      values : List ℕ
-      read-so : readMessage l s ≡ accepted values
-      spot-so : spot (l .fmt) [] values i ≡ found p w
-      narrow : v < 2 ^ w
+      fits : Fits
+      fits = pass (eqb c 0) (eqb w 0) (ltb v (2 ^ w)) refl refl refl (sym (begun .admits) ∙ on)
+        where
+          pass : (x y z : Bool) → eqb c 0 ≡ x → eqb w 0 ≡ y → ltb v (2 ^ w) ≡ z → cond x (cond y 10 (cond z 0 4)) c ≡ 0 → Fits
+          pass true false true ex ey ez e =
+              let (vs, o) = accepted-by (readMessage l s) reads (λ q. read-zero-message l s q numbers) (eqb-true c 0 ex) in
+              record { values = vs; read-so = o; spot-so = stands vs o ∙ rw ey refl; narrow = ltb-true v (2 ^ w) ez }
+          pass true false false ex ey ez e = absurd (omega (arith, e))
+          pass true true z ex ey ez e = absurd (omega (arith, e))
+          pass false y z ex ey ez e = absurd (eqb-false c 0 ex e)
 
-    fits : Fits
-    fits = pass (eqb c 0) (eqb w 0) (ltb v (2 ^ w)) refl refl refl (sym go-on ∙ good)
+      abbrev vs : List ℕ
+      vs = fits .values
+
+      inner : p + w ≤ length (body (l .seal) s) * 8
+      inner = spot-fits l ok s vs i v p w (fits .read-so) (fits .spot-so)
+
+      outer : p + w ≤ length s * 8
+      outer = omega (arith, inner, length-body (l .seal) s)
+
+      put-so : t ≡ putAt s p w v
+      put-so = begun .puts ∙ rw (eq-eqb code 0 on, puttable-fits s p w v slim outer (fits .narrow)) refl
+
+      body-so : body (l .seal) t ≡ putAt (body (l .seal) s) p w v
+      body-so = ap (body (l .seal)) put-so ∙ body-put (l .seal) s p w v fine inner
+
+      answer-so : correctMessage l s i v ≡ also (λ us. sealed (l .seal) (body (l .seal) t)) (read (l .fmt) [] 0 (bitsOf (body (l .seal) t)))
+      answer-so =
+          correct-narrow l ok s vs i v p w (fits .read-so) (fits .spot-so) (fits .narrow)
+          ∙ ap (λ b. also (λ us. sealed (l .seal) b) (read (l .fmt) [] 0 (bitsOf b))) (sym body-so)
+
+      nonempty : l .seal ≡ true → 0 < length s
+      nonempty = filled l ok s vs (was l s vs (fits .read-so))
+
+      long : length t ≡ length s
+      long = ap length put-so ∙ length-put s p w v
+
+      back : putIn t p w old ≡ s
+      back =
+          let o : old ≡ fieldAt s p w = begun .was ∙ got-fits s p w slim outer in
+          let h : old < 2 ^ w = rw o (field-lt s p w) in
+          rw (puttable-fits t p w old slim (omega (arith, outer, long)) h)
+          (rw (put-so, o) (put-put s p w outer v (fieldAt s p w) ∙ put-field s p w outer fine))
+
+      again-so : d ≡ codeOf (read (l .fmt) [] 0 (bitsOf (body (l .seal) t)))
+      again-so = again (admitted-clean c w v (sym (begun .admits) ∙ on)) long
+
+      late : Corrects l s i v last x
+      late = end (eqb d 0) refl
+        where
+          end : (y : Bool) → eqb d 0 ≡ y → Corrects l s i v last x
+          end true e =
+              let (us, o) = accepted-by (read (l .fmt) [] 0 (bitsOf (body (l .seal) t))) again-so (λ q. read-zero (l .fmt) [] 0 (bitsOf (body (l .seal) t)) q numbers) (eqb-true d 0 e) in
+              let a = accepts s (answer-so ∙ ap (also (λ us. sealed (l .seal) (body (l .seal) t))) o) in
+              let k : x ≡ reclosed (l .seal) t = finished .leaves ∙ rw (eq-eqb code 0 on, e) refl in
+              (finished .answers ∙ rw (eq-eqb code 0 on, eqb-true d 0 e) (a .0), k ∙ reclosed-body (l .seal) t (λ y. omega (arith, nonempty y, long)) ∙ a .1)
+          end false e =
+              let (q, o) = refused-by (read (l .fmt) [] 0 (bitsOf (body (l .seal) t))) again-so (eqb-false d 0 e) in
+              let a = refuses {s = s} (answer-so ∙ ap (also (λ us. sealed (l .seal) (body (l .seal) t))) o) in
+              let k : x ≡ putIn t p w old = finished .leaves ∙ rw (eq-eqb code 0 on, e, begun .offset, begun .wide) refl in
+              (finished .answers ∙ rw (eq-eqb code 0 on) (a .0), k ∙ back ∙ a .1)
+
+    -- The code corrects in place.
+    pub in-place : Corrects l s i v last x
+    in-place = go (eqb code 0) refl
       where
-        pass : (x y z : Bool) → eqb c 0 ≡ x → eqb w 0 ≡ y → ltb v (2 ^ w) ≡ z → cond x (cond y 10 (cond z 0 4)) c ≡ 0 → Fits
-        pass true false true ex ey ez e =
-            let (vs, o) = accepted-by (readMessage l s) reads (λ q. read-zero-message l s q numbers) (eqb-true c 0 ex) in
-            record { values = vs; read-so = o; spot-so = stands vs o ∙ rw ey refl; narrow = ltb-true v (2 ^ w) ez }
-        pass true false false ex ey ez e = absurd (omega (arith, e))
-        pass true true z ex ey ez e = absurd (omega (arith, e))
-        pass false y z ex ey ez e = absurd (eqb-false c 0 ex e)
-
-    abbrev vs : List ℕ
-    vs = fits .values
-
-    inner : p + w ≤ length (body (l .seal) s) * 8
-    inner = spot-fits l ok s vs i v p w (fits .read-so) (fits .spot-so)
-
-    outer : p + w ≤ length s * 8
-    outer = omega (arith, inner, length-body (l .seal) s)
-
-    put-so : t ≡ putAt s p w v
-    put-so = swapped .1 ∙ rw (puttable-fits s p w v slim outer (fits .narrow)) refl
-
-    body-so : body (l .seal) t ≡ putAt (body (l .seal) s) p w v
-    body-so = ap (body (l .seal)) put-so ∙ body-put (l .seal) s p w v fine inner
-
-    answer-so : correctMessage l s i v ≡ also (λ us. sealed (l .seal) (body (l .seal) t)) (read (l .fmt) [] 0 (bitsOf (body (l .seal) t)))
-    answer-so =
-        correct-narrow l ok s vs i v p w (fits .read-so) (fits .spot-so) (fits .narrow)
-        ∙ ap (λ b. also (λ us. sealed (l .seal) b) (read (l .fmt) [] 0 (bitsOf b))) (sym body-so)
-
-    nonempty : l .seal ≡ true → 0 < length s
-    nonempty = filled l ok s vs (was l s vs (fits .read-so))
-
-    long : length t ≡ length s
-    long = ap length put-so ∙ length-put s p w v
-
-    back : putIn t p w old ≡ s
-    back =
-        let o : old ≡ fieldAt s p w = swapped .0 ∙ got-fits s p w slim outer in
-        let h : old < 2 ^ w = rw o (field-lt s p w) in
-        rw (puttable-fits t p w old slim (omega (arith, outer, long)) h)
-        (rw (put-so, o) (put-put s p w outer v (fieldAt s p w) ∙ put-field s p w outer fine))
-
-    pub correct-late : Corrects l s i v last x
-    correct-late = end (eqb d 0) refl
-      where
-        end : (y : Bool) → eqb d 0 ≡ y → Corrects l s i v last x
-        end true e =
-            let z = eqb-true d 0 e in
-            let (us, o) = accepted-by (read (l .fmt) [] 0 (bitsOf (body (l .seal) t))) again (λ q. read-zero (l .fmt) [] 0 (bitsOf (body (l .seal) t)) q numbers) z in
-            let a = accepts s (answer-so ∙ ap (also (λ us. sealed (l .seal) (body (l .seal) t))) o) in
-            let k : reclosed (l .seal) u ≡ sealed (l .seal) (body (l .seal) t) = ap (reclosed (l .seal)) (settled .1 ∙ rw e refl) ∙ reclosed-body (l .seal) t (λ y. omega (arith, nonempty y, long)) in
-            (settled .0 ∙ z ∙ a .0, closes ∙ k ∙ a .1)
-        end false e =
-            let (q, o) = refused-by (read (l .fmt) [] 0 (bitsOf (body (l .seal) t))) again (eqb-false d 0 e) in
-            let a = refuses {s = s} (answer-so ∙ ap (also (λ us. sealed (l .seal) (body (l .seal) t))) o) in
-            let k : reclosed (l .seal) u ≡ s = ap (reclosed (l .seal)) (settled .1 ∙ rw e back) ∙ reclosed-body (l .seal) s nonempty ∙ whole-again l ok s vs (was l s vs (fits .read-so)) in
-            (settled .0 ∙ a .0, closes ∙ k ∙ a .1)
+        go : (y : Bool) → eqb code 0 ≡ y → Corrects l s i v last x
+        go true e = late (eqb-true code 0 e)
+        go false e =
+            let a = early (λ z. eqb-false code 0 e (begun .admits ∙ z)) in
+            (finished .answers ∙ rw e (begun .admits ∙ a .0), finished .leaves ∙ rw e (begun .puts ∙ rw e (a .1)))

@@ -1,20 +1,36 @@
 -- A family's correction in place, from its own answers: laws/Correcting said of the record that was read and where its fields stand. Assumes nothing.
-use mathlib.Core.Path.{_≡_, sym, ap, _∙_}
-use mathlib.Core.Bool.{cond}
+use mathlib.Core.Path.{_≡_, refl, ap, _∙_}
+use mathlib.Core.Bool.{Bool, true, false}
 use mathlib.Core.List.{List, []}
-use Prim.Native.Nat.{ℕ, _≤_}
-use lib.Dec.{eqb}
-use Rattle.bits.specs.Answers.{got}
+use Prim.Native.Nat.{ℕ, _-_, _≤_}
+use native.Mathlib.Omega.{arith}
+use lib.ListN.{length}
+use lib.Seq.{length-take-le}
 use Rattle.bits.specs.Bits.{Bytes, bitsOf}
-use Rattle.format.specs.Correcting.{standing, admitted, putIn}
-use Rattle.format.specs.Fmt.{accepted, also, read, spot}
-use Rattle.format.specs.Message.{Layout, body, codeOf, readMessage}
+use Rattle.format.specs.Correcting.{standing, Begins, Finishes}
+use Rattle.format.specs.Fmt.{Out, accepted, also, read, spot}
+use Rattle.format.specs.Message.{Layout, body, fieldsOf, codeOf, readMessage}
 use Rattle.format.specs.Promises.{answered, readRecord, Corrects}
-use Rattle.format.specs.Sealing.{reclosed}
 use Rattle.format.specs.laws.Answers.{numbered, read-code}
-use Rattle.format.specs.laws.Correcting.{admitted-clean, correct-early, correct-late}
-use Rattle.format.specs.laws.Lead.{read-led}
+use Rattle.format.specs.laws.Correcting.{accepted-by, in-place}
+use Rattle.format.specs.laws.Lead.{sized-fields}
 use Rattle.format.specs.laws.Family.{Family, record-values}
+use Rattle.format.specs.laws.Whole.{was, within-sizes}
+use Rattle.format.specs.laws.Zero.{read-zero-message}
+
+-- how many of n bytes the fields have: all but the seal
+abbrev pub inside : Bool → ℕ → ℕ
+inside false n = n
+inside true n = n - 1
+
+-- The fields of a message that has a good size are not refused for theirs.
+good-size : (l : Layout) (t : List ℕ) → l .least ≤ length t → length t ≤ l .most
+    → fieldsOf (l .fmt) (inside (l .seal) (l .least)) (inside (l .seal) (l .most)) 0 (body (l .seal) t) ≡ read (l .fmt) [] 0 (bitsOf (body (l .seal) t))
+good-size l t least most = sized-fields (l .fmt) (inside (l .seal) (l .least)) (inside (l .seal) (l .most)) 0 (body (l .seal) t) (λ z. go (l .seal))
+  where
+    go : (z : Bool) → (inside z (l .least) ≤ length (body z t)) × (length (body z t) ≤ inside z (l .most))
+    go false = (least, most)
+    go true = let n = length-take-le (length t - 1) t (omega arith) in (omega (arith, n), omega (arith, n))
 
 module _ {l : Layout} {R A : Type 0} {Lent : R → Type 0} {valuesOf : R → List ℕ} {recordOf : List ℕ → R} {changed : ℕ → ℕ → R → R} (F : Family l R Lent valuesOf recordOf changed)
     (good : R → A) (bad : ℕ → A) (numberOf : A → ℕ) (of-good : (r : R) → numberOf (good r) ≡ 0) (of-bad : (c : ℕ) → numberOf (bad c) ≡ c)
@@ -27,20 +43,26 @@ module _ {l : Layout} {R A : Type 0} {Lent : R → Type 0} {valuesOf : R → Lis
   found-so : (vs : List ℕ) → readMessage l s ≡ accepted vs → spot (l .fmt) [] vs i ≡ standing p w
   found-so vs e = rw (← record-values F s vs e) (stands (recordOf vs) (ap (also recordOf) e))
 
-  -- Nothing is changed.
-  pub family-early : {code : ℕ} → code ≡ admitted n w v → (code ≡ 0 → ⊥) → Corrects l s i v code s
-  family-early e h = correct-early l (F .sound) (F .judged) s i v p w reads found-so slim e h
+  -- The correction begun leaves t, the answer of its fields is b, with the number d, and finished it answers `last` and leaves x.
+  module _ (fine : Bytes s) {code at width old : ℕ} {t inner : List ℕ} (begun : Begins s n p w v code at width old t) (laid : inner ≡ body (l .seal) t) where
+    corrects : {d last : ℕ} {b : A} {x : List ℕ} (o : Out (List ℕ)) → (l .least ≤ length t → length t ≤ l .most → o ≡ read (l .fmt) [] 0 (bitsOf (body (l .seal) t)))
+        → b ≡ answered good bad (also recordOf o) → d ≡ numberOf b → Finishes (l .seal) code at width old d t last x → Corrects l s i v last x
+    corrects o again tells number finished =
+        in-place l (F .sound) (F .judged) s i v p w reads found-so slim fine begun
+        (λ z same.
+        let (vs, e) = accepted-by (readMessage l s) reads (λ q. read-zero-message l s q (F .judged)) z in
+        let (least, most) = within-sizes l (F .sound) s vs (was l s vs e) in
+        number ∙ ap numberOf tells ∙ numbered good bad recordOf numberOf of-good of-bad o ∙ ap codeOf (again (omega (arith, least, same)) (omega (arith, most, same))))
+        finished
 
-  -- t is the message with the field changed, b the answer of its fields and d its number, u what is left when that is settled, and x when the seal is made.
-  pub family-late : Bytes s → {old go d last : ℕ} {b : A} {t u x : List ℕ} → go ≡ admitted n w v → go ≡ 0 → (old ≡ got s p w) × (t ≡ putIn s p w v)
-      → b ≡ answered good bad (also recordOf (read (l .fmt) [] 0 (bitsOf (body (l .seal) t)))) → d ≡ numberOf b
-      → (last ≡ d) × (u ≡ cond (eqb d 0) t (putIn t p w old)) → x ≡ reclosed (l .seal) u → Corrects l s i v last x
-  family-late fine {t = t} go-on good′ swapped walked number settled closes =
-      correct-late l (F .sound) (F .judged) s i v p w reads found-so slim fine go-on good′ swapped
-      (number ∙ ap numberOf walked ∙ numbered good bad recordOf numberOf of-good of-bad (read (l .fmt) [] 0 (bitsOf (body (l .seal) t)))) settled closes
+    -- The fields are read whatever their size,
+    pub family-corrected : {d last : ℕ} {b : A} {x : List ℕ} → b ≡ answered good bad (also recordOf (read (l .fmt) [] 0 (bitsOf inner))) → d ≡ numberOf b
+        → Finishes (l .seal) code at width old d t last x → Corrects l s i v last x
+    family-corrected = corrects (read (l .fmt) [] 0 (bitsOf inner)) (λ least most. ap (λ b. read (l .fmt) [] 0 (bitsOf b)) laid)
 
--- A correction that goes on is of a message that passed its first tests.
-pub goes-on : (l : Layout) {R A : Type 0} (good : R → A) (bad : ℕ → A) (recordOf : List ℕ → R) (numberOf : A → ℕ) → ((r : R) → numberOf (good r) ≡ 0) → ((c : ℕ) → numberOf (bad c) ≡ c)
-    → (s : List ℕ) {a : A} {n : ℕ} → a ≡ answered good bad (readRecord l recordOf s) → n ≡ numberOf a → (w v : ℕ) {code : ℕ} → code ≡ admitted n w v → code ≡ 0 → l .lead s ≡ 0
-goes-on l good bad recordOf numberOf of-good of-bad s {n = n} reads is w v e z =
-    read-led l s (sym (read-code good bad recordOf numberOf of-good of-bad l s reads is) ∙ admitted-clean n w v (sym e ∙ z))
+    -- or their size is tested first.
+    pub family-sized : {d last : ℕ} {b : A} {x : List ℕ} → b ≡ answered good bad (also recordOf (fieldsOf (l .fmt) (inside (l .seal) (l .least)) (inside (l .seal) (l .most)) 0 inner)) → d ≡ numberOf b
+        → Finishes (l .seal) code at width old d t last x → Corrects l s i v last x
+    family-sized =
+        corrects (fieldsOf (l .fmt) (inside (l .seal) (l .least)) (inside (l .seal) (l .most)) 0 inner)
+        (λ least most. ap (fieldsOf (l .fmt) (inside (l .seal) (l .least)) (inside (l .seal) (l .most)) 0) laid ∙ good-size l t least most)

@@ -15,7 +15,7 @@ use Rattle.format.specs.Message.{Layout, Sound, body, codeOf, leaves, in
 use Rattle.format.specs.Promises.{readRecord, Writes, Corrects}
 use Rattle.format.specs.laws.Legal.{Legal, legal}
 use Rattle.format.specs.laws.Round.{clash, also-inv, read-write}
-use Rattle.format.specs.laws.Whole.{was, body-sealed, made, write-read-message, read-write-message, correct-wide, Corrected, corrected, same-size}
+use Rattle.format.specs.laws.Whole.{sized-by, was, body-sealed, made, write-read-message, read-write-message, correct-wide, Corrected, corrected, same-size}
 use Rattle.format.specs.laws.Zero.{Judged, Counted, no-zero-message, read-zero-message, correct-zero}
 
 -- What a family brings for its records of type R: those of them that a caller can lend, the values of a record, the record of values, and the record with one field changed.
@@ -42,12 +42,7 @@ one-correction l s i v c d t u x y = (x .0 ∙ sym (y .0), x .1 ∙ sym (y .1))
 
 -- a layout of one size makes messages of that size
 pub one-size : (l : Layout) (n : ℕ) → l .least ≡ n → l .most ≡ n → (vs m : List ℕ) → writeMessage l vs ≡ accepted m → length m ≡ n
-one-size l n least most vs m e = go (leb (l .least) (length m)) (leb (length m) (l .most)) refl refl (made l m vs e .fits)
-  where
-    go : (x y : Bool) → leb (l .least) (length m) ≡ x → leb (length m) (l .most) ≡ y → _≡_ {A = ℕ} (cond (x && y) 0 1) 0 → length m ≡ n
-    go true true ex ey z = let a = leb-true (l .least) (length m) ex in let b = leb-true (length m) (l .most) ey in omega (arith, a, b, least, most)
-    go true false ex ey z = absurd (omega (arith, z))
-    go false y ex ey z = absurd (omega (arith, z))
+one-size l n least most vs m e = let (a, b) = sized-by l (length m) (made l m vs e .fits) in omega (arith, a, b, least, most)
 
 -- ---- a refusal leaves every byte
 

@@ -2,13 +2,13 @@
 use mathlib.Core.Path.{_≡_, refl, sym, ap, _∙_}
 use mathlib.Core.Bool.{Bool, true, false, cond, _&&_, false≢true}
 use mathlib.Core.List.{List, [], _∷_}
-use Prim.Native.Nat.{ℕ, zero, suc, _+_, _^_, _≤_, _<_}
+use Prim.Native.Nat.{ℕ, zero, suc, _+_, _-_, _^_, _≤_, _<_}
 use native.Mathlib.Nat.{add-zero, zero-add, add-assoc}
 use native.Mathlib.Omega.{arith}
 use borrow.Author.Tests.{eq-eqb, ne-eqb, eqb-true, leb-true}
-use lib.Dec.{eqb, leb}
+use lib.Dec.{eqb, leb, ltb}
 use lib.ListN.{length, getD, set}
-use Rattle.format.specs.Correcting.{standing, ofKind}
+use Rattle.format.specs.Correcting.{standing, entryOf}
 use Rattle.format.specs.laws.Correct.{none-clash}
 use Rattle.format.specs.Fmt.{Fmt, end, field, choice, bytes, Spot, none, found, later, where?, spot}
 
@@ -87,7 +87,7 @@ rows [] ws = []
 rows (p ∷ ps) [] = []
 rows (p ∷ ps) (w ∷ ws) = standing p w ∷ rows ps ws
 
-row-at : (ps ws : List ℕ) (i : ℕ) → length ps ≡ length ws → standing (getD ps i 0) (getD ws i 0) ≡ getD (rows ps ws) i none
+pub row-at : (ps ws : List ℕ) (i : ℕ) → length ps ≡ length ws → standing (getD ps i 0) (getD ws i 0) ≡ getD (rows ps ws) i none
 unfolding rows
 row-at [] [] i e = refl
 row-at [] (w ∷ ws) i e = absurd (omega arith)
@@ -108,11 +108,6 @@ slim-at (w ∷ ws) i e = each (leb w 32) refl i e (λ i e. slim-at ws i e)
     each true f zero e rest = leb-true w 32 f
     each true f (suc i) e rest = rest i e
     each false f i e rest = absurd (false≢true e)
-
--- a width that hangs on a test
-pub where-row : (b : Bool) (p w : ℕ) → later p (where? b (suc w)) ≡ standing p (cond b (suc w) 0)
-where-row true p w = rw (ne-eqb (suc w) 0 (λ z. omega arith), add-zero p) refl
-where-row false p w = refl
 
 -- The field i looked up in the table of ps and ws.
 module _ (ps ws : List ℕ) (i : ℕ) {p w : ℕ} (looked-up : (p ≡ getD ps i 0) × (w ≡ getD ws i 0)) where
@@ -138,40 +133,29 @@ pick-at l [] n e = sym e
 pick-at l (i ∷ is) zero e = refl
 pick-at l (i ∷ is) (suc n) e = pick-at l is n e
 
--- the widths of a table in messages of kind k
-unfoldable pub ofKinds : ℕ → List ℕ → List ℕ → List ℕ
-ofKinds k os [] = []
-ofKinds k [] (w ∷ ws) = w ∷ ofKinds k [] ws
-ofKinds k (o ∷ os) (w ∷ ws) = ofKind k o w ∷ ofKinds k os ws
-
-kinds-at : (k : ℕ) (os ws : List ℕ) (n : ℕ) → ofKind k (getD os n 0) (getD ws n 0) ≡ getD (ofKinds k os ws) n 0
-unfolding ofKinds
-kinds-at k os [] n = none-wide (getD os n 0)
-  where
-    none-wide : (o : ℕ) → ofKind k o 0 ≡ 0
-    none-wide o = go (eqb o 0) (eqb o k)
-      where
-        go : (x y : Bool) → _≡_ {A = ℕ} (cond x 0 (cond y 0 0)) 0
-        go true y = refl
-        go false true = refl
-        go false false = refl
-kinds-at k [] (w ∷ ws) zero = refl
-kinds-at k [] (w ∷ ws) (suc n) = kinds-at k [] ws n
-kinds-at k (o ∷ os) (w ∷ ws) zero = refl
-kinds-at k (o ∷ os) (w ∷ ws) (suc n) = kinds-at k os ws n
-
--- The field of number n looked up in the table of ps, ws and os, in a message of kind k: is says which field of the layout that is.
-module _ (is ps ws os : List ℕ) (k n : ℕ) {p w : ℕ} (looked-up : (p ≡ getD ps n 0) × (w ≡ ofKind k (getD os n 0) (getD ws n 0))) where
-  pub named-stands : (f : Fmt) (vs : List ℕ) → length ps ≡ length (ofKinds k os ws) → getD (spotsAlong f [] vs 0) 0 none ≡ none → picks (spotsAlong f [] vs 0) is ≡ rows ps (ofKinds k os ws)
-      → spot f [] vs (getD is n 0) ≡ standing p w
-  named-stands f vs long first e =
-      spot-along f vs (getD is n 0) ∙ sym (pick-at (spotsAlong f [] vs 0) is n first) ∙ ap (λ t. getD t n none) e ∙ sym (row-at ps (ofKinds k os ws) n long)
-      ∙ rw (← looked-up .0, ← kinds-at k os ws n, ← looked-up .1) refl
-
-  pub named-slim : slim ws ≡ true → w ≤ 32
-  named-slim e = rw (looked-up .1) (go (eqb (getD os n 0) 0) (eqb (getD os n 0) k))
+-- The field of number n looked up in two tables: below k in that of every message, of ps and ws, and else in that of one kind of message, whose numbers begin with `first`. The fields that
+-- the numbers name in the layout are `is` and `is′`.
+module _ (k first n : ℕ) {p w : ℕ} (ps ws ps′ ws′ : List ℕ) (looked-up : (p ≡ entryOf k ps first ps′ n) × (w ≡ entryOf k ws first ws′ n)) where
+  pub numbered-stands : (f : Fmt) (vs is is′ : List ℕ) → length ps ≡ length ws → length ps′ ≡ length ws′ → let l = spotsAlong f [] vs 0 in
+      getD l 0 none ≡ none → picks l is ≡ rows ps ws → picks l is′ ≡ rows ps′ ws′ → spot f [] vs (entryOf k is first is′ n) ≡ standing p w
+  numbered-stands f vs is is′ long long′ blank e e′ = spot-along f vs (entryOf k is first is′ n) ∙ rw (looked-up .0, looked-up .1) (go (ltb n k) (ltb n first))
     where
-      go : (x y : Bool) → cond x (getD ws n 0) (cond y (getD ws n 0) 0) ≤ 32
+      all : List Spot
+      all = spotsAlong f [] vs 0
+
+      row : (is ps ws : List ℕ) (n : ℕ) → length ps ≡ length ws → picks all is ≡ rows ps ws → getD all (getD is n 0) none ≡ standing (getD ps n 0) (getD ws n 0)
+      row is ps ws n long e = sym (pick-at all is n blank) ∙ ap (λ t. getD t n none) e ∙ sym (row-at ps ws n long)
+
+      go : (x y : Bool) → getD all (cond x (getD is n 0) (cond y 0 (getD is′ (n - first) 0))) none
+          ≡ standing (cond x (getD ps n 0) (cond y 0 (getD ps′ (n - first) 0))) (cond x (getD ws n 0) (cond y 0 (getD ws′ (n - first) 0)))
+      go true y = row is ps ws n long e
+      go false true = blank
+      go false false = row is′ ps′ ws′ (n - first) long′ e′
+
+  pub numbered-slim : slim ws ≡ true → slim ws′ ≡ true → w ≤ 32
+  numbered-slim e e′ = rw (looked-up .1) (go (ltb n k) (ltb n first))
+    where
+      go : (x y : Bool) → cond x (getD ws n 0) (cond y 0 (getD ws′ (n - first) 0)) ≤ 32
       go true y = slim-at ws n e
-      go false true = slim-at ws n e
-      go false false = omega arith
+      go false true = omega arith
+      go false false = slim-at ws′ (n - first) e′

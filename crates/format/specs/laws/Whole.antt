@@ -15,8 +15,9 @@ use Rattle.bits.specs.laws.Bytes.{length-bits, length-bytes, bytes-bits, bits-b
 use Rattle.bits.specs.laws.Digits.{length-digits}
 use Rattle.bits.specs.laws.Fields.{length-put, bits-put}
 use Rattle.format.specs.Fmt.{Out, accepted, refused, good, check, Fmt, end, field, choice, bytes, also, after, writeField, read, write, Spot, none, found, spot, unless10}
-use Rattle.format.specs.Message.{Layout, fault, size, body, sealed, sealFault, closed, readMessage, writeMessage, correctMessage, Sound}
+use Rattle.format.specs.Message.{Layout, fault, between, size, body, sealed, sealFault, closed, readMessage, writeMessage, correctMessage, Sound}
 use Rattle.format.specs.laws.Correct.{laid-set, changed-narrow, changed-wide, spot-within}
+use Rattle.format.specs.laws.Legal.{ranged}
 use Rattle.format.specs.laws.Round.{unjudged, lay, clash, accepted-inj, checked, passed, also-inv, written, sized-inv, write-lay, read-lay, write-read, read-write}
 
 whole-field : (w at v : ℕ) (o : Out (List Bool)) (b : List Bool) → writeField w unjudged [] at v o ≡ accepted b
@@ -81,6 +82,13 @@ bytes-body true s h = bytes-take (length s - 1) s h
 
 -- ---- whole messages
 
+pub sized-by : (l : Layout) (n : ℕ) → size l n ≡ 0 → (l .least ≤ n) × (n ≤ l .most)
+sized-by l n = go (between (l .least) (l .most) n) refl
+  where
+    go : (b : Bool) → between (l .least) (l .most) n ≡ b → _≡_ {A = ℕ} (cond b 0 1) 0 → (l .least ≤ n) × (n ≤ l .most)
+    go true e z = ranged (l .least) (l .most) n e
+    go false e z = absurd (omega (arith, z))
+
 module _ (l : Layout) where
   -- a message that is read: each test passed
   pub record Was (s vs : List ℕ) : Type 0 where
@@ -134,16 +142,15 @@ module _ (l : Layout) (ok : Sound l) where
       let g : sealFault (l .seal) s ≡ good = ap (sealFault (l .seal)) (sym (m .closes)) ∙ seal-fits (l .seal) (m .inside) in
       rw (ok .sized s vs w, m .fits, g, w) refl
 
-  -- a message that is read is no shorter than the least
+  -- a message that is read has a size that writing may make
   fitting : (s vs : List ℕ) → Was l s vs → size l (length s) ≡ 0
   fitting s vs r = sym (ok .sized s vs (r .walked)) ∙ r .led
 
+  pub within-sizes : (s vs : List ℕ) → Was l s vs → (l .least ≤ length s) × (length s ≤ l .most)
+  within-sizes s vs r = sized-by l (length s) (fitting s vs r)
+
   pub filled : (s vs : List ℕ) → Was l s vs → l .seal ≡ true → 0 < length s
-  filled s vs r z = go (leb (l .least) (length s)) (leb (length s) (l .most)) refl (fitting s vs r)
-    where
-      go : (x y : Bool) → leb (l .least) (length s) ≡ x → _≡_ {A = ℕ} (cond (x && y) 0 1) 0 → 0 < length s
-      go true y e h = let a = leb-true (l .least) (length s) e in let b = ok .some z in omega arith
-      go false y e h = absurd (omega (arith, h))
+  filled s vs r z = omega (arith, within-sizes s vs r .0, ok .some z)
 
   pub whole-again : (s vs : List ℕ) → Was l s vs → sealed (l .seal) (body (l .seal) s) ≡ s
   whole-again s vs r = sealed-body (l .seal) s (filled s vs r) (r .stamped)

@@ -93,7 +93,3 @@ first-size letters n s e is z =
     go good c e = e
     go (bad d i) zero e = refl
     go (bad d i) (suc c) e = e
-
--- So has such a message with a field changed.
-pub same-size : (letters n : ℕ) (s t : List ℕ) {b : List ℕ} → leads letters n n s ≡ 0 → length t ≡ length s → b ≡ body true t → length b ≡ n - 1
-same-size letters n s t z same is = ap length is ∙ length-take-le (length t - 1) t (omega arith) ∙ ap (_- 1) (same ∙ leads-size letters n s z)

@@ -1,6 +1,6 @@
 -- A warning with one field changed has the values with that one changed, and where its fields stand is a table by their numbers. Assumes nothing.
 use mathlib.Core.Path.{_≡_, refl, sym, ap, _∙_}
-use mathlib.Core.Bool.{cond}
+use mathlib.Core.Bool.{true, cond}
 use mathlib.Core.List.{List, [], _∷_}
 use Prim.Native.Nat.{ℕ, suc, _≤_, _<_, _^_}
 use lib.Dec.{eqb}
@@ -8,26 +8,41 @@ use lib.ListN.{length, getD, set}
 use Rattle.warning.specs.Bodies.{Kind, cyclone, gale, waves, fog, surge, typeOf, bodyKind, bodyValues}
 use Rattle.warning.specs.declared.bodies.Body.{Body}
 use Rattle.warning.specs.declared.bodies.Body.the-variants.{Cyclone, Gale, Waves, Fog, Surge}
-use Rattle.format.specs.Correcting.{standing, ofKind}
+use Rattle.format.specs.Correcting.{standing, entryOf}
 use Rattle.format.specs.Fmt.{none, found, spot}
 use Rattle.format.specs.Words.{wide}
-use Rattle.format.specs.laws.Spots.{spotsAlong, spot-along, rows, slim, eachAt, set-each, kept-entry, spelled-entry, picks, ofKinds, named-stands, named-slim}
+use Rattle.format.specs.laws.Spots.{spotsAlong, spot-along, rows, slim, eachAt, set-each, kept-entry, spelled-entry, picks, numbered-stands, numbered-slim}
 use Rattle.ais_common.specs.Time.{spellTime, timeOf}
 use Rattle.ais_common.specs.laws.Spelling.{spell-time}
-use Rattle.warning.specs.Changed.{spots, spotOf, fields, changedBody, changed}
+use Rattle.warning.specs.Changed.{spots, spotOf, common, own, first, changedBody, changed}
 use Rattle.warning.specs.Warning.{timeAt, hoursAt, warning, warnings, valuesAs, valuesOf}
 use Rattle.warning.specs.declared.reading.Warning.{Warning}
 
--- ---- the table of the fields' numbers
+-- ---- the tables of the fields' numbers: every warning's, and those of its body
 
 abbrev pub offsets : List ℕ
-offsets = 0 ∷ 6 ∷ 8 ∷ 60 ∷ 83 ∷ 156 ∷ 176 ∷ 106 ∷ 109 ∷ 118 ∷ 127 ∷ 133 ∷ 142 ∷ 147 ∷ 106 ∷ 114 ∷ 119 ∷ 124 ∷ 106 ∷ 114 ∷ 119 ∷ 106 ∷ 115 ∷ 106 ∷ 115 ∷ 124 ∷ 134 ∷ []
+offsets = 0 ∷ 6 ∷ 8 ∷ 60 ∷ 83 ∷ 156 ∷ 176 ∷ []
 
 abbrev pub widths : List ℕ
-widths = 0 ∷ 2 ∷ 30 ∷ 23 ∷ 23 ∷ 20 ∷ 6 ∷ 3 ∷ 9 ∷ 9 ∷ 6 ∷ 9 ∷ 5 ∷ 9 ∷ 8 ∷ 5 ∷ 5 ∷ 4 ∷ 8 ∷ 5 ∷ 13 ∷ 9 ∷ 8 ∷ 9 ∷ 9 ∷ 10 ∷ 13 ∷ []
+widths = 0 ∷ 2 ∷ 30 ∷ 23 ∷ 23 ∷ 20 ∷ 6 ∷ []
 
-abbrev pub kinds : List ℕ
-kinds = 0 ∷ 0 ∷ 0 ∷ 0 ∷ 0 ∷ 0 ∷ 0 ∷ 1 ∷ 1 ∷ 1 ∷ 1 ∷ 1 ∷ 1 ∷ 1 ∷ 2 ∷ 2 ∷ 2 ∷ 2 ∷ 3 ∷ 3 ∷ 3 ∷ 4 ∷ 4 ∷ 5 ∷ 5 ∷ 5 ∷ 5 ∷ []
+abbrev pub ownOffsets : Kind → List ℕ
+ownOffsets cyclone = 106 ∷ 109 ∷ 118 ∷ 127 ∷ 133 ∷ 142 ∷ 147 ∷ []
+ownOffsets gale = 106 ∷ 114 ∷ 119 ∷ 124 ∷ []
+ownOffsets waves = 106 ∷ 114 ∷ 119 ∷ []
+ownOffsets fog = 106 ∷ 115 ∷ []
+ownOffsets surge = 106 ∷ 115 ∷ 124 ∷ 134 ∷ []
+
+abbrev pub ownWidths : Kind → List ℕ
+ownWidths cyclone = 3 ∷ 9 ∷ 9 ∷ 6 ∷ 9 ∷ 5 ∷ 9 ∷ []
+ownWidths gale = 8 ∷ 5 ∷ 5 ∷ 4 ∷ []
+ownWidths waves = 8 ∷ 5 ∷ 13 ∷ []
+ownWidths fog = 9 ∷ 8 ∷ []
+ownWidths surge = 9 ∷ 9 ∷ 10 ∷ 13 ∷ []
+
+-- what the tables have for the field of number n in a warning of kind t
+abbrev pub Looked : Kind → ℕ → ℕ → ℕ → Type 0
+Looked t n p w = (p ≡ entryOf 7 offsets (first t) (ownOffsets t) n) × (w ≡ entryOf 7 widths (first t) (ownWidths t) n)
 
 -- where each field stands hangs on the kind of body alone
 pub along : (r : Warning) → spotsAlong (warnings .fmt) [] (valuesOf r) 0 ≡ spots (bodyKind (r .body))
@@ -41,26 +56,31 @@ along r = go (r .body)
     go (Fog b) = refl
     go (Surge b) = refl
 
--- the table has the fields of every kind
-tabled : (t : Kind) → (length offsets ≡ length (ofKinds (typeOf t) kinds widths)) × (picks (spots t) (fields t) ≡ rows offsets (ofKinds (typeOf t) kinds widths))
-unfolding picks rows ofKinds
-tabled cyclone = (refl, refl)
-tabled gale = (refl, refl)
-tabled waves = (refl, refl)
-tabled fog = (refl, refl)
-tabled surge = (refl, refl)
+-- the tables have the fields of every kind
+record Tabled (t : Kind) : Type 0 where
+  long : length (ownOffsets t) ≡ length (ownWidths t)
+  every : picks (spots t) (common t) ≡ rows offsets widths
+  body : picks (spots t) (own t) ≡ rows (ownOffsets t) (ownWidths t)
+  narrow : slim (ownWidths t) ≡ true
 
--- the field of number n, looked up for a warning of type k
-module _ (k n : ℕ) {p w : ℕ} (looked-up : (p ≡ getD offsets n 0) × (w ≡ ofKind k (getD kinds n 0) (getD widths n 0))) where
-  pub stands : (r : Warning) → k ≡ typeOf (bodyKind (r .body)) → spot (warnings .fmt) [] (valuesOf r) (getD (fields (bodyKind (r .body))) n 0) ≡ standing p w
+tabled : (t : Kind) → Tabled t
+unfolding picks rows slim
+tabled cyclone = record { long = refl; every = refl; body = refl; narrow = refl }
+tabled gale = record { long = refl; every = refl; body = refl; narrow = refl }
+tabled waves = record { long = refl; every = refl; body = refl; narrow = refl }
+tabled fog = record { long = refl; every = refl; body = refl; narrow = refl }
+tabled surge = record { long = refl; every = refl; body = refl; narrow = refl }
+
+module _ (t : Kind) (n : ℕ) {p w : ℕ} (looked-up : Looked t n p w) where
+  pub stands : (r : Warning) → t ≡ bodyKind (r .body) → spot (warnings .fmt) [] (valuesOf r) (entryOf 7 (common t) (first t) (own t) n) ≡ standing p w
   stands r e =
-      let t = bodyKind (r .body) in
-      let l : w ≡ ofKind (typeOf t) (getD kinds n 0) (getD widths n 0) = looked-up .1 ∙ ap (λ k. ofKind k (getD kinds n 0) (getD widths n 0)) e in
-      named-stands (fields t) offsets widths kinds (typeOf t) n (looked-up .0, l) (warnings .fmt) (valuesOf r) (tabled t .0) (ap (λ l. getD l 0 none) (along r)) (ap (λ l. picks l (fields t)) (along r) ∙ tabled t .1)
+      let x = tabled t in
+      let is = along r ∙ ap spots (sym e) in
+      numbered-stands 7 (first t) n offsets widths (ownOffsets t) (ownWidths t) looked-up (warnings .fmt) (valuesOf r) (common t) (own t) refl (x .long) (ap (λ l. getD l 0 none) is) (ap (λ l. picks l (common t)) is ∙ x .every) (ap (λ l. picks l (own t)) is ∙ x .body)
 
   pub thin : w ≤ 32
   unfolding slim
-  thin = named-slim (fields cyclone) offsets widths kinds k n {p = p} looked-up refl
+  thin = numbered-slim 7 (first t) n {p = p} offsets widths (ownOffsets t) (ownWidths t) looked-up refl (tabled t .narrow)
 
 pub spotted : (r : Warning) (i : ℕ) → spot (warnings .fmt) [] (valuesOf r) i ≡ spotOf (bodyKind (r .body)) i
 spotted r i = spot-along (warnings .fmt) (valuesOf r) i ∙ ap (λ t. getD t i none) (along r)

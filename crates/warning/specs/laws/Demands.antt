@@ -14,7 +14,7 @@ use Rattle.warning.specs.Bodies.{Kind, cyclone, gale, waves, fog, surge,
 use Rattle.warning.specs.declared.bodies.Body.{Body}
 use Rattle.warning.specs.declared.bodies.Body.the-variants.{Cyclone, Gale, Waves, Fog, Surge}
 use Rattle.warning.specs.laws.Walking.{body-numbered}
-use Rattle.format.specs.Correcting.{standing, ofKind}
+use Rattle.format.specs.Correcting.{standing}
 use Rattle.format.specs.Fmt.{accepted, end, found, spot}
 use Rattle.format.specs.Message.{codeOf, leaves}
 use Rattle.format.specs.Promises.{readRecord, Writes, Corrects}
@@ -28,10 +28,10 @@ use Rattle.format.specs.laws.Zero.{Judged, Counted, only-numbered}
 use Rattle.ais_common.specs.Time.{spellTime, timeOf}
 use Rattle.ais_common.specs.laws.Spelling.{time-spell, spell-time}
 use Rattle.ais_common.specs.laws.Walking.{time-numbered}
-use Rattle.warning.specs.Changed.{spotOf, fields, fieldOf, changed}
+use Rattle.warning.specs.Changed.{spotOf, fieldOf, changed}
 use Rattle.warning.specs.Promises.{Reads}
 use Rattle.warning.specs.Warning.{tail, warning, warnings, valuesAs, valuesOf, recordAs, recordOf, answerOf, outOf}
-use Rattle.warning.specs.laws.Correction.{offsets, widths, kinds, stands, spotted, changed-values}
+use Rattle.warning.specs.laws.Correction.{Looked, stands, spotted, changed-values}
 use Rattle.warning.specs.laws.Sound.{front, bytes, type-at, sound}
 use Rattle.warning.specs.laws.Told.{recorded, kind-type}
 use Rattle.warning.specs.declared.reading.Warning.{Warning}
@@ -200,15 +200,14 @@ family = record {
   changes = λ r i v p w k e n. (changed-values r i v p w (sym (spotted r i) ∙ e) n, tt);
 }
 
--- the field of number n, looked up by the type k that the code found there, stands where the table says
-pub looked-stands : (s : List ℕ) (n : ℕ) {k p w : ℕ} → Bytes s → k ≡ got s 56 4 → (p ≡ getD offsets n 0) × (w ≡ ofKind k (getD kinds n 0) (getD widths n 0))
+-- the field of number n, looked up by the type k that the code found there, stands where the tables say
+pub looked-stands : (s : List ℕ) (n k : ℕ) {p w : ℕ} → Bytes s → k ≡ got s 56 4 → Looked (kindOf k) n p w
     → (r : Warning) → readRecord warnings recordOf s ≡ accepted r → spot (warnings .fmt) [] (valuesOf r) (fieldOf (fieldAt s 56 4) n) ≡ standing p w
 unfolding warnings valuesAs
-looked-stands s n {k} fine is l r e =
+looked-stands s n k fine is l r e =
     let m = was warnings s (valuesOf r) (read-values family s r fine e .0) .walked in
-    let type = type-at s (valuesOf r) m in
-    let found-so = is ∙ got-fits s 56 4 (lit≤ tt) (omega (arith, bytes s (valuesOf r) m)) ∙ type in
-    ap (λ t. spot (warnings .fmt) [] (valuesOf r) (fieldOf t n)) type ∙ ap (λ t. spot (warnings .fmt) [] (valuesOf r) (getD (fields t) n 0)) (kind-type (bodyKind (r .body))) ∙ stands k n l r found-so
+    let found-so = is ∙ got-fits s 56 4 (lit≤ tt) (omega (arith, bytes s (valuesOf r) m)) in
+    ap (λ t. spot (warnings .fmt) [] (valuesOf r) (fieldOf t n)) (sym found-so) ∙ stands (kindOf k) n l r (ap kindOf (found-so ∙ type-at s (valuesOf r) m) ∙ kind-type (bodyKind (r .body)))
 
 -- ---- said of the warning's promises
 

@@ -1,13 +1,8 @@
 -- `correct` is the correction in place of every family, with the frame's fields read before and behind the change and its table of offsets.
-use mathlib.Core.Path.{refl, ap, _∙_}
-use mathlib.Core.List.{[]}
-use Rattle.bits.specs.Bits.{bitsOf}
-use Rattle.frame.specs.laws.Sound.{same-size}
-use Rattle.format.specs.Fmt.{also, read}
-use Rattle.format.specs.laws.Lead.{exact-fields}
-use Rattle.format.specs.laws.Corrections.{family-early, family-late, goes-on}
+use mathlib.Core.Path.{refl}
+use Rattle.format.specs.laws.Corrections.{family-sized}
 use Rattle.format.specs.laws.Spots.{slim, table-stands, table-slim}
-use Rattle.gljc.specs.Gljc.{letters, gljc, gljcs, valuesOf, recordOf, answerOf, numberOf}
+use Rattle.gljc.specs.Gljc.{gljcs, valuesOf, numberOf}
 use Rattle.gljc.specs.laws.Correction.{offsets, widths, along}
 use Rattle.gljc.specs.laws.Demands.{family}
 use Rattle.gljc.specs.declared.reading.Answer.the-variants.{Good, Refused}
@@ -18,44 +13,24 @@ use Rattle.gljc.proofs.correcting.correct.Tie as tie
 returns : tie.Need-returns
 unfolding gljcs slim
 returns c =
-    let admits = c .before in
-    let number = admits .before in
-    let look = number .before in
-    let was = look .before .before .before in
-    let a = was .before .before .before .args in
-    family-early family Good Refused numberOf (λ r. refl) (λ c. refl) (a .buf .now) (a .field) (a .value) _ _ (was .read .ensures) (number .refusal .ensures)
-    (λ r e. table-stands offsets widths (a .field) (look .look-up .ensures) (gljcs .fmt) (valuesOf r) refl (along r)) (table-slim offsets widths (a .field) (look .look-up .ensures) refl)
-    (admits .admits .ensures) (c .if1 .taken)
-
-returns-2 : tie.Need-returns-2
-unfolding gljcs slim
-returns-2 c =
-    let seal = c .before .before in
-    let settle = seal .before .before .before .before in
-    let again = settle .before in
+    let finish = c .before .before in
+    let again = finish .before in
     let f = again .before .before in
     let inner = f .before in
-    let swap = inner .before .before .before .before in
-    let test = swap .before .before in
-    let admits = test .before in
-    let number = admits .before in
-    let look = number .before in
+    let begin = inner .before .before .before .before in
+    let number = begin .before in
+    let look = number .before .before in
     let was = look .before .before .before in
     let known = was .before .before in
     let a = known .before .args in
-    let s = a .buf .now in
-    let led = goes-on gljcs Good Refused recordOf numberOf (λ r. refl) (λ c. refl) s (was .read .ensures) (number .refusal .ensures) (look .look-up .result .width) (a .value) (admits .admits .ensures) (test .if1 .left) in
-    let sizes = exact-fields gljc 11 0 (inner .inner .result .now) (λ z. same-size letters 12 s (swap .swap .last .0) led (swap .swap .kept .0) (inner .inner .ensures)) in
-    family-late family Good Refused numberOf (λ r. refl) (λ c. refl) s (a .field) (a .value) _ _ (was .read .ensures) (number .refusal .ensures)
+    family-sized family Good Refused numberOf (λ r. refl) (λ c. refl) (a .buf .now) (a .field) (a .value) _ _ (was .read .ensures) (number .refusal .ensures)
     (λ r e. table-stands offsets widths (a .field) (look .look-up .ensures) (gljcs .fmt) (valuesOf r) refl (along r)) (table-slim offsets widths (a .field) (look .look-up .ensures) refl)
-    (λ i. known .slice-known .given i .fits) (admits .admits .ensures) (test .if1 .left) (swap .swap .ensures)
-    (f .fields .ensures ∙ ap (λ o. answerOf (also recordOf o)) sizes ∙ ap (λ b. answerOf (also recordOf (read gljc [] 0 (bitsOf b)))) (inner .inner .ensures)) (again .refusal2 .ensures) (settle .settle .ensures) (seal .seal .ensures)
+    (λ i. known .slice-known .given i .fits) (begin .begin .ensures) (inner .inner .ensures) (f .fields .ensures) (again .refusal2 .ensures) (finish .finish-sealed .ensures)
 
 pub correct-spec : {M : Type 1} → statement M
 correct-spec =
     tie.close
     (tie.spec
-    (λ c κs. search needs) (λ c. search needs) (λ c. search needs) (λ c κs. search needs) (λ c κs. search needs) (λ c κs. search needs) (λ c. search needs)
-    returns
-    (λ c κs. search needs) (λ c κs. search needs) (λ c κs. search needs) (λ c κs. search needs) (λ c κs. search needs) (λ c κs. search needs) (λ c. search needs)
-    returns-2)
+    (λ c κs. search needs) (λ c. search needs) (λ c. search needs) (λ c κs. search needs) (λ c κs. search needs) (λ c κs. search needs)
+    (λ c κs. search needs) (λ c κs. search needs) (λ c κs. search needs) (λ c κs. search needs) (λ c. search needs)
+    returns)
