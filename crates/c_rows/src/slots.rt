@@ -1,4 +1,4 @@
-// The slots of a message in a lent number, as crate `slots` tells them.
+// The slots of a message in a lent number, as `ais::slots` tells them.
 ghost use Rattle.c_rows.specs.Slots.{SlotsTold};
 use ais::Needed;
 

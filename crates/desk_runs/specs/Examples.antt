@@ -1,4 +1,4 @@
--- What comes after case J of paper 01, "Numbers to stand by" (crate numbers): runs computed from the definitions on an empty desk.
+-- What comes after case J of paper 01, "Numbers to stand by" (crate numbers_to_stand_by): runs computed from the definitions on an empty desk.
 use mathlib.Core.Path.{_≡_, refl, sym, ap}
 use mathlib.Core.List.{List, [], _∷_}
 use Prim.Native.Nat.{ℕ}

@@ -1,4 +1,4 @@
--- The report of paper 01's case C (crate numbers) with all of its fields, and where a longitude past its range is refused, computed from the definitions.
+-- The report of paper 01's case C (crate numbers_to_stand_by) with all of its fields, and where a longitude past its range is refused, computed from the definitions.
 use mathlib.Core.Path.{_≡_, refl}
 use mathlib.Core.List.{List, [], _∷_}
 use Prim.Native.Nat.{ℕ}

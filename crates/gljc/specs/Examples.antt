@@ -1,4 +1,4 @@
--- The good frame of paper 01's case B (crate numbers) from its record, computed from the definitions.
+-- The good frame of paper 01's case B (crate numbers_to_stand_by) from its record, computed from the definitions.
 use mathlib.Core.Path.{_≡_, refl}
 use mathlib.Core.List.{[], _∷_}
 use Rattle.bits.specs.Bits.{bit, valueOf, digits, bytesOf}

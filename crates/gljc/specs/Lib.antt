@@ -1,4 +1,4 @@
--- The frame GLJC: its definitions and promises, and in `laws` what is proved of them.
+-- The frame GLJC: its layout and record, what may be corrected, the promises, and in `laws` what is proved of them.
 pub mod Gljc
 pub mod Changed
 pub mod Promises

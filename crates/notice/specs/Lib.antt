@@ -1,9 +1,9 @@
--- Writing a notice: its promise, its steps, and in `laws` that they make it.
+-- The notice: its layout and record, what may be corrected, the promises, and in `laws` what is proved of them.
 pub mod Notice
 pub mod Record
-pub mod Promises
 pub mod Changed
-pub mod Steps
+pub mod Promises
 pub mod WritingPromises
+pub mod Steps
 pub mod Making
 pub mod laws

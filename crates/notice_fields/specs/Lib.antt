@@ -1,9 +1,9 @@
--- The areas of a notice: their layout, the numbers that stand in them, what the code's steps answer; and in `laws` that these are what reading says.
+-- The fields of a notice that have several parts: areas, expiry and angles; their layouts, the areas as a row, what the code's steps answer, and in `laws` that these are what reading and writing say.
 pub mod Areas
-pub mod Standing
-pub mod Row
-pub mod Steps
 pub mod Parts
+pub mod Row
+pub mod Standing
+pub mod Steps
 pub mod PartsSteps
 pub mod Shapes
 pub mod Making

@@ -1,4 +1,4 @@
-// The areas of a notice (paper 01, "Notice and packet"): walked in bit order, the first fault ends the walk.
+// The fields of a notice (paper 01, "Notice and packet"): those of several parts, the areas, and the areas as a row of numbers.
 
 pub mod areas;
 pub mod making;

@@ -1,4 +1,4 @@
--- The packet: its definitions and promises, and in `laws` what is proved of them.
+-- The packet: its layout and record, what may be corrected, the promises, and in `laws` what is proved of them. The splitter likewise.
 pub mod Packet
 pub mod Changed
 pub mod Promises

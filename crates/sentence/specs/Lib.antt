@@ -1,6 +1,6 @@
--- The distress sentence: its definitions and promises, and in `laws` what is proved of them.
+-- The distress sentence: its layout and promises, the pattern around a report, its digits, and in `laws` what is proved of them.
 pub mod Sentence
 pub mod Pattern
-mod Examples
 pub mod Spelling
+mod Examples
 pub mod laws

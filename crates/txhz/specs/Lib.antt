@@ -1,4 +1,4 @@
--- The frame TXHZ: its definitions and promises, and in `laws` what is proved of them.
+-- The frame TXHZ: its layout and record, what may be corrected, the promises, and in `laws` what is proved of them.
 pub mod Txhz
 pub mod Changed
 pub mod Promises

@@ -1,4 +1,4 @@
--- The frame of paper 01's case A (crate numbers) with all of its fields and its content, computed from the definitions.
+-- The frame of paper 01's case A (crate numbers_to_stand_by) with all of its fields and its content, computed from the definitions.
 use mathlib.Core.Path.{_≡_, refl}
 use mathlib.Core.List.{List, [], _∷_}
 use Prim.Native.Nat.{ℕ}

@@ -1,4 +1,4 @@
--- The frame TXSQ: its definitions and promises, and in `laws` what is proved of them.
+-- The frame TXSQ: its layout and record, what may be corrected, the promises, and in `laws` what is proved of them.
 pub mod Txsq
 pub mod Changed
 pub mod Promises

@@ -1,4 +1,4 @@
--- The frame TXXX: its definitions and promises, and in `laws` what is proved of them.
+-- The frame TXXX: its layout and record, what may be corrected, the promises, and in `laws` what is proved of them.
 pub mod Txxx
 pub mod Changed
 pub mod Promises

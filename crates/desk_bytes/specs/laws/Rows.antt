@@ -1,4 +1,4 @@
--- What a call leaves in the bytes is, read as a row, what it leaves of the row: with this a run of calls over lent bytes is a run over places (desk_row_runs). Assumes nothing.
+-- What a call leaves in the bytes is, read as a row, what it leaves of the row: with this a run of calls over lent bytes is a run over places (desk_runs). Assumes nothing.
 use mathlib.Core.Path.{_≡_, refl, sym, ap, _∙_}
 use mathlib.Core.Bool.{Bool, true, false, not, cond}
 use mathlib.Core.List.{List, [], _∷_}
