@@ -50,27 +50,21 @@ along r = go (r .shape)
     go (Rectangle b) = refl
 
 -- the tables have the fields of either shape
-record Tabled (t : Kind) : Type 0 where
-  long : length (ownOffsets t) ≡ length (ownWidths t)
-  every : picks (spots t) common ≡ rows offsets widths
-  shape : picks (spots t) (own t) ≡ rows (ownOffsets t) (ownWidths t)
-  narrow : slim (ownWidths t) ≡ true
-
-tabled : (t : Kind) → Tabled t
+tabled : (t : Kind) → (length (ownOffsets t) ≡ length (ownWidths t)) × (picks (spots t) common ≡ rows offsets widths) × (picks (spots t) (own t) ≡ rows (ownOffsets t) (ownWidths t)) × (slim (ownWidths t) ≡ true)
 unfolding picks rows slim
-tabled circle = record { long = refl; every = refl; shape = refl; narrow = refl }
-tabled rectangle = record { long = refl; every = refl; shape = refl; narrow = refl }
+tabled circle = (refl, refl, refl, refl)
+tabled rectangle = (refl, refl, refl, refl)
 
 module _ (t : Kind) (n : ℕ) {p w : ℕ} (looked-up : Looked t n p w) where
   pub stands : (r : Area) → t ≡ shapeKind (r .shape) → spot (areas .fmt) [] (valuesOf r) (entryOf 12 common (first t) (own t) n) ≡ standing p w
   stands r e =
-      let x = tabled t in
+      let (long, every, shape, narrow) = tabled t in
       let is = along r ∙ ap spots (sym e) in
-      numbered-stands 12 (first t) n offsets widths (ownOffsets t) (ownWidths t) looked-up (areas .fmt) (valuesOf r) common (own t) refl (x .long) (ap (λ l. getD l 0 none) is) (ap (λ l. picks l common) is ∙ x .every) (ap (λ l. picks l (own t)) is ∙ x .shape)
+      numbered-stands 12 (first t) n offsets widths (ownOffsets t) (ownWidths t) looked-up (areas .fmt) (valuesOf r) common (own t) refl long (ap (λ l. getD l 0 none) is) (ap (λ l. picks l common) is ∙ every) (ap (λ l. picks l (own t)) is ∙ shape)
 
   pub thin : w ≤ 32
   unfolding slim
-  thin = numbered-slim 12 (first t) n {p = p} offsets widths (ownOffsets t) (ownWidths t) looked-up refl (tabled t .narrow)
+  thin = numbered-slim 12 (first t) n {p = p} offsets widths (ownOffsets t) (ownWidths t) looked-up refl (tabled t .3)
 
 pub spotted : (r : Area) (i : ℕ) → spot (areas .fmt) [] (valuesOf r) i ≡ spotOf (shapeKind (r .shape)) i
 spotted r i = spot-along (areas .fmt) (valuesOf r) i ∙ ap (λ t. getD t i none) (along r)

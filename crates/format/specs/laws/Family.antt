@@ -1,6 +1,6 @@
 -- Demands 2 and 3 for a family, from the promises of its calls: what is proved of lists of values, said of records. Assumes nothing.
 use mathlib.Core.Path.{_≡_, refl, sym, ap, _∙_, subst}
-use mathlib.Core.Bool.{Bool, true, false, cond, _&&_}
+use mathlib.Core.Bool.{Bool, true, false}
 use mathlib.Core.List.{List, [], _++_}
 use Prim.Native.Nat.{ℕ, _≤_, _<_, _^_}
 use native.Mathlib.Omega.{arith}
@@ -13,9 +13,10 @@ use Rattle.bits.specs.laws.Fields.{length-put, bits-put}
 use Rattle.format.specs.Fmt.{Out, accepted, refused, orBad, check, also, spot, none, found}
 use Rattle.format.specs.Message.{Layout, Sound, body, codeOf, leaves, into, readMessage, writeMessage, correctMessage}
 use Rattle.format.specs.Promises.{readRecord, Writes, Corrects}
+use Rattle.format.specs.laws.Lead.{sized-by}
 use Rattle.format.specs.laws.Legal.{Legal, legal}
 use Rattle.format.specs.laws.Round.{clash, also-inv, read-write}
-use Rattle.format.specs.laws.Whole.{sized-by, was, body-sealed, made, write-read-message, read-write-message, correct-wide, Corrected, corrected, same-size}
+use Rattle.format.specs.laws.Whole.{was, body-sealed, made, write-read-message, read-write-message, correct-wide, Corrected, corrected, same-size}
 use Rattle.format.specs.laws.Zero.{Judged, Counted, no-zero-message, read-zero-message, correct-zero}
 
 -- What a family brings for its records of type R: those of them that a caller can lend, the values of a record, the record of values, and the record with one field changed.

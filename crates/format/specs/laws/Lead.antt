@@ -11,7 +11,7 @@ use Rattle.bits.specs.Xor.{xorOf}
 use Rattle.bits.specs.Bits.{bitsOf}
 use Rattle.format.specs.Fmt.{Out, bad, Fmt, refused, orBad, check, read}
 use Rattle.format.specs.laws.Legal.{ranged}
-use Rattle.format.specs.Message.{Layout, fault, between, fieldsOf, body, sealFault, firstOf, first, codeOf, readMessage}
+use Rattle.format.specs.Message.{Layout, fault, between, size, fieldsOf, body, sealFault, firstOf, first, codeOf, readMessage}
 
 -- Where the first tests refused, that is the answer.
 pub held-back : {A : Type 0} (c : ℕ) (o : Out A) → (c ≡ 0 → ⊥) → check (fault c) 0 o ≡ refused c 0
@@ -51,6 +51,16 @@ first-tests l s o = go (l .lead s) (l .seal)
 pub read-first : (l : Layout) (s : List ℕ) {c : ℕ} → c ≡ first l s → readMessage l s ≡ check (fault c) 0 (read (l .fmt) [] 0 (bitsOf (body (l .seal) s)))
 unfolding readMessage
 read-first l s e = first-tests l s (read (l .fmt) [] 0 (bitsOf (body (l .seal) s))) ∙ rw (← e) refl
+
+-- ---- sizes
+
+-- A size that writing may make lies between the least and the greatest.
+pub sized-by : (l : Layout) (n : ℕ) → size l n ≡ 0 → (l .least ≤ n) × (n ≤ l .most)
+sized-by l n = go (between (l .least) (l .most) n) refl
+  where
+    go : (b : Bool) → between (l .least) (l .most) n ≡ b → _≡_ {A = ℕ} (cond b 0 1) 0 → (l .least ≤ n) × (n ≤ l .most)
+    go true e z = ranged (l .least) (l .most) n e
+    go false e z = absurd (omega (arith, z))
 
 -- ---- fields that may be of another size
 

@@ -1,23 +1,23 @@
 -- Demands 2 and 3 for whole messages, for every layout. Assumes nothing.
 use mathlib.Core.Path.{_≡_, refl, sym, ap, _∙_}
-use mathlib.Core.Bool.{Bool, true, false, cond, _&&_}
+use mathlib.Core.Bool.{Bool, true, false}
 use mathlib.Core.List.{List, [], _∷_, _++_}
 use Prim.Native.Nat.{ℕ, zero, suc, _+_, _-_, _*_, _/_, _%_, _^_, _≤_, _<_}
 use native.Mathlib.Omega.{arith}
 use native.Mathlib.Nat.{add-assoc}
-use lib.Dec.{leb, eqb, eqb→eq}
+use lib.Dec.{eqb, eqb→eq}
 use lib.ListN.{length, take, drop, getD, set, length-append, drop-of-length-le}
 use lib.Seq.{take-at, getD-at, split-at}
-use borrow.Author.Tests.{eq-eqb, leb-true}
+use borrow.Author.Tests.{eq-eqb}
 use Rattle.bits.specs.Bits.{Bytes, digits, bitsOf, bytesOf, splice, putAt}
 use Rattle.bits.specs.Xor.{xorOf}
 use Rattle.bits.specs.laws.Bytes.{length-bits, length-bytes, bytes-bits, bits-bytes, bytes-below, bytes-take}
 use Rattle.bits.specs.laws.Digits.{length-digits}
 use Rattle.bits.specs.laws.Fields.{length-put, bits-put}
 use Rattle.format.specs.Fmt.{Out, accepted, refused, good, check, Fmt, end, field, choice, bytes, also, after, writeField, read, write, Spot, none, found, spot, unless10}
-use Rattle.format.specs.Message.{Layout, fault, between, size, body, sealed, sealFault, closed, readMessage, writeMessage, correctMessage, Sound}
+use Rattle.format.specs.Message.{Layout, fault, size, body, sealed, sealFault, closed, readMessage, writeMessage, correctMessage, Sound}
 use Rattle.format.specs.laws.Correct.{laid-set, changed-narrow, changed-wide, spot-within}
-use Rattle.format.specs.laws.Legal.{ranged}
+use Rattle.format.specs.laws.Lead.{sized-by}
 use Rattle.format.specs.laws.Round.{unjudged, lay, clash, accepted-inj, checked, passed, also-inv, written, sized-inv, write-lay, read-lay, write-read, read-write}
 
 whole-field : (w at v : ℕ) (o : Out (List Bool)) (b : List Bool) → writeField w unjudged [] at v o ≡ accepted b
@@ -81,13 +81,6 @@ bytes-body false s h = h
 bytes-body true s h = bytes-take (length s - 1) s h
 
 -- ---- whole messages
-
-pub sized-by : (l : Layout) (n : ℕ) → size l n ≡ 0 → (l .least ≤ n) × (n ≤ l .most)
-sized-by l n = go (between (l .least) (l .most) n) refl
-  where
-    go : (b : Bool) → between (l .least) (l .most) n ≡ b → _≡_ {A = ℕ} (cond b 0 1) 0 → (l .least ≤ n) × (n ≤ l .most)
-    go true e z = ranged (l .least) (l .most) n e
-    go false e z = absurd (omega (arith, z))
 
 module _ (l : Layout) where
   -- a message that is read: each test passed

@@ -57,30 +57,24 @@ along r = go (r .body)
     go (Surge b) = refl
 
 -- the tables have the fields of every kind
-record Tabled (t : Kind) : Type 0 where
-  long : length (ownOffsets t) ≡ length (ownWidths t)
-  every : picks (spots t) (common t) ≡ rows offsets widths
-  body : picks (spots t) (own t) ≡ rows (ownOffsets t) (ownWidths t)
-  narrow : slim (ownWidths t) ≡ true
-
-tabled : (t : Kind) → Tabled t
+tabled : (t : Kind) → (length (ownOffsets t) ≡ length (ownWidths t)) × (picks (spots t) (common t) ≡ rows offsets widths) × (picks (spots t) (own t) ≡ rows (ownOffsets t) (ownWidths t)) × (slim (ownWidths t) ≡ true)
 unfolding picks rows slim
-tabled cyclone = record { long = refl; every = refl; body = refl; narrow = refl }
-tabled gale = record { long = refl; every = refl; body = refl; narrow = refl }
-tabled waves = record { long = refl; every = refl; body = refl; narrow = refl }
-tabled fog = record { long = refl; every = refl; body = refl; narrow = refl }
-tabled surge = record { long = refl; every = refl; body = refl; narrow = refl }
+tabled cyclone = (refl, refl, refl, refl)
+tabled gale = (refl, refl, refl, refl)
+tabled waves = (refl, refl, refl, refl)
+tabled fog = (refl, refl, refl, refl)
+tabled surge = (refl, refl, refl, refl)
 
 module _ (t : Kind) (n : ℕ) {p w : ℕ} (looked-up : Looked t n p w) where
   pub stands : (r : Warning) → t ≡ bodyKind (r .body) → spot (warnings .fmt) [] (valuesOf r) (entryOf 7 (common t) (first t) (own t) n) ≡ standing p w
   stands r e =
-      let x = tabled t in
+      let (long, every, body, narrow) = tabled t in
       let is = along r ∙ ap spots (sym e) in
-      numbered-stands 7 (first t) n offsets widths (ownOffsets t) (ownWidths t) looked-up (warnings .fmt) (valuesOf r) (common t) (own t) refl (x .long) (ap (λ l. getD l 0 none) is) (ap (λ l. picks l (common t)) is ∙ x .every) (ap (λ l. picks l (own t)) is ∙ x .body)
+      numbered-stands 7 (first t) n offsets widths (ownOffsets t) (ownWidths t) looked-up (warnings .fmt) (valuesOf r) (common t) (own t) refl long (ap (λ l. getD l 0 none) is) (ap (λ l. picks l (common t)) is ∙ every) (ap (λ l. picks l (own t)) is ∙ body)
 
   pub thin : w ≤ 32
   unfolding slim
-  thin = numbered-slim 7 (first t) n {p = p} offsets widths (ownOffsets t) (ownWidths t) looked-up refl (tabled t .narrow)
+  thin = numbered-slim 7 (first t) n {p = p} offsets widths (ownOffsets t) (ownWidths t) looked-up refl (tabled t .3)
 
 pub spotted : (r : Warning) (i : ℕ) → spot (warnings .fmt) [] (valuesOf r) i ≡ spotOf (bodyKind (r .body)) i
 spotted r i = spot-along (warnings .fmt) (valuesOf r) i ∙ ap (λ t. getD t i none) (along r)
