@@ -1,8 +1,84 @@
-//! The notice and its outline. The language is that of its packets.
+//! The notice: a head, up to 15 areas on the chart, and a text.
+//!
+//! A notice does not say its own language. Its packets do, so every call is told it: [`CHINESE`](crate::packet::CHINESE)
+//! or [`ENGLISH`](crate::packet::ENGLISH).
+//!
+//! ```
+//! use bellnewt::notice::{self, Angle, Area, Expiry, Field, Head, Notice, Point};
+//! use bellnewt::packet::ENGLISH;
+//!
+//! let north = Angle { negative: false, degrees: 30, minutes: 15, hundredths: 50 };
+//! let east = Angle { negative: false, degrees: 122, minutes: 30, hundredths: 0 };
+//! let notice = Notice {
+//!     head: Head { source: 11, station: 2, serial: 123, year: 24, kind: 4, subtype: 11, expiry: 0 },
+//!     areas: vec![Area::Circle { centre: Point::new(north, east), radius: 25, unit: 2 }],
+//!     text: b"KEEP CLEAR".to_vec(),
+//! };
+//! let mut bytes = vec![0; notice.bytes()];
+//! notice::write(&mut bytes, ENGLISH, &notice)?;
+//!
+//! let expiry = Expiry { next_year: false, month: 9, day: 1, hour: 12, minute: 0 };
+//! notice::correct(&mut bytes, ENGLISH, Field::Expiry, expiry.number().into())?;
+//! assert_eq!(Expiry::of_number(notice::read(&bytes, ENGLISH)?.head.expiry), Some(expiry));
+//! assert_eq!(notice::outline(&bytes, ENGLISH)?, [[181_550, 735_000]]);
+//! # Ok::<(), bellnewt::Refusal>(())
+//! ```
 
-use super::answer;
-use crate::record::notice::{Area, Field, Head, Notice};
-use crate::record::Refusal;
+mod area;
+mod expiry;
+mod field;
+
+pub use area::{Angle, Area, Point};
+pub use expiry::Expiry;
+pub use field::Field;
+#[doc(inline)]
+pub use record::Head;
+
+use crate::call::answer;
+use record::Refusal;
+
+/// A notice.
+#[derive(Clone, PartialEq, Eq, Debug)]
+pub struct Notice {
+    /// What it says before its areas.
+    pub head: Head,
+    /// The areas, at most 15.
+    pub areas: Vec<Area>,
+    /// The text. English: bytes 0x20 to 0x7E. Chinese: those, and pairs of GB 2312 level one.
+    pub text: Vec<u8>,
+}
+
+impl Notice {
+    /// The least bytes of a notice.
+    pub const LEAST: usize = 8;
+    /// The most bytes of a notice.
+    pub const GREATEST: usize = 12_978;
+    /// How many entries a notice takes in a row: the head's, how many areas, entries of areas and bytes of text.
+    pub const ROW: usize = Head::ROW + 3;
+    /// The most areas.
+    pub const AREAS: usize = 15;
+    /// The most points of an area.
+    pub const POINTS: usize = 15;
+    /// The most entries that areas take. Each has its kind, its count, and two for a point.
+    pub const ENTRIES: usize = Notice::AREAS * (2 + 2 * Notice::POINTS);
+    /// The most bytes of text. A notice without areas has 63 bits before it.
+    pub const TEXT: usize = Notice::GREATEST - 8;
+
+    /// How many bytes the notice takes. The last of them ends in 0 to 7 bits of padding.
+    pub fn bytes(&self) -> usize {
+        let areas: usize = self.areas.iter().map(Area::bits).sum();
+        (63 + areas).div_ceil(8) + self.text.len()
+    }
+}
+
+/// The number that parts of some width spell together. Where one is too wide, it is a number too wide for any field.
+fn spelled(parts: &[(u32, u8)]) -> u32 {
+    let fit = parts.iter().all(|(width, part)| u32::from(*part) >> width == 0);
+    if !fit {
+        return u32::MAX;
+    }
+    parts.iter().fold(0, |number, (width, part)| number << width | u32::from(*part))
+}
 
 extern "C" {
     fn bellnewt_notice_read(
@@ -44,7 +120,7 @@ extern "C" {
     ) -> u8;
 }
 
-/// Reads a notice into the first ten entries of a row, the entries of its areas, and the bytes of its text.
+/// Reads a notice into three rows, as in C: its numbers, the entries of its areas, and the bytes of its text.
 #[inline]
 pub fn read_row(
     message: &[u8],
@@ -53,7 +129,7 @@ pub fn read_row(
     areas: &mut [u32],
     text: &mut [u8],
 ) -> Result<(), Refusal> {
-    // SAFETY: see `relay`.
+    // SAFETY: see `call`.
     answer(unsafe {
         bellnewt_notice_read(
             message.as_ptr(),
@@ -80,7 +156,7 @@ pub fn read(message: &[u8], language: u8) -> Result<Notice, Refusal> {
     Ok(Notice { head: Head::of_row(&row), areas: Area::list(&areas[..entries]), text })
 }
 
-/// Writes a notice of so many areas, whose entries stand in a row, into the front of a buffer.
+/// Writes a notice of `count` areas, whose entries are in a row, into the front of a buffer, as in C.
 #[inline]
 pub fn write_row(
     buf: &mut [u8],
@@ -90,7 +166,7 @@ pub fn write_row(
     areas: &[u32],
     text: &[u8],
 ) -> Result<(), Refusal> {
-    // SAFETY: see `relay`.
+    // SAFETY: see `call`.
     answer(unsafe {
         bellnewt_notice_write(
             buf.as_mut_ptr(),
@@ -112,7 +188,7 @@ pub fn write_row(
     })
 }
 
-/// Writes a notice into the front of a buffer. `Notice::bytes` says how many it takes.
+/// Writes a notice into the front of a buffer. [`Notice::bytes`] says how many it takes. Bytes past them stay.
 pub fn write(buf: &mut [u8], language: u8, notice: &Notice) -> Result<(), Refusal> {
     // More areas than a count can tell are refused, like all above 15.
     let count = u8::try_from(notice.areas.len()).unwrap_or(u8::MAX);
@@ -120,29 +196,31 @@ pub fn write(buf: &mut [u8], language: u8, notice: &Notice) -> Result<(), Refusa
     write_row(buf, language, &notice.head, count, &areas, &notice.text)
 }
 
-/// Corrects the field of a number: 0 to 6 for the head's, 8 and above for the entries of its areas.
+/// Corrects the field of a number in place, as in C: 0 to 6 are the head's, 8 and above the entries of its areas.
 #[inline]
 pub fn correct_field(message: &mut [u8], language: u8, field: usize, value: u64) -> Result<(), Refusal> {
-    // SAFETY: see `relay`.
+    // SAFETY: see `call`.
     answer(unsafe { bellnewt_notice_correct(message.as_mut_ptr(), message.len(), language, field, value) })
 }
 
-/// Corrects a field to the number that its bits shall spell. The notice says which number the field has.
+/// Corrects a field in place to the number that its bits shall spell.
 pub fn correct(message: &mut [u8], language: u8, field: Field, value: u64) -> Result<(), Refusal> {
     let notice = read(message, language)?;
     let number = field.number(&notice.areas).ok_or(Refusal::FIELD)?;
     correct_field(message, language, number, value)
 }
 
-/// Fills a row with the points of a notice, latitude then longitude in hundredths of a minute, south and west negative,
-/// and tells how many there are. A refusal leaves both as they were.
+/// Fills a row with the points of a notice, as in C, and puts how many they are into `points`.
+///
+/// A point is its latitude, then its longitude, in hundredths of a minute, south and west negative.
 #[inline]
 pub fn outline_row(message: &[u8], language: u8, row: &mut [i32], points: &mut usize) -> Result<(), Refusal> {
-    // SAFETY: see `relay`.
+    // SAFETY: see `call`.
     answer(unsafe { bellnewt_outline(message.as_ptr(), message.len(), language, row.as_mut_ptr(), row.len(), points) })
 }
 
-/// The points of a notice: latitude and longitude of each, in hundredths of a minute, south and west negative.
+/// The points of a notice for a chart: latitude and longitude of each, in hundredths of a minute, south and west
+/// negative. A circle gives its centre, a sea area nothing.
 pub fn outline(message: &[u8], language: u8) -> Result<Vec<[i32; 2]>, Refusal> {
     let (mut row, mut points) = ([0; 2 * Notice::AREAS * Notice::POINTS], 0);
     outline_row(message, language, &mut row, &mut points)?;

@@ -1,20 +1,20 @@
 //! How the time and the memory of listing a log grow with it: the proved program's, beside the independent program's and
 //! those of `wc -c`, which only counts the bytes.
 
-use crate::inputs::{daylog, Random};
-use crate::{listing, paper};
 use std::fs::{self, File};
 use std::io::{self, BufRead, BufReader, Read, Write};
 use std::path::Path;
 use std::process::{self, Command, Stdio};
 use std::{env, thread};
+use trial::inputs::{daylog, Random};
+use trial::listing::program;
 
 /// How many records the logs have, and how often each program lists them.
 const LOGS: [(usize, usize); 3] = [(1_000, 100), (100_000, 20), (1_000_000, 10)];
 /// The word by which the benchmark runs itself as the independent program.
 pub const PAPER: &str = "list";
 /// What `rust/native listing` makes.
-const NATIVE: &str = concat!(env!("CARGO_MANIFEST_DIR"), "/../target/native/listing");
+const NATIVE: &str = concat!(env!("CARGO_MANIFEST_DIR"), "/../../target/native/listing");
 /// Whether programs that rt linked need an emulator here.
 const EMULATED: bool = cfg!(not(target_arch = "x86_64"));
 
@@ -82,13 +82,13 @@ fn proved() -> Command {
     if EMULATED {
         Command::new(NATIVE)
     } else {
-        listing::program()
+        program()
     }
 }
 
 /// The proved program as `./listing` runs it, where that is another way.
 fn emulated() -> Option<Command> {
-    EMULATED.then(listing::program)
+    EMULATED.then(program)
 }
 
 /// The seconds of the processor that a program takes from a log to its text. The machine may be shared, so the time on

@@ -4,13 +4,18 @@
 //! `bench count ROW proved|paper ROUNDS` works through one row and prints nothing: the benchmark runs itself so, under
 //! valgrind, once for some rounds and once for more. The difference is what the rounds cost, whatever came before.
 
-use bellnewt::bench::{ais, desk, listing, rows, Rounds, MESSAGES};
-use bellnewt::gpsd;
-use bellnewt::record::Place;
+#![forbid(unsafe_code)]
+
+mod listing;
+mod rows;
+
+use record::Place;
+use rows::{desk, rows, Rounds, MESSAGES};
 use std::collections::HashMap;
 use std::io;
 use std::process::Command;
 use std::time::Instant;
+use trial::gpsd;
 
 const TIMED_ROUNDS: usize = 200;
 /// How often gpsd's decoder is run on all messages of a row.
@@ -75,7 +80,7 @@ fn packets_a_second(accept: f64, ask: f64) -> f64 {
 
 /// The rows that read AIS messages, beside gpsd's decoder where it is installed.
 fn decoder_rows(pairs: &HashMap<&str, [f64; 2]>) {
-    let rows = [(ais::WARNING_READ, ais::warnings()), (ais::AREA_READ, ais::areas())];
+    let rows = [(gpsd::WARNING_ROW, gpsd::warnings()), (gpsd::AREA_ROW, gpsd::areas())];
     let times: io::Result<Vec<f64>> = rows.iter().map(|(_, messages)| decoder_time(messages)).collect();
     match times {
         Ok(times) => {

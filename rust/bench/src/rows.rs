@@ -1,20 +1,20 @@
 //! What the benchmark measures: for each call one row, which both programs work through on the same messages.
 
-pub mod ais;
+mod ais;
 pub mod desk;
-pub mod distress;
-pub mod listing;
-pub mod notice;
-pub mod packet;
-pub mod serial;
+mod distress;
+mod notice;
+mod packet;
+mod serial;
 
-use crate::inputs::Random;
-use crate::record::notice::Notice;
-use crate::record::Refusal;
+use bellnewt::notice::Notice;
+use record::Refusal;
 use std::hint::black_box;
+use trial::gpsd;
+use trial::inputs::{series, Random};
 
 /// How many distinct messages a row has, unless they are long.
-pub const MESSAGES: usize = 20_000;
+pub const MESSAGES: usize = gpsd::MESSAGES;
 
 /// Memory that the calls write to, the same for every message.
 pub struct Scratch {
@@ -82,16 +82,10 @@ pub fn row_of<T: Clone + 'static>(
     paper: impl Fn(&mut T, &mut Scratch) -> u8 + 'static,
 ) -> Row {
     let rounds = move || {
-        let messages = messages(name, count, message);
+        let messages = series(name, count, message);
         Rounds { proved: round(messages.clone(), proved), paper: round(messages, paper) }
     };
     Row { name, messages: count, rounds: Box::new(rounds) }
-}
-
-/// The messages of the row of that name.
-fn messages<T>(name: &str, count: usize, message: fn(&mut Random) -> T) -> Vec<T> {
-    let random = &mut Random::new(1, name, 0);
-    (0..count).map(|_| message(random)).collect()
 }
 
 /// A round is compiled for its call, so that nothing but the call stands between two messages.

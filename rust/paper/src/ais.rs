@@ -1,10 +1,12 @@
 //! The AIS messages (01, "AIS"; 003, 4.6 and 4.7): what the two share, and how many slots they need.
 
 mod area;
+mod body;
+mod time;
 mod warning;
 
 use super::{field, narrow, need, signed, within};
-use crate::record::{Ais, Area, Refusal, ShortTime, Time, Warning};
+use record::{Ais, Area, Refusal, Warning};
 
 /// What a message has of its own. Both have three fills. The fields up to a fill are all refused by 4, so that their
 /// order does not show, and they are judged together.
@@ -86,41 +88,4 @@ fn bytes_at<const N: usize>(message: &[u8], at: usize) -> [u8; N] {
     let mut bytes = [0; N];
     bytes.copy_from_slice(&message[at..at + N]);
     bytes
-}
-
-impl Time {
-    const WIDTH: u32 = 20;
-
-    fn of_bits(bits: u64) -> Time {
-        Time {
-            month: field(bits, 16, 4) as u8,
-            day: field(bits, 11, 5) as u8,
-            hour: field(bits, 6, 5) as u8,
-            minute: field(bits, 0, 6) as u8,
-        }
-    }
-
-    fn bits(&self) -> u64 {
-        u64::from(self.month) << 16 | u64::from(self.day) << 11 | u64::from(self.hour) << 6 | u64::from(self.minute)
-    }
-
-    fn good(&self) -> bool {
-        (self.month <= 12) & (self.day <= 31) & (self.hour <= 23) & (self.minute <= 59)
-    }
-}
-
-impl ShortTime {
-    const WIDTH: u32 = 14;
-
-    fn of_bits(bits: u64) -> ShortTime {
-        ShortTime { month: field(bits, 10, 4) as u8, day: field(bits, 5, 5) as u8, hour: field(bits, 0, 5) as u8 }
-    }
-
-    fn bits(&self) -> u64 {
-        u64::from(self.month) << 10 | u64::from(self.day) << 5 | u64::from(self.hour)
-    }
-
-    fn good(&self) -> bool {
-        (self.month <= 12) & (self.day <= 31) & (self.hour <= 23)
-    }
 }

@@ -1,7 +1,7 @@
 //! The day log's listing (01, "Day log listing").
 
 use super::{ais, distress, packet, serial};
-use crate::record::{code, Refusal};
+use record::{code, Refusal};
 use std::fmt::Write;
 
 /// A kind of record: its number in the log, its word in the listing, and what its family says of a body.

@@ -1,7 +1,7 @@
 //! The packet desk (01, "The desk").
 
 use super::{need, packet};
-use crate::record::{Accepted, Packet, Place, Refusal};
+use record::{Accepted, Packet, Place, Refusal};
 
 /// How many bytes or numbers an asking puts down.
 pub enum Answer {

@@ -1,7 +1,7 @@
 //! The distress report and its sentence (01, "Distress report"; 001, annex A).
 
 use super::{narrow, signed, within, xor, LARGEST_ADDRESS};
-use crate::record::{Refusal, Report};
+use record::{Refusal, Report};
 
 const CODE: [u8; 2] = [0xBD, 0xC1];
 

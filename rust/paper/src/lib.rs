@@ -1,5 +1,10 @@
-//! The independent program: what the papers ask for, in plain Rust, written from them and not from the proved code.
-//! It is the judge of the comparison and the measure of the benchmark.
+//! The independent program: what the papers ask for, in plain Rust.
+//!
+//! It is written from the papers and not from the proved code. It shares the records with it (`bellnewt-record`) and
+//! nothing else, and it does not link the library. It is the judge of the comparison and the measure of the benchmark.
+//!
+//! The numbers in brackets at the head of a module name the paper and the section that it is written from.
+#![forbid(unsafe_code)]
 
 pub mod ais;
 pub mod daylog;
@@ -9,7 +14,7 @@ pub mod notice;
 pub mod packet;
 pub mod serial;
 
-use crate::record::Refusal;
+use record::Refusal;
 
 const LARGEST_ADDRESS: u32 = 2_097_151;
 

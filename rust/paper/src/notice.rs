@@ -5,10 +5,17 @@ mod bits;
 mod text;
 
 use super::{field, narrow, need};
-use crate::record::notice::{Head, Notice};
-use crate::record::Refusal;
 use area::{walk, Part};
 use bits::Writer;
+use record::{Head, Refusal};
+
+/// The least and the most bytes of a notice.
+const LEAST: usize = 8;
+pub const GREATEST: usize = 12_978;
+/// The most areas.
+const MOST_AREAS: usize = 15;
+/// How many numbers reading puts into a row: the head's, how many areas, entries of areas and bytes of text.
+const ROW: usize = 10;
 
 /// The widths of the fields before the areas, in bit order: the head's, and how many areas there are.
 const WIDTHS: [u32; 8] = [5, 4, 14, 7, 4, 4, 21, 4];
@@ -33,7 +40,7 @@ struct Found {
 fn find(message: &[u8], language: u8) -> Result<Found, Refusal> {
     need(language <= 1, Refusal::RANGE)?;
     let first = message.first_chunk().ok_or(Refusal::SIZE)?;
-    need(message.len() <= Notice::GREATEST, Refusal::SIZE)?;
+    need(message.len() <= GREATEST, Refusal::SIZE)?;
     let (head, areas) = head_of(first);
     need(good_head(&head), Refusal::RANGE)?;
     let mut found = Found { head, areas, entries: 0, angles: 0, text_at: HEAD_BITS };
@@ -48,7 +55,7 @@ fn find(message: &[u8], language: u8) -> Result<Found, Refusal> {
 }
 
 /// The head and how many areas there are, from the bytes that hold them.
-fn head_of(first: &[u8; Notice::LEAST]) -> (Head, u32) {
+fn head_of(first: &[u8; LEAST]) -> (Head, u32) {
     let (bits, mut below) = (u64::from_be_bytes(*first), u64::BITS);
     let [source, station, serial, year, kind, subtype, expiry, areas] = WIDTHS.map(|width| {
         below -= width;
@@ -102,7 +109,7 @@ fn good_expiry(expiry: u32) -> bool {
 pub fn read(message: &[u8], language: u8, row: &mut [i64], areas: &mut [u32], text: &mut [u8]) -> Result<(), Refusal> {
     let found = find(message, language)?;
     let size = bits::bytes_from(message, found.text_at).len();
-    let row: &mut [i64; Notice::ROW] = row.first_chunk_mut().ok_or(Refusal::ROOM)?;
+    let row: &mut [i64; ROW] = row.first_chunk_mut().ok_or(Refusal::ROOM)?;
     let areas = areas.get_mut(..found.entries).ok_or(Refusal::ROOM)?;
     let text = text.get_mut(..size).ok_or(Refusal::ROOM)?;
 
@@ -122,7 +129,7 @@ pub fn read(message: &[u8], language: u8, row: &mut [i64], areas: &mut [u32], te
 /// Writes the notice of a head, of so many areas whose entries stand in a row, and of a text.
 pub fn write(buf: &mut [u8], language: u8, head: &Head, count: u8, areas: &[u32], text: &[u8]) -> Result<(), Refusal> {
     need(language <= 1 && good_head(head), Refusal::RANGE)?;
-    need(usize::from(count) <= Notice::AREAS, Refusal::RANGE)?;
+    need(usize::from(count) <= MOST_AREAS, Refusal::RANGE)?;
     let (mut entries, mut bits) = (0, HEAD_BITS);
     walk(count.into(), |part| {
         // What is missing counts as 0 until room is tested.
@@ -134,7 +141,7 @@ pub fn write(buf: &mut [u8], language: u8, head: &Head, count: u8, areas: &[u32]
     })?;
     need(text::good(text.iter().copied(), language), Refusal::RANGE)?;
     let size = bits.div_ceil(8) + text.len();
-    need(size <= Notice::GREATEST, Refusal::SIZE)?;
+    need(size <= GREATEST, Refusal::SIZE)?;
     let notice = buf.get_mut(..size).ok_or(Refusal::ROOM)?;
     need(entries <= areas.len(), Refusal::ROOM)?;
 

@@ -1,8 +1,7 @@
 //! The packet and the splitter (01, "Notice and packet"; 000, 5.2.2.2).
 
-use super::{narrow, need};
-use crate::record::notice::Notice;
-use crate::record::{Packet, Refusal};
+use super::{narrow, need, notice};
+use record::{Packet, Refusal};
 
 const TYPE: u8 = 0xE1;
 const VERSION: u8 = 1;
@@ -73,7 +72,7 @@ pub fn correct(packet: &mut [u8], field: usize, value: u64) -> Result<(), Refusa
 /// Makes the packet of that number, from 0 on, of a content.
 pub fn split(buf: &mut [u8], content: &[u8], language: u8, number: u8, packet: usize) -> Result<(), Refusal> {
     need(language <= 1, Refusal::RANGE)?;
-    need((1..=Notice::GREATEST).contains(&content.len()), Refusal::SIZE)?;
+    need((1..=notice::GREATEST).contains(&content.len()), Refusal::SIZE)?;
     let mut parts = content.chunks(Packet::CONTENT);
     let total = parts.len() as u8;
     let part = parts.nth(packet).ok_or(Refusal::RANGE)?;

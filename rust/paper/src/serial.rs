@@ -6,7 +6,7 @@ mod txsq;
 mod txxx;
 
 use super::{narrow, need, xor, LARGEST_ADDRESS};
-use crate::record::{Frame, Gljc, Refusal, Txhz, Txsq, Txxx};
+use record::{Frame, Gljc, Refusal, Txhz, Txsq, Txxx};
 use std::ops::RangeInclusive;
 
 /// What a kind of frame has of its own.

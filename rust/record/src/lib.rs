@@ -1,48 +1,30 @@
-//! What every call speaks of: refusal numbers and records.
+//! The records and refusal numbers of Bellnewt: plain types, and no calls.
+//!
+//! Two programs answer the same questions. One is the proved library, which the crate `bellnewt` wraps. The other is the
+//! independent program, the crate `paper`. Both take and give these records, so that their answers can be compared, and
+//! neither depends on the other. Nothing else is shared between them.
+//!
+//! A record may hold any values. Whether they are good is for a program to say, so no limit of a field is enforced here.
+//!
+//! A program that only wants to use the library depends on `bellnewt`, which exports all of this.
+#![forbid(unsafe_code)]
+#![warn(missing_docs)]
 
 mod ais;
 mod desk;
 mod distress;
-/// By its own name, since its areas are others than those of AIS.
-pub mod notice;
+mod notice;
 mod packet;
+mod refusal;
 mod serial;
 
 pub use ais::{Ais, Area, Body, Shape, ShortTime, Time, Warning};
-pub use desk::{Accepted, Asked, Place};
+pub use desk::{Accepted, Place};
 pub use distress::Report;
+pub use notice::Head;
 pub use packet::{Packet, CHINESE, ENGLISH};
+pub use refusal::{code, Refusal};
 pub use serial::{Frame, Gljc, Txhz, Txsq, Txxx};
 
-/// A refusal by its number in 01, "Refusal numbers".
-#[derive(Clone, Copy, PartialEq, Eq, Debug)]
-pub struct Refusal(pub u8);
-
-impl Refusal {
-    /// The input's size doesn't fit its layout or limits.
-    pub const SIZE: Refusal = Refusal(1);
-    /// Name, kind, version or application not handled.
-    pub const KIND: Refusal = Refusal(2);
-    pub const CHECKSUM: Refusal = Refusal(3);
-    /// A field outside its range, or a reserved code.
-    pub const RANGE: Refusal = Refusal(4);
-    /// A fill bit that isn't zero.
-    pub const FILL: Refusal = Refusal(5);
-    /// A lent buffer or row too short.
-    pub const ROOM: Refusal = Refusal(6);
-    /// Packet contradicts one already held.
-    pub const CONTRADICTS: Refusal = Refusal(7);
-    /// All places taken.
-    pub const TAKEN: Refusal = Refusal(8);
-    /// Notice not complete.
-    pub const INCOMPLETE: Refusal = Refusal(9);
-    /// No such field, or it decides the layout.
-    pub const FIELD: Refusal = Refusal(10);
-    /// No open notice of that number.
-    pub const UNKNOWN: Refusal = Refusal(11);
-}
-
-/// The number that a call answers in C: 0 where it is accepted.
-pub fn code(answer: Result<(), Refusal>) -> u8 {
-    answer.map_or_else(|Refusal(number)| number, |()| 0)
-}
+/// What a row that is too short for its record panics with.
+const SHORT: &str = "a row has an entry for each number";

@@ -1,5 +1,7 @@
-//! The families that are compared. A new one is a module here, with one each in `record`, `relay`, `paper`, `inputs`,
-//! `numbers` and `bench`.
+//! The families that are compared.
+//!
+//! A new one is a module here. It also needs one in `inputs` and `numbers`, and in each of the crates `record`,
+//! `bellnewt`, `paper` and `bench`.
 
 pub mod ais;
 pub mod desk;

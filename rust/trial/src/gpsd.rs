@@ -2,14 +2,31 @@
 //! is held against what the proved code reads. It knows neither application, so it shows their data as they are.
 
 use crate::harness::Tally;
+use crate::inputs::ais::any_good_message;
+use crate::inputs::series;
 use crate::numbers::ais::{AREAS, WARNINGS};
-use crate::record::{Area, Warning};
-use crate::relay::ais::read;
+use bellnewt::ais::read;
+use record::{Area, Warning};
 use std::io::{self, Write};
 use std::process::{Command, Stdio};
 use std::thread;
 
 pub const MISSING: &str = "gpsdecode is not installed";
+
+/// The benchmark's rows whose messages gpsd's decoder is given too, and how many messages each has.
+pub const WARNING_ROW: &str = "warning read";
+pub const AREA_ROW: &str = "area read";
+pub const MESSAGES: usize = 20_000;
+
+/// The messages of the row that reads warnings.
+pub fn warnings() -> Vec<Vec<u8>> {
+    series(WARNING_ROW, MESSAGES, any_good_message::<Warning>)
+}
+
+/// The messages of the row that reads areas.
+pub fn areas() -> Vec<Vec<u8>> {
+    series(AREA_ROW, MESSAGES, any_good_message::<Area>)
+}
 
 /// The sentences of messages, a line each.
 pub fn sentences(messages: &[Vec<u8>]) -> String {

@@ -58,6 +58,12 @@ impl Random {
     }
 }
 
+/// So many messages, which follow from a name alone. The rows of the benchmark are made so, by their names.
+pub fn series<T>(name: &str, count: usize, message: fn(&mut Random) -> T) -> Vec<T> {
+    let random = &mut Random::new(1, name, 0);
+    (0..count).map(|_| message(random)).collect()
+}
+
 const LARGEST_ADDRESS: u32 = 2_097_151;
 
 /// The most bytes that a damaged message grows by.

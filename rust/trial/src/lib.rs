@@ -1,17 +1,15 @@
-//! The proved calls for Rust (`relay`), and what holds them to the papers: an independent program (`paper`), inputs
-//! for both (`inputs`), the comparison of their answers (`harness`, `family`, `listing`, `numbers`), and of their speed
-//! (`bench`). AIS messages are held to another decoder too (`gpsd`).
-#![deny(unsafe_code)]
+//! Holds the proved calls to the papers.
+//!
+//! `inputs` makes good and damaged inputs from a seed. `family` has the calls of the library and of the independent
+//! program side by side, and `harness` gives both the same inputs and compares their answers. `listing` does that with
+//! the listing program. `numbers` asks for the numbers that 01 prints. `gpsd` holds AIS messages to another decoder.
+//! `sample` makes the sample day log.
+#![forbid(unsafe_code)]
 
-pub mod bench;
 pub mod family;
 pub mod gpsd;
 pub mod harness;
 pub mod inputs;
 pub mod listing;
 pub mod numbers;
-pub mod paper;
-pub mod record;
-#[allow(unsafe_code)]
-pub mod relay;
 pub mod sample;

@@ -2,14 +2,14 @@
 
 use crate::harness::{self, Call, Counts, Options, Tally};
 use crate::inputs::{daylog, Random};
-use crate::paper::daylog::{listing, KINDS};
 use crate::sample;
+use paper::daylog::{listing, KINDS};
 use std::io::{self, Write};
 use std::process::{ChildStdin, Command, Stdio};
 use std::{fs, thread};
 
-const PROGRAM: &str = concat!(env!("CARGO_MANIFEST_DIR"), "/../target/bin/listing");
-const EMULATE: &str = concat!(env!("CARGO_MANIFEST_DIR"), "/emulate");
+const PROGRAM: &str = concat!(env!("CARGO_MANIFEST_DIR"), "/../../target/bin/listing");
+const EMULATE: &str = concat!(env!("CARGO_MANIFEST_DIR"), "/../emulate");
 
 /// The words of a listing's lines as a family's calls, with the numbers that a line of each can have.
 const NAME: &str = "listing";

@@ -1,4 +1,5 @@
-//! The sample day log, samples/day.log. `cargo run --release --offline --bin sample` writes it and its listing.
+//! The sample day log, samples/day.log. `cargo run --release --offline --bin sample` in
+//! rust/ writes it and its listing.
 
 use crate::inputs::daylog::{record, AIS, DISTRESS, PACKET, SERIAL};
 use crate::numbers::ais::{with_bytes, AREAS, WARNINGS};
@@ -6,12 +7,12 @@ use crate::numbers::distress::{example_with_longitude, EXAMPLE};
 use crate::numbers::notice::{BARE, CHINESE_NOTICE, WARNING};
 use crate::numbers::packet::{packet, HEAD, LAST_HEAD};
 use crate::numbers::serial::{CHECK, CHECK_AS_PRINTED, REQUEST};
-use crate::paper::serial::Kind;
-use crate::paper::{distress, serial};
-use crate::record::{Report, Txhz, Txxx};
+use paper::serial::Kind;
+use paper::{distress, serial};
+use record::{Report, Txhz, Txxx};
 
-pub const LOG: &str = concat!(env!("CARGO_MANIFEST_DIR"), "/../samples/day.log");
-pub const LISTING: &str = concat!(env!("CARGO_MANIFEST_DIR"), "/../samples/day.txt");
+pub const LOG: &str = concat!(env!("CARGO_MANIFEST_DIR"), "/../../samples/day.log");
+pub const LISTING: &str = concat!(env!("CARGO_MANIFEST_DIR"), "/../../samples/day.txt");
 
 /// Every field that has a "none" is none.
 const NONE: Report = Report {

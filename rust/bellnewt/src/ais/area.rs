@@ -1,7 +1,8 @@
 //! Message 6 with application 412/11.
 
-use super::{Correct, Kind, Read};
-use crate::record::{Area, Shape};
+use super::Kind;
+use crate::call::{Calls, Correct, Read};
+use record::{Area, Shape};
 
 extern "C" {
     fn bellnewt_area_read(s: *const u8, len: usize, row: *mut i64, row_len: usize) -> u8;
@@ -52,58 +53,48 @@ extern "C" {
 }
 
 // SAFETY: both calls are the library's.
-unsafe impl Kind for Area {
+unsafe impl Calls for Area {
     const READ: Read = bellnewt_area_read;
     const CORRECT: Correct = bellnewt_area_correct;
+}
 
+/// Calls one of the writings: the numbers before the shape's, the shape's, and those after them.
+macro_rules! put {
+    ($write:ident, $area:ident, $buf:ident, $($number:ident),*) => {
+        // SAFETY: see `call`.
+        unsafe {
+            $write(
+                $buf.as_mut_ptr(),
+                $buf.len(),
+                $area.repeat,
+                $area.source,
+                $area.sequence,
+                $area.destination,
+                $area.resent,
+                $area.kind,
+                $area.longitude,
+                $area.latitude,
+                $($number,)*
+                $area.time.month,
+                $area.time.day,
+                $area.time.hour,
+                $area.time.minute,
+                $area.second_time.month,
+                $area.second_time.day,
+                $area.second_time.hour,
+                $area.advice,
+            )
+        }
+    };
+}
+
+impl Kind for Area {
     #[inline]
     fn put(&self, buf: &mut [u8]) -> u8 {
-        // SAFETY: see `relay`.
-        unsafe {
-            match self.shape {
-                Shape::Circle { radius } => bellnewt_circle_write(
-                    buf.as_mut_ptr(),
-                    buf.len(),
-                    self.repeat,
-                    self.source,
-                    self.sequence,
-                    self.destination,
-                    self.resent,
-                    self.kind,
-                    self.longitude,
-                    self.latitude,
-                    radius,
-                    self.time.month,
-                    self.time.day,
-                    self.time.hour,
-                    self.time.minute,
-                    self.second_time.month,
-                    self.second_time.day,
-                    self.second_time.hour,
-                    self.advice,
-                ),
-                Shape::Rectangle { longitude, latitude } => bellnewt_rectangle_write(
-                    buf.as_mut_ptr(),
-                    buf.len(),
-                    self.repeat,
-                    self.source,
-                    self.sequence,
-                    self.destination,
-                    self.resent,
-                    self.kind,
-                    self.longitude,
-                    self.latitude,
-                    longitude,
-                    latitude,
-                    self.time.month,
-                    self.time.day,
-                    self.time.hour,
-                    self.time.minute,
-                    self.second_time.month,
-                    self.second_time.day,
-                    self.second_time.hour,
-                    self.advice,
-                ),
+        match self.shape {
+            Shape::Circle { radius } => put!(bellnewt_circle_write, self, buf, radius),
+            Shape::Rectangle { longitude, latitude } => {
+                put!(bellnewt_rectangle_write, self, buf, longitude, latitude)
             }
         }
     }

@@ -1,7 +1,8 @@
 //! Message 8 with application 412/03.
 
-use super::{Correct, Kind, Read};
-use crate::record::{Body, Warning};
+use super::Kind;
+use crate::call::{Calls, Correct, Read};
+use record::{Body, Warning};
 
 extern "C" {
     fn bellnewt_warning_read(s: *const u8, len: usize, row: *mut i64, row_len: usize) -> u8;
@@ -94,102 +95,61 @@ extern "C" {
 }
 
 // SAFETY: both calls are the library's.
-unsafe impl Kind for Warning {
+unsafe impl Calls for Warning {
     const READ: Read = bellnewt_warning_read;
     const CORRECT: Correct = bellnewt_warning_correct;
+}
 
+/// Calls one of the writings: the numbers before the body's, the body's, and those after them.
+macro_rules! put {
+    ($write:ident, $warning:ident, $buf:ident, $($number:ident),*) => {
+        // SAFETY: see `call`.
+        unsafe {
+            $write(
+                $buf.as_mut_ptr(),
+                $buf.len(),
+                $warning.repeat,
+                $warning.source,
+                $warning.longitude,
+                $warning.latitude,
+                $($number,)*
+                $warning.time.month,
+                $warning.time.day,
+                $warning.time.hour,
+                $warning.time.minute,
+                $warning.hours,
+            )
+        }
+    };
+}
+
+impl Kind for Warning {
     #[inline]
     fn put(&self, buf: &mut [u8]) -> u8 {
-        // SAFETY: see `relay`.
-        unsafe {
-            match self.body {
-                Body::Cyclone { kind, gale_radius, storm_radius, speed, direction, force, pressure } => {
-                    bellnewt_cyclone_write(
-                        buf.as_mut_ptr(),
-                        buf.len(),
-                        self.repeat,
-                        self.source,
-                        self.longitude,
-                        self.latitude,
-                        kind,
-                        gale_radius,
-                        storm_radius,
-                        speed,
-                        direction,
-                        force,
-                        pressure,
-                        self.time.month,
-                        self.time.day,
-                        self.time.hour,
-                        self.time.minute,
-                        self.hours,
-                    )
-                }
-                Body::Gale { radius, least, greatest, direction } => bellnewt_gale_write(
-                    buf.as_mut_ptr(),
-                    buf.len(),
-                    self.repeat,
-                    self.source,
-                    self.longitude,
-                    self.latitude,
-                    radius,
-                    least,
-                    greatest,
+        match self.body {
+            Body::Cyclone { kind, gale_radius, storm_radius, speed, direction, force, pressure } => {
+                put!(
+                    bellnewt_cyclone_write,
+                    self,
+                    buf,
+                    kind,
+                    gale_radius,
+                    storm_radius,
+                    speed,
                     direction,
-                    self.time.month,
-                    self.time.day,
-                    self.time.hour,
-                    self.time.minute,
-                    self.hours,
-                ),
-                Body::Waves { radius, height, period } => bellnewt_waves_write(
-                    buf.as_mut_ptr(),
-                    buf.len(),
-                    self.repeat,
-                    self.source,
-                    self.longitude,
-                    self.latitude,
-                    radius,
-                    height,
-                    period,
-                    self.time.month,
-                    self.time.day,
-                    self.time.hour,
-                    self.time.minute,
-                    self.hours,
-                ),
-                Body::Fog { radius, visibility } => bellnewt_fog_write(
-                    buf.as_mut_ptr(),
-                    buf.len(),
-                    self.repeat,
-                    self.source,
-                    self.longitude,
-                    self.latitude,
-                    radius,
-                    visibility,
-                    self.time.month,
-                    self.time.day,
-                    self.time.hour,
-                    self.time.minute,
-                    self.hours,
-                ),
-                Body::Surge { radius, rise, tide, period } => bellnewt_surge_write(
-                    buf.as_mut_ptr(),
-                    buf.len(),
-                    self.repeat,
-                    self.source,
-                    self.longitude,
-                    self.latitude,
-                    radius,
-                    rise,
-                    tide,
-                    period,
-                    self.time.month,
-                    self.time.day,
-                    self.time.hour,
-                    self.time.minute,
-                    self.hours,
-                ),
+                    force,
+                    pressure
+                )
+            }
+            Body::Gale { radius, least, greatest, direction } => {
+                put!(bellnewt_gale_write, self, buf, radius, least, greatest, direction)
+            }
+            Body::Waves { radius, height, period } => {
+                put!(bellnewt_waves_write, self, buf, radius, height, period)
+            }
+            Body::Fog { radius, visibility } => put!(bellnewt_fog_write, self, buf, radius, visibility),
+            Body::Surge { radius, rise, tide, period } => {
+                put!(bellnewt_surge_write, self, buf, radius, rise, tide, period)
             }
         }
     }

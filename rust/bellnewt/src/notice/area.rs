@@ -1,44 +1,51 @@
-//! The areas of a notice, and the row of numbers that lends them: one area behind another, each opened by its kind.
+//! The areas of a notice, and the row of numbers that they are lent as: one area after another, its kind first.
 
 use super::spelled;
 
 /// An area of a notice.
 #[derive(Clone, PartialEq, Eq, Debug)]
 pub enum Area {
-    /// A sea area by its code.
-    Sea { code: u8 },
-    /// At least one point.
+    /// A sea area that has a code.
+    Sea {
+        /// Its code.
+        code: u8,
+    },
+    /// Single points: 1 to 15.
     Points(Vec<Point>),
-    /// At least two points.
+    /// A line of 2 to 15 points.
     Line(Vec<Point>),
+    /// A circle.
     Circle {
+        /// Its centre.
         centre: Point,
-        /// 0 to 1,023.
+        /// 0 to 1,023 of its unit.
         radius: u16,
         /// 0 metres, 1 kilometres, 2 nautical miles.
         unit: u8,
     },
-    /// At least three points.
+    /// A polygon of 3 to 15 points.
     Polygon(Vec<Point>),
 }
 
-/// A point by the numbers that the bits of its latitude, 21, and longitude, 22, spell.
+/// A point, by the numbers that its bits spell. [`Point::new`] makes one of two angles.
 #[derive(Clone, Copy, PartialEq, Eq, Debug)]
 pub struct Point {
+    /// The number of its 21 bits: south 1, degrees 7, minutes 6, hundredths 7.
     pub latitude: u32,
+    /// The number of its 22 bits: west 1, degrees 8, minutes 6, hundredths 7.
     pub longitude: u32,
 }
 
-/// A latitude or longitude in its parts. South and north of no degrees are two angles.
+/// A latitude or a longitude in its parts. 0 degrees south and 0 degrees north are different angles.
 #[derive(Clone, Copy, PartialEq, Eq, Debug)]
 pub struct Angle {
-    /// South or west.
+    /// Whether it is south or west.
     pub negative: bool,
     /// 0 to 90 of a latitude, 0 to 180 of a longitude.
     pub degrees: u8,
     /// 0 to 60.
     pub minutes: u8,
-    /// 0 to 99.
+    /// Hundredths of a minute, 0 to 99.
     pub hundredths: u8,
 }
 
@@ -47,15 +54,17 @@ const LATITUDE_DEGREES: u32 = 7;
 const LONGITUDE_DEGREES: u32 = 8;
 
 impl Point {
-    /// The point of two angles. A part too wide for its bits makes a number too wide for its field, which is refused.
+    /// The point of two angles. A part too wide for its bits makes a number that every call refuses.
     pub fn new(latitude: Angle, longitude: Angle) -> Point {
         Point { latitude: latitude.number(LATITUDE_DEGREES), longitude: longitude.number(LONGITUDE_DEGREES) }
     }
 
+    /// The latitude in its parts.
     pub fn latitude_parts(&self) -> Angle {
         Angle::of_number(self.latitude, LATITUDE_DEGREES)
     }
 
+    /// The longitude in its parts.
     pub fn longitude_parts(&self) -> Angle {
         Angle::of_number(self.longitude, LONGITUDE_DEGREES)
     }
@@ -78,13 +87,18 @@ impl Angle {
 }
 
 impl Area {
+    /// The kind of a sea area.
     pub const SEA: u32 = 0;
+    /// The kind of single points.
     pub const POINTS: u32 = 1;
+    /// The kind of a line.
     pub const LINE: u32 = 2;
+    /// The kind of a circle.
     pub const CIRCLE: u32 = 3;
+    /// The kind of a polygon.
     pub const POLYGON: u32 = 4;
 
-    /// The area's points; a circle's is its centre.
+    /// The area's points. A circle's is its centre; a sea area has none.
     pub fn points(&self) -> &[Point] {
         match self {
             Area::Sea { .. } => &[],
@@ -93,6 +107,7 @@ impl Area {
         }
     }
 
+    /// The number of the area's kind.
     pub fn kind(&self) -> u32 {
         match self {
             Area::Sea { .. } => Area::SEA,
@@ -128,6 +143,10 @@ impl Area {
     }
 
     /// The areas of a row that a reading filled.
+    ///
+    /// # Panics
+    ///
+    /// If the row is not one that a reading can fill.
     pub fn list(row: &[u32]) -> Vec<Area> {
         let mut entries = row.iter().copied();
         let mut areas = Vec::new();

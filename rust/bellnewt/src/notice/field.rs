@@ -2,44 +2,61 @@
 
 use super::Area;
 
-/// A field. Areas, and the points of one, are counted from 0; a circle's centre is its point 0.
+/// A field of a notice that can be corrected.
+///
+/// Areas, and the points of an area, are counted from 0. A circle's centre is its point 0.
 #[derive(Clone, Copy, PartialEq, Eq, Debug)]
 pub enum Field {
+    /// Who gives the notice, 1 to 21.
     Source,
+    /// Who broadcasts it, 1 to 3.
     Station,
+    /// The serial number, 1 to 9,999.
     Serial,
+    /// The last two digits of the year.
     Year,
+    /// The type, 1 to 8.
     Kind,
+    /// The subtype, which has to fit the type.
     Subtype,
-    /// The value is `Expiry::number`.
+    /// When it ends. The value is [`Expiry::number`](super::Expiry::number), or 0 for not known.
     Expiry,
-    /// Of a sea area.
+    /// A sea area's code.
     Code {
+        /// Which area.
         area: usize,
     },
-    /// The values of a latitude and a longitude are those of `Point`.
+    /// A point's latitude. The value is that of [`Point::latitude`](super::Point::latitude).
     Latitude {
+        /// Which area.
         area: usize,
+        /// Which of its points.
         point: usize,
     },
+    /// A point's longitude. The value is that of [`Point::longitude`](super::Point::longitude).
     Longitude {
+        /// Which area.
         area: usize,
+        /// Which of its points.
         point: usize,
     },
-    /// Of a circle.
+    /// A circle's radius, 0 to 1,023.
     Radius {
+        /// Which area.
         area: usize,
     },
+    /// The unit of a circle's radius.
     Unit {
+        /// Which area.
         area: usize,
     },
 }
 
 impl Field {
-    /// The number of the first entry of the areas.
+    /// The field number of the first entry of the areas. The others follow it.
     pub const FIRST_ENTRY: usize = 8;
 
-    /// The number that a correction names the field by, if these areas have it.
+    /// The field's number in a notice that has these areas; none if they do not have the field.
     pub fn number(&self, areas: &[Area]) -> Option<usize> {
         match *self {
             Field::Source => Some(0),

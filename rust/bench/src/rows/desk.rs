@@ -1,13 +1,13 @@
 //! The packet desk: the greatest notice, taken in packet by packet and asked for.
 
 use super::{Rounds, Row};
-use crate::family::desk::Calls;
-use crate::family::{Paper, Proved};
-use crate::inputs::Random;
-use crate::paper::packet;
-use crate::record::notice::Notice;
-use crate::record::{Packet, Place, ENGLISH};
+use bellnewt::notice::Notice;
+use paper::packet;
+use record::{Packet, Place, ENGLISH};
 use std::hint::black_box;
+use trial::family::desk::Calls;
+use trial::family::{Paper, Proved};
+use trial::inputs::Random;
 
 pub const ACCEPT: &str = "desk accept";
 pub const ASK: &str = "desk ask";

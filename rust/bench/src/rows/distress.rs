@@ -1,11 +1,11 @@
 //! The distress report and its sentence.
 
 use super::{row, Correction, Row, Scratch};
-use crate::family::distress::Calls;
-use crate::family::{Paper, Proved};
-use crate::inputs::{distress as inputs, Random};
-use crate::paper::distress;
-use crate::record::Report;
+use paper::distress;
+use record::Report;
+use trial::family::distress::Calls;
+use trial::family::{Paper, Proved};
+use trial::inputs::{distress as inputs, Random};
 
 type Message = [u8; Report::BYTES];
 

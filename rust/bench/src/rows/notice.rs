@@ -1,11 +1,11 @@
 //! The notice and its outline, and how the reading's time grows with the notice.
 
 use super::{row, row_of, Correction, Row, Scratch, MESSAGES};
-use crate::family::notice::Calls;
-use crate::family::{Paper, Proved};
-use crate::inputs::{notice as inputs, Random};
-use crate::paper::notice;
-use crate::record::notice::{Head, Notice};
+use bellnewt::notice::{Head, Notice};
+use paper::notice;
+use trial::family::notice::Calls;
+use trial::family::{Paper, Proved};
+use trial::inputs::{notice as inputs, Random};
 
 /// A notice's bytes and its language.
 #[derive(Clone, PartialEq)]

@@ -1,12 +1,12 @@
 //! The packet and the splitter.
 
 use super::{row, Correction, Row, Scratch};
-use crate::family::packet::Calls;
-use crate::family::{Paper, Proved};
-use crate::inputs::packet::Split;
-use crate::inputs::{packet as inputs, Random};
-use crate::paper::packet;
-use crate::record::Packet;
+use paper::packet;
+use record::Packet;
+use trial::family::packet::Calls;
+use trial::family::{Paper, Proved};
+use trial::inputs::packet::Split;
+use trial::inputs::{packet as inputs, Random};
 
 /// What is split: a content of two packets and a part of a third.
 const CONTENT: usize = 500;

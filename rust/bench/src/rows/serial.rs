@@ -1,11 +1,11 @@
 //! The serial frames.
 
 use super::{row, Correction, Row, Scratch};
-use crate::family::serial::{Calls, Kind};
-use crate::family::{Paper, Proved};
-use crate::inputs::{serial as inputs, Random};
-use crate::paper::serial;
-use crate::record::{Gljc, Txhz, Txsq, Txxx};
+use paper::serial;
+use record::{Gljc, Txhz, Txsq, Txxx};
+use trial::family::serial::{Calls, Kind};
+use trial::family::{Paper, Proved};
+use trial::inputs::{serial as inputs, Random};
 
 pub fn rows() -> Vec<Row> {
     let kinds = [

@@ -1,8 +1,9 @@
 //! Message 6 with application 412/11 (003, tables 4 and 38 to 40; the last fill as in table 81, without which the bits
 //! are not the 176 that both print).
 
+use super::time::TimeField;
 use super::{bytes_at, field, narrow, signed, within, Kind, LARGEST_MMSI, SMALLEST};
-use crate::record::{Ais, Area, Refusal, Shape, ShortTime, Time};
+use record::{Ais, Area, Refusal, Shape, ShortTime, Time};
 
 pub const MESSAGE: u8 = 6;
 /// 412 in ten bits, 11 in six.
@@ -54,7 +55,7 @@ impl Kind for Area {
                 & (self.sequence <= 3)
                 & (self.destination <= LARGEST_MMSI)
                 & (self.resent <= 1),
-            (1..=14).contains(&self.kind) & good_position(self.longitude, self.latitude) & self.shape.good(),
+            (1..=14).contains(&self.kind) & good_position(self.longitude, self.latitude) & good_shape(&self.shape),
             self.time.good() & self.second_time.good() & (1..=6).contains(&self.advice),
         ]
     }
@@ -65,7 +66,7 @@ impl Kind for Area {
             | u64::from(self.sequence) << 32
             | u64::from(self.destination) << 2
             | u64::from(self.resent) << 1;
-        let place = u128::from(position(self.longitude, self.latitude)) << 55 | u128::from(self.shape.bits());
+        let place = u128::from(position(self.longitude, self.latitude)) << 55 | u128::from(shape_bits(&self.shape));
         let start = u128::from(self.kind) << 124 | u128::from(self.shape.kind()) << 122 | place << 12;
         let end =
             (place as u64) << 44 | self.time.bits() << 24 | self.second_time.bits() << 10 | u64::from(self.advice) << 6;
@@ -105,22 +106,20 @@ impl Kind for Area {
     }
 }
 
-impl Shape {
-    /// The 55 bits after the position.
-    #[inline]
-    fn bits(&self) -> u64 {
-        match *self {
-            Shape::Circle { radius } => u64::from(radius) << 48,
-            Shape::Rectangle { longitude, latitude } => position(longitude, latitude),
-        }
+/// The 55 bits after the position.
+#[inline]
+fn shape_bits(shape: &Shape) -> u64 {
+    match *shape {
+        Shape::Circle { radius } => u64::from(radius) << 48,
+        Shape::Rectangle { longitude, latitude } => position(longitude, latitude),
     }
+}
 
-    #[inline]
-    fn good(&self) -> bool {
-        match *self {
-            Shape::Circle { radius } => radius < 1 << 7,
-            Shape::Rectangle { longitude, latitude } => good_position(longitude, latitude),
-        }
+#[inline]
+fn good_shape(shape: &Shape) -> bool {
+    match *shape {
+        Shape::Circle { radius } => radius < 1 << 7,
+        Shape::Rectangle { longitude, latitude } => good_position(longitude, latitude),
     }
 }
 

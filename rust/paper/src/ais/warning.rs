@@ -1,7 +1,8 @@
 //! Message 8 with application 412/03 (003, tables 5 and 56 to 62).
 
-use super::{bytes_at, field, narrow, Kind, LARGEST_MMSI, SMALLEST};
-use crate::record::{Ais, Body, Refusal, Time, Warning};
+use super::time::TimeField;
+use super::{body, bytes_at, field, narrow, Kind, LARGEST_MMSI, SMALLEST};
+use record::{Ais, Refusal, Time, Warning};
 
 pub const MESSAGE: u8 = 8;
 /// 412 in ten bits, 3 in six.
@@ -21,7 +22,7 @@ impl Kind for Warning {
         let source = u32::from_be_bytes(bytes_at(message, 1));
         let rest = u128::from_be_bytes(bytes_at(message, 7));
         let (high, low) = ((rest >> 64) as u64, rest as u64);
-        let (body, body_fill) = Body::of_bits(message[7] >> 4, field((rest >> 28) as u64, 0, 50));
+        let (body, body_fill) = body::of_bits(message[7] >> 4, field((rest >> 28) as u64, 0, 50));
         let warning = Warning {
             repeat: message[0] & 3,
             source: source >> 2,
@@ -38,7 +39,7 @@ impl Kind for Warning {
     fn good(&self) -> [bool; 3] {
         [
             (self.repeat <= 3) & (self.source <= LARGEST_MMSI),
-            (self.longitude <= FARTHEST) & (self.latitude <= FARTHEST) & self.body.good(),
+            (self.longitude <= FARTHEST) & (self.latitude <= FARTHEST) & body::good(&self.body),
             self.time.good() & (self.hours <= 48),
         ]
     }
@@ -48,7 +49,7 @@ impl Kind for Warning {
         let rest = u128::from(self.body.kind()) << 124
             | u128::from(self.longitude) << 101
             | u128::from(self.latitude) << 78
-            | u128::from(self.body.bits()) << 28
+            | u128::from(body::bits(&self.body)) << 28
             | u128::from(self.time.bits()) << 8
             | u128::from(self.hours) << 2;
         message[0] = MESSAGE << 2 | self.repeat;
@@ -70,140 +71,7 @@ impl Kind for Warning {
             Warning::LATITUDE => self.latitude = narrow(value, 23)? as u32,
             Warning::TIME => self.time = Time::of_bits(narrow(value, Time::WIDTH)?),
             Warning::HOURS => self.hours = narrow(value, 6)? as u8,
-            _ => self.body.change(field, value)?,
-        }
-        Ok(())
-    }
-}
-
-impl Body {
-    /// The body of a warning type, whose fifty bits follow the position, and the bits of its fill.
-    #[inline]
-    fn of_bits(kind: u8, bits: u64) -> (Body, u64) {
-        let field = |below: u32, width: u32| field(bits, below, width);
-        match kind {
-            1 => {
-                let cyclone = Body::Cyclone {
-                    kind: field(47, 3) as u8,
-                    gale_radius: field(38, 9) as u16,
-                    storm_radius: field(29, 9) as u16,
-                    speed: field(23, 6) as u8,
-                    direction: field(14, 9) as u16,
-                    force: field(9, 5) as u8,
-                    pressure: field(0, 9) as u16,
-                };
-                (cyclone, 0)
-            }
-            2 => {
-                let gale = Body::Gale {
-                    radius: field(42, 8) as u8,
-                    least: field(37, 5) as u8,
-                    greatest: field(32, 5) as u8,
-                    direction: field(28, 4) as u8,
-                };
-                (gale, field(0, 28))
-            }
-            3 => {
-                let waves = Body::Waves {
-                    radius: field(42, 8) as u8,
-                    height: field(37, 5) as u8,
-                    period: field(24, 13) as u16,
-                };
-                (waves, field(0, 24))
-            }
-            4 => (Body::Fog { radius: field(41, 9) as u16, visibility: field(33, 8) as u8 }, field(0, 33)),
-            _ => {
-                let surge = Body::Surge {
-                    radius: field(41, 9) as u16,
-                    rise: field(32, 9) as u16,
-                    tide: field(22, 10) as u16,
-                    period: field(9, 13) as u16,
-                };
-                (surge, field(0, 9))
-            }
-        }
-    }
-
-    /// The fifty bits of a good body.
-    #[inline]
-    fn bits(&self) -> u64 {
-        match *self {
-            Body::Cyclone { kind, gale_radius, storm_radius, speed, direction, force, pressure } => {
-                u64::from(kind) << 47
-                    | u64::from(gale_radius) << 38
-                    | u64::from(storm_radius) << 29
-                    | u64::from(speed) << 23
-                    | u64::from(direction) << 14
-                    | u64::from(force) << 9
-                    | u64::from(pressure)
-            }
-            Body::Gale { radius, least, greatest, direction } => {
-                u64::from(radius) << 42
-                    | u64::from(least) << 37
-                    | u64::from(greatest) << 32
-                    | u64::from(direction) << 28
-            }
-            Body::Waves { radius, height, period } => {
-                u64::from(radius) << 42 | u64::from(height) << 37 | u64::from(period) << 24
-            }
-            Body::Fog { radius, visibility } => u64::from(radius) << 41 | u64::from(visibility) << 33,
-            Body::Surge { radius, rise, tide, period } => {
-                u64::from(radius) << 41 | u64::from(rise) << 32 | u64::from(tide) << 22 | u64::from(period) << 9
-            }
-        }
-    }
-
-    /// What is carried need only fit its bits.
-    #[inline]
-    fn good(&self) -> bool {
-        match *self {
-            Body::Cyclone { kind, gale_radius, storm_radius, speed, direction, force, pressure } => {
-                (1..=4).contains(&kind)
-                    & (gale_radius < 1 << 9)
-                    & (storm_radius < 1 << 9)
-                    & (speed < 1 << 6)
-                    & (direction < 1 << 9)
-                    & (force < 1 << 5)
-                    & (pressure < 1 << 9)
-            }
-            Body::Gale { radius: _, least, greatest, direction } => {
-                (least < 1 << 5) & (greatest < 1 << 5) & (1..=8).contains(&direction)
-            }
-            Body::Waves { radius: _, height, period } => (height < 1 << 5) & (period < 1 << 13),
-            Body::Fog { radius, visibility } => (radius < 1 << 9) & (visibility <= 250),
-            Body::Surge { radius, rise, tide, period } => {
-                (radius < 1 << 9) & (rise < 1 << 9) & (tide < 1 << 10) & (period < 1 << 13)
-            }
-        }
-    }
-
-    fn change(&mut self, field: usize, value: u64) -> Result<(), Refusal> {
-        match (field, self) {
-            (Warning::CYCLONE_KIND, Body::Cyclone { kind, .. }) => *kind = narrow(value, 3)? as u8,
-            (Warning::CYCLONE_GALE_RADIUS, Body::Cyclone { gale_radius, .. }) => {
-                *gale_radius = narrow(value, 9)? as u16
-            }
-            (Warning::CYCLONE_STORM_RADIUS, Body::Cyclone { storm_radius, .. }) => {
-                *storm_radius = narrow(value, 9)? as u16
-            }
-            (Warning::CYCLONE_SPEED, Body::Cyclone { speed, .. }) => *speed = narrow(value, 6)? as u8,
-            (Warning::CYCLONE_DIRECTION, Body::Cyclone { direction, .. }) => *direction = narrow(value, 9)? as u16,
-            (Warning::CYCLONE_FORCE, Body::Cyclone { force, .. }) => *force = narrow(value, 5)? as u8,
-            (Warning::CYCLONE_PRESSURE, Body::Cyclone { pressure, .. }) => *pressure = narrow(value, 9)? as u16,
-            (Warning::GALE_RADIUS, Body::Gale { radius, .. }) => *radius = narrow(value, 8)? as u8,
-            (Warning::GALE_LEAST, Body::Gale { least, .. }) => *least = narrow(value, 5)? as u8,
-            (Warning::GALE_GREATEST, Body::Gale { greatest, .. }) => *greatest = narrow(value, 5)? as u8,
-            (Warning::GALE_DIRECTION, Body::Gale { direction, .. }) => *direction = narrow(value, 4)? as u8,
-            (Warning::WAVES_RADIUS, Body::Waves { radius, .. }) => *radius = narrow(value, 8)? as u8,
-            (Warning::WAVES_HEIGHT, Body::Waves { height, .. }) => *height = narrow(value, 5)? as u8,
-            (Warning::WAVES_PERIOD, Body::Waves { period, .. }) => *period = narrow(value, 13)? as u16,
-            (Warning::FOG_RADIUS, Body::Fog { radius, .. }) => *radius = narrow(value, 9)? as u16,
-            (Warning::FOG_VISIBILITY, Body::Fog { visibility, .. }) => *visibility = narrow(value, 8)? as u8,
-            (Warning::SURGE_RADIUS, Body::Surge { radius, .. }) => *radius = narrow(value, 9)? as u16,
-            (Warning::SURGE_RISE, Body::Surge { rise, .. }) => *rise = narrow(value, 9)? as u16,
-            (Warning::SURGE_TIDE, Body::Surge { tide, .. }) => *tide = narrow(value, 10)? as u16,
-            (Warning::SURGE_PERIOD, Body::Surge { period, .. }) => *period = narrow(value, 13)? as u16,
-            _ => return Err(Refusal::FIELD),
+            _ => body::change(&mut self.body, field, value)?,
         }
         Ok(())
     }

@@ -1,9 +1,15 @@
 //! The areas of a notice (000, tables 7 to 9).
 
 use super::bits;
-use crate::paper::{field, need};
-use crate::record::notice::Area;
-use crate::record::Refusal;
+use crate::{field, need};
+use record::Refusal;
+
+/// The kinds of area.
+const SEA: u32 = 0;
+const POINTS: u32 = 1;
+const LINE: u32 = 2;
+const CIRCLE: u32 = 3;
+const POLYGON: u32 = 4;
 
 /// A number of an area.
 #[derive(Clone, Copy, PartialEq)]
@@ -22,19 +28,19 @@ pub enum Part {
 pub fn walk(areas: u32, mut next: impl FnMut(Part) -> Result<u32, Refusal>) -> Result<(), Refusal> {
     for _ in 0..areas {
         let least = match next(Part::Kind)? {
-            Area::SEA => {
+            SEA => {
                 next(Part::Code)?;
                 continue;
             }
-            Area::CIRCLE => {
+            CIRCLE => {
                 walk_points(1, &mut next)?;
                 next(Part::Radius)?;
                 next(Part::Unit)?;
                 continue;
             }
-            Area::POINTS => 1,
-            Area::LINE => 2,
-            Area::POLYGON => 3,
+            POINTS => 1,
+            LINE => 2,
+            POLYGON => 3,
             _ => return Err(Refusal::RANGE),
         };
         let points = next(Part::Count)?;

@@ -1,6 +1,6 @@
 //! The characters of a notice's text.
 
-use crate::record::ENGLISH;
+use record::ENGLISH;
 
 /// English text is of plain characters alone, Chinese of those and of pairs.
 pub fn good(mut text: impl Iterator<Item = u8>, language: u8) -> bool {

@@ -1,7 +1,7 @@
 //! GLJC (004, 4.2.1).
 
 use super::{narrow, need, need_address, put_u24, u24_at, Kind};
-use crate::record::{Frame, Gljc, Refusal};
+use record::{Frame, Gljc, Refusal};
 use std::ops::RangeInclusive;
 
 impl Kind for Gljc {

@@ -1,29 +1,27 @@
 //! TXHZ (004, 4.4.4).
 
 use super::{narrow, need, need_address, need_time, put_u24, run, u24_at, Kind};
-use crate::record::{Frame, Refusal, Txhz};
+use record::{Frame, Refusal, Txhz};
 use std::ops::RangeInclusive;
 
 /// A receipt's bytes.
 const RECEIPT: usize = 4;
 
-impl Txhz {
-    /// How many bytes the counted receipts have.
-    fn counted(&self) -> usize {
-        RECEIPT * usize::from(self.count)
-    }
+/// How many bytes the counted receipts have.
+fn counted(record: &Txhz) -> usize {
+    RECEIPT * usize::from(record.count)
+}
 
-    /// Changes a byte of the counted receipts.
-    fn change_receipt(&self, frame: &mut [u8], field: usize, value: u64) -> Result<(), Refusal> {
-        let at = field.wrapping_sub(Txhz::FIRST_RECEIPT);
-        need(at < self.counted(), Refusal::FIELD)?;
-        let mut receipts = [0; Txhz::RECEIPTS];
-        receipts.copy_from_slice(run::<Txhz>(frame));
-        receipts[at] = narrow(value, 8)? as u8;
-        self.judge(&receipts)?;
-        frame[Txhz::RUN + at] = receipts[at];
-        Ok(())
-    }
+/// Changes a byte of the counted receipts.
+fn change_receipt(record: &Txhz, frame: &mut [u8], field: usize, value: u64) -> Result<(), Refusal> {
+    let at = field.wrapping_sub(Txhz::FIRST_RECEIPT);
+    need(at < counted(record), Refusal::FIELD)?;
+    let mut receipts = [0; Txhz::RECEIPTS];
+    receipts.copy_from_slice(run::<Txhz>(frame));
+    receipts[at] = narrow(value, 8)? as u8;
+    record.judge(&receipts)?;
+    frame[Txhz::RUN + at] = receipts[at];
+    Ok(())
 }
 
 impl Kind for Txhz {
@@ -38,7 +36,7 @@ impl Kind for Txhz {
         need_address(self.address)?;
         need_address(self.receiver)?;
         need(self.count <= 5, Refusal::RANGE)?;
-        let (counted, fill) = receipts.split_at(self.counted());
+        let (counted, fill) = receipts.split_at(counted(self));
         counted.chunks_exact(2).try_for_each(|time| need_time(time[0], time[1]))?;
         need(fill.iter().all(|byte| *byte == 0), Refusal::FILL)
     }
@@ -61,7 +59,7 @@ impl Kind for Txhz {
             Txhz::ADDRESS => self.address = narrow(value, 24)? as u32,
             Txhz::RECEIVER => self.receiver = narrow(value, 24)? as u32,
             Txhz::COUNT => self.count = narrow(value, 8)? as u8,
-            _ => return self.change_receipt(frame, field, value),
+            _ => return change_receipt(&self, frame, field, value),
         }
         self.replace(frame)
     }

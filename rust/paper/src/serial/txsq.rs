@@ -1,7 +1,7 @@
 //! TXSQ (004, 4.2.3).
 
 use super::{narrow, need, need_address, need_bytes, need_fill, put_u24, u16_at, u24_at, Kind, LONGEST};
-use crate::record::{Frame, Refusal, Txsq};
+use record::{Frame, Refusal, Txsq};
 use std::ops::RangeInclusive;
 
 /// The class's first four bits: 010, key 0.

@@ -1,7 +1,7 @@
 //! TXXX (004, 4.4.3).
 
 use super::{narrow, need, need_address, need_bytes, need_fill, need_time, put_u24, u16_at, u24_at, Kind, LONGEST};
-use crate::record::{Frame, Refusal, Txxx};
+use record::{Frame, Refusal, Txxx};
 use std::ops::RangeInclusive;
 
 impl Kind for Txxx {

@@ -1,8 +1,8 @@
 //! Holds the proved code to the independent program: `check [--seed N] [--inputs N]`.
 
-use bellnewt::harness::{Options, Tally};
-use bellnewt::{family, gpsd, listing, numbers};
 use std::process::ExitCode;
+use trial::harness::{Options, Tally};
+use trial::{family, gpsd, listing, numbers};
 
 /// The options of the command line, or what is wrong with it.
 fn options() -> Result<Options, String> {

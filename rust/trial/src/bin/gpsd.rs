@@ -2,10 +2,9 @@
 //! repeat, source, destination, sequence, resent, application and data. Where gpsdecode (Debian: gpsd-clients) is not
 //! installed, it says so and ends well.
 
-use bellnewt::bench::ais::{areas, warnings};
-use bellnewt::gpsd::{decode, faults, sentences, Head, MISSING};
 use std::io;
 use std::process::ExitCode;
+use trial::gpsd::{areas, decode, faults, sentences, warnings, Head, MISSING};
 
 /// How many differing messages are shown.
 const SHOWN: usize = 3;

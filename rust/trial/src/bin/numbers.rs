@@ -2,14 +2,14 @@
 //! what goes in, the number answered, and what comes out. `./test` holds the lines to samples/numbers.txt, which is
 //! written from 01 by hand and not by this program.
 
-use bellnewt::numbers::desk::{packets, NUMBER};
-use bellnewt::numbers::distress::{example_with_longitude, EXAMPLE, EXAMPLE_REPORT};
-use bellnewt::numbers::notice::{outermost, BARE, BARE_HEAD};
-use bellnewt::numbers::packet::{packet, HEAD, HEAD_RECORD};
-use bellnewt::numbers::serial::{CHECK, CHECK_AS_PRINTED, REQUEST};
-use bellnewt::record::notice::{Angle, Area, Field, Head, Notice, Point};
-use bellnewt::record::{code, Gljc, Packet, Place, Refusal, Report, Txsq, CHINESE};
-use bellnewt::relay::{ais, desk, distress, notice, packet as packets_of, serial};
+use bellnewt::notice::{Angle, Area, Field, Head, Notice, Point};
+use bellnewt::{ais, desk, distress, notice, packet as packets_of, serial};
+use record::{code, Gljc, Packet, Place, Refusal, Report, Txsq, CHINESE};
+use trial::numbers::desk::{packets, NUMBER};
+use trial::numbers::distress::{example_with_longitude, EXAMPLE, EXAMPLE_REPORT};
+use trial::numbers::notice::{outermost, BARE, BARE_HEAD};
+use trial::numbers::packet::{packet, HEAD, HEAD_RECORD};
+use trial::numbers::serial::{CHECK, CHECK_AS_PRINTED, REQUEST};
 
 /// The longitude of a report that has none.
 const NO_LONGITUDE: i32 = 10_860_000;

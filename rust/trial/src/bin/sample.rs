@@ -1,7 +1,7 @@
 //! Writes samples/day.log, and samples/day.txt as the independent program lists it.
 
-use bellnewt::{paper, sample};
 use std::{fs, io};
+use trial::sample;
 
 fn main() -> io::Result<()> {
     let log = sample::day_log();

@@ -4,8 +4,7 @@
 use super::{Paper, Proved};
 use crate::harness::{self, Call, Family, Guarded, Options, Tally};
 use crate::inputs::{ais as inputs, room, spare, Random};
-use crate::record::{code, Ais, Area, Warning};
-use crate::{paper, relay};
+use record::{code, Ais, Area, Warning};
 use std::marker::PhantomData;
 
 /// The calls of a message, each as in C but for slices and the record, whose type or shape says which writing is meant.
@@ -15,17 +14,17 @@ pub trait Calls<M: Ais> {
     fn correct(message: &mut [u8], field: usize, value: u64) -> u8;
 }
 
-impl<M: relay::ais::Kind> Calls<M> for Proved {
+impl<M: bellnewt::ais::Kind> Calls<M> for Proved {
     fn read(message: &[u8], row: &mut [i64]) -> u8 {
-        code(relay::ais::read_row::<M>(message, row))
+        code(bellnewt::ais::read_row::<M>(message, row))
     }
 
     fn write(buf: &mut [u8], record: &M) -> u8 {
-        code(relay::ais::write(buf, record))
+        code(bellnewt::ais::write(buf, record))
     }
 
     fn correct(message: &mut [u8], field: usize, value: u64) -> u8 {
-        code(relay::ais::correct::<M>(message, field, value))
+        code(bellnewt::ais::correct::<M>(message, field, value))
     }
 }
 
@@ -53,7 +52,7 @@ pub trait SlotCall {
 
 impl SlotCall for Proved {
     fn slots(message: u8, bytes: usize, slots: &mut u8) -> u8 {
-        code(relay::ais::count_slots(message, bytes, slots))
+        code(bellnewt::ais::count_slots(message, bytes, slots))
     }
 }
 
@@ -65,7 +64,7 @@ impl SlotCall for Paper {
 }
 
 /// A message that both programs know.
-pub trait Kind: inputs::Kind + relay::ais::Kind + paper::ais::Kind {
+pub trait Kind: inputs::Kind + bellnewt::ais::Kind + paper::ais::Kind {
     const NAME: &'static str;
     /// Reading, the writing of each type or shape, and correcting.
     const CALLS: &'static [Call];

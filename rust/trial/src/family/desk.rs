@@ -5,10 +5,9 @@ use super::{Paper, Proved};
 use crate::harness::{self, Call, Counts, Guarded, Options, Tally};
 use crate::inputs::desk::{self as inputs, Request, Traffic};
 use crate::inputs::Random;
-use crate::paper::desk::{self as paper, Answer};
-use crate::record::notice::Notice;
-use crate::record::{code, Accepted, Place, Refusal};
-use crate::relay;
+use bellnewt::notice::Notice;
+use paper::desk::Answer;
+use record::{code, Accepted, Place, Refusal};
 
 /// The desk's calls, each as in C but for slices, and for the places: the independent program has its own.
 pub trait Calls {
@@ -44,7 +43,7 @@ impl Calls for Proved {
     }
 
     fn accept(places: &mut [u8], store: &mut [u8], packet: &[u8], again: &mut u8) -> u8 {
-        code(relay::desk::accept_in(places, store, packet, again))
+        code(bellnewt::desk::accept_in(places, store, packet, again))
     }
 
     fn ask(
@@ -56,11 +55,11 @@ impl Calls for Proved {
         count: &mut usize,
         language: &mut u8,
     ) -> u8 {
-        code(relay::desk::ask_in(places, store, number, notice, missing, count, language))
+        code(bellnewt::desk::ask_in(places, store, number, notice, missing, count, language))
     }
 
     fn drop(places: &mut [u8], store: &[u8], number: u8) -> u8 {
-        code(relay::desk::drop_in(places, store, number))
+        code(bellnewt::desk::drop_in(places, store, number))
     }
 }
 
@@ -77,7 +76,7 @@ impl Calls for Paper {
 
     #[inline(never)]
     fn accept(places: &mut [Place], store: &mut [u8], packet: &[u8], again: &mut u8) -> u8 {
-        let accepted = paper::accept(places, store, packet);
+        let accepted = paper::desk::accept(places, store, packet);
         code(accepted.map(|accepted| *again = u8::from(accepted == Accepted::Again)))
     }
 
@@ -91,7 +90,7 @@ impl Calls for Paper {
         count: &mut usize,
         language: &mut u8,
     ) -> u8 {
-        code(paper::ask(places, store, number, notice, missing).and_then(|answer| match answer {
+        code(paper::desk::ask(places, store, number, notice, missing).and_then(|answer| match answer {
             Answer::Complete { bytes, language: spoken } => {
                 (*count, *language) = (bytes, spoken);
                 Ok(())
@@ -105,7 +104,7 @@ impl Calls for Paper {
 
     #[inline(never)]
     fn drop(places: &mut [Place], store: &[u8], number: u8) -> u8 {
-        code(paper::drop(places, store, number))
+        code(paper::desk::drop(places, store, number))
     }
 }
 

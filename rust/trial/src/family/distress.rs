@@ -3,8 +3,7 @@
 use super::{Paper, Proved};
 use crate::harness::{Call, Family, Guarded};
 use crate::inputs::{distress as inputs, room, spare, Random};
-use crate::record::{code, Report};
-use crate::{paper, relay};
+use record::{code, Report};
 
 /// The family's calls, each as in C but for slices and the report.
 pub trait Calls {
@@ -17,23 +16,23 @@ pub trait Calls {
 
 impl Calls for Proved {
     fn read(message: &[u8], row: &mut [i64]) -> u8 {
-        code(relay::distress::read_row(message, row))
+        code(bellnewt::distress::read_row(message, row))
     }
 
     fn write(buf: &mut [u8], report: &Report) -> u8 {
-        code(relay::distress::write(buf, report))
+        code(bellnewt::distress::write(buf, report))
     }
 
     fn correct(message: &mut [u8], field: usize, value: u64) -> u8 {
-        code(relay::distress::correct(message, field, value))
+        code(bellnewt::distress::correct(message, field, value))
     }
 
     fn read_sentence(sentence: &[u8], row: &mut [i64]) -> u8 {
-        code(relay::distress::read_sentence_row(sentence, row))
+        code(bellnewt::distress::read_sentence_row(sentence, row))
     }
 
     fn write_sentence(buf: &mut [u8], size: &mut usize, address: u32, report: &Report) -> u8 {
-        code(relay::distress::write_sentence_sized(buf, size, address, report))
+        code(bellnewt::distress::write_sentence_sized(buf, size, address, report))
     }
 }
 

@@ -3,9 +3,8 @@
 use super::{Paper, Proved};
 use crate::harness::{Call, Family, Guarded};
 use crate::inputs::{notice as inputs, spare, Random};
-use crate::record::code;
-use crate::record::notice::{Head, Notice};
-use crate::{paper, relay};
+use bellnewt::notice::{Head, Notice};
+use record::code;
 
 /// The family's calls, each as in C but for slices and the head.
 pub trait Calls {
@@ -17,19 +16,19 @@ pub trait Calls {
 
 impl Calls for Proved {
     fn read(message: &[u8], language: u8, row: &mut [i64], areas: &mut [u32], text: &mut [u8]) -> u8 {
-        code(relay::notice::read_row(message, language, row, areas, text))
+        code(bellnewt::notice::read_row(message, language, row, areas, text))
     }
 
     fn write(buf: &mut [u8], language: u8, head: &Head, count: u8, areas: &[u32], text: &[u8]) -> u8 {
-        code(relay::notice::write_row(buf, language, head, count, areas, text))
+        code(bellnewt::notice::write_row(buf, language, head, count, areas, text))
     }
 
     fn correct(message: &mut [u8], language: u8, field: usize, value: u64) -> u8 {
-        code(relay::notice::correct_field(message, language, field, value))
+        code(bellnewt::notice::correct_field(message, language, field, value))
     }
 
     fn outline(message: &[u8], language: u8, row: &mut [i32], points: &mut usize) -> u8 {
-        code(relay::notice::outline_row(message, language, row, points))
+        code(bellnewt::notice::outline_row(message, language, row, points))
     }
 }
 

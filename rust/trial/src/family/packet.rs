@@ -3,8 +3,7 @@
 use super::{Paper, Proved};
 use crate::harness::{Call, Family, Guarded};
 use crate::inputs::{packet as inputs, room, spare, Random};
-use crate::record::{code, Packet};
-use crate::{paper, relay};
+use record::{code, Packet};
 
 /// The family's calls, each as in C but for slices and the record. `numbers` asks what follows each of the 256 message
 /// numbers.
@@ -18,23 +17,23 @@ pub trait Calls {
 
 impl Calls for Proved {
     fn read(packet: &[u8], row: &mut [i64]) -> u8 {
-        code(relay::packet::read_row(packet, row))
+        code(bellnewt::packet::read_row(packet, row))
     }
 
     fn write(buf: &mut [u8], record: &Packet, content: &[u8]) -> u8 {
-        code(relay::packet::write(buf, record, content))
+        code(bellnewt::packet::write(buf, record, content))
     }
 
     fn correct(packet: &mut [u8], field: usize, value: u64) -> u8 {
-        code(relay::packet::correct(packet, field, value))
+        code(bellnewt::packet::correct(packet, field, value))
     }
 
     fn split(buf: &mut [u8], content: &[u8], language: u8, number: u8, packet: usize) -> u8 {
-        code(relay::packet::split(buf, content, language, number, packet))
+        code(bellnewt::packet::split(buf, content, language, number, packet))
     }
 
     fn next_number(number: u8) -> u8 {
-        relay::packet::next_number(number)
+        bellnewt::packet::next_number(number)
     }
 }
 

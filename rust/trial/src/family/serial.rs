@@ -3,8 +3,7 @@
 use super::{Paper, Proved};
 use crate::harness::{self, Call, Family, Guarded, Options, Tally};
 use crate::inputs::{room, serial as inputs, spare, Random};
-use crate::record::{code, Frame, Gljc, Txhz, Txsq, Txxx};
-use crate::{paper, relay};
+use record::{code, Frame, Gljc, Txhz, Txsq, Txxx};
 use std::marker::PhantomData;
 
 /// The calls of a kind of frame, each as in C but for slices and the record.
@@ -14,17 +13,17 @@ pub trait Calls<F: Frame> {
     fn correct(frame: &mut [u8], field: usize, value: u64) -> u8;
 }
 
-impl<F: relay::serial::Kind> Calls<F> for Proved {
+impl<F: bellnewt::serial::Kind> Calls<F> for Proved {
     fn read(frame: &[u8], row: &mut [i64]) -> u8 {
-        code(relay::serial::read_row::<F>(frame, row))
+        code(bellnewt::serial::read_row::<F>(frame, row))
     }
 
     fn write(buf: &mut [u8], record: &F, run: &[u8]) -> u8 {
-        code(relay::serial::write(buf, record, run))
+        code(bellnewt::serial::write(buf, record, run))
     }
 
     fn correct(frame: &mut [u8], field: usize, value: u64) -> u8 {
-        code(relay::serial::correct::<F>(frame, field, value))
+        code(bellnewt::serial::correct::<F>(frame, field, value))
     }
 }
 
@@ -46,7 +45,7 @@ impl<F: paper::serial::Kind> Calls<F> for Paper {
 }
 
 /// A kind of frame that both programs know.
-pub trait Kind: inputs::Kind + relay::serial::Kind + paper::serial::Kind {
+pub trait Kind: inputs::Kind + bellnewt::serial::Kind + paper::serial::Kind {
     /// Of reading, writing and correcting.
     const CALLS: &'static [Call] = &[
         Call { name: "read", numbers: &[0, 1, 2, 3, 4, 5, 6] },

@@ -5,7 +5,7 @@ mod warning;
 
 use super::field::{field, field_number, pack, put_anywhere, put_at_edges, Field};
 use super::{damage, Random};
-use crate::record::{Ais, Area, Warning};
+use record::{Ais, Area, Warning};
 
 /// What the inputs of a message are made by.
 pub trait Kind: Ais {
@@ -166,6 +166,12 @@ fn spell(layout: &[Piece], numbers: &[i64]) -> Vec<u8> {
 pub fn good_message<M: Kind>(random: &mut Random, variant: usize) -> Vec<u8> {
     let layout = M::LAYOUTS[variant];
     spell(layout, &good_numbers(random, layout))
+}
+
+/// The bytes of a good message of any type or shape.
+pub fn any_good_message<M: Kind>(random: &mut Random) -> Vec<u8> {
+    let variant = random.below(M::LAYOUTS.len());
+    good_message::<M>(random, variant)
 }
 
 /// Where one of the pieces stands that `is` picks.

@@ -2,8 +2,8 @@
 //! every way that a refusal answers.
 
 use super::{damage, Random};
-use crate::paper::packet;
-use crate::record::{Packet, Place, ENGLISH};
+use paper::packet;
+use record::{Packet, Place, ENGLISH};
 
 /// The least message numbers of a sequence, and the most: more than there are places.
 const NUMBERS: [i64; 2] = [2, 6];

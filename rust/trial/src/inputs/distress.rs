@@ -2,7 +2,7 @@
 
 use super::field::{field, field_number, pack, put_anywhere, put_at_edges, Field};
 use super::{damage, Random, LARGEST_ADDRESS};
-use crate::record::Report;
+use record::Report;
 use std::iter::once;
 
 const CODE: u64 = 0xBDC1;

@@ -5,8 +5,8 @@ mod text;
 
 use super::field::{field, field_number, pack, put_anywhere, Field, Parts};
 use super::{damage, language, room, Random, LONGEST_TAIL};
-use crate::record::notice::{Field as NoticeField, Head, Notice};
 use area::Entry;
+use bellnewt::notice::{Field as NoticeField, Head, Notice};
 
 /// The numbers of the head in bit order. Which subtypes are good hangs on the type.
 const HEAD: [Parts; 7] = [
@@ -38,7 +38,7 @@ const HEAD_BITS: u32 = 63;
 #[derive(Clone)]
 pub struct Draft {
     pub language: u8,
-    head: [i64; HEAD.len()],
+    head: [i64; Head::ROW],
     /// How many areas it says that it has.
     count: i64,
     entries: Vec<Entry>,
@@ -162,9 +162,7 @@ impl Draft {
     }
 
     pub fn head(&self) -> Head {
-        let mut row = [0; Notice::ROW];
-        row[..self.head.len()].copy_from_slice(&self.head);
-        Head::of_row(&row)
+        Head::of_row(&self.head)
     }
 
     pub fn count(&self) -> u8 {

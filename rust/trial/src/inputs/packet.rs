@@ -2,8 +2,8 @@
 
 use super::field::{field, field_number, pack, put_anywhere, put_at_edges, Field};
 use super::{damage, language, Random};
-use crate::record::notice::Notice;
-use crate::record::Packet;
+use bellnewt::notice::Notice;
+use record::Packet;
 
 /// The fields before the content in bit order, so that each stands at its own number.
 const FIELDS: [Field; 6] = [

@@ -2,7 +2,7 @@
 
 use super::field::{field, field_number, pack, put_anywhere, put_at_edges, Field};
 use super::{damage, Random, LARGEST_ADDRESS};
-use crate::record::{Frame, Gljc, Txhz, Txsq, Txxx};
+use record::{Frame, Gljc, Txhz, Txsq, Txxx};
 
 /// What the inputs of a kind of frame are made by.
 pub trait Kind: Frame {

@@ -4,8 +4,8 @@
 use crate::family::ais::{Calls, Kind, SlotCall};
 use crate::family::{Paper, Proved};
 use crate::harness::Tally;
-use crate::record::{Ais, Area, Body, Refusal, Shape, ShortTime, Time, Warning};
-use crate::relay::ais::{correct, read, slots, write};
+use bellnewt::ais::{correct, read, slots, write};
+use record::{Ais, Area, Body, Refusal, Shape, ShortTime, Time, Warning};
 
 const TIME: Time = Time { month: 8, day: 27, hour: 6, minute: 30 };
 

@@ -5,9 +5,9 @@ use super::packet::packet;
 use crate::family::desk::Calls;
 use crate::family::{Paper, Proved};
 use crate::harness::Tally;
-use crate::record::notice::Notice;
-use crate::record::{Accepted, Asked, Packet, Place, Refusal, ENGLISH};
-use crate::relay::desk::Desk;
+use bellnewt::desk::{Asked, Desk};
+use bellnewt::notice::Notice;
+use record::{Accepted, Packet, Place, Refusal, ENGLISH};
 
 /// English, number 7, three packets: the head of the one of that number.
 fn head(own: u8) -> [u8; Packet::HEAD] {

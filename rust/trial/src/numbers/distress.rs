@@ -3,8 +3,7 @@
 use crate::family::distress::Calls;
 use crate::family::{Paper, Proved};
 use crate::harness::Tally;
-use crate::record::{Refusal, Report};
-use crate::relay;
+use record::{Refusal, Report};
 
 /// Case C: the report in the example of 001, A.2.
 pub const EXAMPLE: [u8; Report::BYTES] =
@@ -90,7 +89,7 @@ fn longitude<C: Calls>(case: &str, longitude: i32, spelled: [u8; 4], due: u8, ta
 
 /// The wrapper's calls over records.
 fn wrapped(tally: &mut Tally) {
-    use relay::distress::{read, read_sentence, write_sentence};
+    use bellnewt::distress::{read, read_sentence, write_sentence};
     tally.same("wrapper: case C", read(&EXAMPLE), Ok(EXAMPLE_REPORT));
     tally.same("wrapper: no bytes", read(&[]), Err(Refusal::SIZE));
     tally.same("wrapper: sentence", read_sentence(SENTENCE), Ok((ADDRESS, EXAMPLE_REPORT)));

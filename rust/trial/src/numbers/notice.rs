@@ -5,9 +5,8 @@ use super::ais::with_bytes;
 use crate::family::notice::Calls;
 use crate::family::{Paper, Proved};
 use crate::harness::Tally;
-use crate::record::notice::{Angle, Area, Expiry, Field, Head, Notice, Point};
-use crate::record::{Refusal, CHINESE, ENGLISH};
-use crate::relay;
+use bellnewt::notice::{Angle, Area, Expiry, Field, Head, Notice, Point};
+use record::{Refusal, CHINESE, ENGLISH};
 
 /// Case G.
 pub const BARE: [u8; 8] = [0x20, 0x80, 0x02, 0x61, 0x18, 0x00, 0x00, 0x00];
@@ -299,7 +298,7 @@ fn outlines<C: Calls>(who: &str, tally: &mut Tally) {
 
 /// The wrapper's calls over records.
 fn wrapped(tally: &mut Tally) {
-    use relay::notice::{outline, read, write};
+    use bellnewt::notice::{outline, read, write};
     for (case, message, language, notice) in notices() {
         tally.same(&format!("wrapper: {case}"), read(message, language), Ok(notice.clone()));
         tally.same(&format!("wrapper: {case}, its size"), notice.bytes(), message.len());
@@ -318,7 +317,7 @@ fn wrapped(tally: &mut Tally) {
 
 /// Fields corrected by their names.
 fn wrapped_corrections(tally: &mut Tally) {
-    use relay::notice::{correct, read};
+    use bellnewt::notice::{correct, read};
     let mut bytes = WARNING;
     for (field, value, due) in [
         (Field::Year, 25, Ok(())),

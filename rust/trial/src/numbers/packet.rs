@@ -5,9 +5,8 @@ use super::notice::BARE;
 use crate::family::packet::Calls;
 use crate::family::{Paper, Proved};
 use crate::harness::Tally;
-use crate::record::notice::Notice;
-use crate::record::{Packet, Refusal, CHINESE, ENGLISH};
-use crate::relay;
+use bellnewt::notice::Notice;
+use record::{Packet, Refusal, CHINESE, ENGLISH};
 
 /// Case I.
 pub const HEAD: [u8; Packet::HEAD] = [0xE1, 0x20, 0x70, 0x40];
@@ -141,7 +140,7 @@ fn splits<C: Calls>(who: &str, tally: &mut Tally) {
 
 /// The wrapper's calls over records.
 fn wrapped(tally: &mut Tally) {
-    use relay::packet::{correct, next_number, packets, read, write};
+    use bellnewt::packet::{correct, next_number, packets, read, write};
     let mut bytes = packet(HEAD, &BARE);
     tally.same("wrapper: case I", read(&bytes), Ok((HEAD_RECORD, &BARE[..])));
     let content = read(&bytes).map_or(&[][..], |(_, content)| content);

@@ -3,8 +3,8 @@
 use crate::family::serial::{Calls, Kind};
 use crate::family::{Paper, Proved};
 use crate::harness::Tally;
-use crate::record::{Frame, Gljc, Refusal, Txsq};
-use crate::relay::serial::{correct, read, write};
+use bellnewt::serial::{correct, read, write};
+use record::{Frame, Gljc, Refusal, Txsq};
 
 /// Case A.
 pub const REQUEST: [u8; 20] = [

@@ -2,7 +2,7 @@
 
 use super::{field, Field, Kind, Piece};
 use super::{ABSENT, COUNTRY, DAY, HOUR, MINUTE, MMSI, MONTH, REPEAT, SECOND_TIME, SOURCE, TIME};
-use crate::record::Area;
+use record::Area;
 
 const ADDRESSED: Piece = Piece::code(6, &[6]);
 const APPLICATION: Piece = Piece::code(6, &[11]);

@@ -2,7 +2,7 @@
 
 use super::{field, Field, Kind, Piece};
 use super::{ABSENT, COUNTRY, DAY, HOUR, MINUTE, MONTH, REPEAT, SOURCE, TIME};
-use crate::record::Warning;
+use record::Warning;
 
 const BROADCAST: Piece = Piece::code(6, &[8]);
 const APPLICATION: Piece = Piece::code(6, &[3]);

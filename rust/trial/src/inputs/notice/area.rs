@@ -2,7 +2,7 @@
 
 use crate::inputs::field::{field, Field, Parts};
 use crate::inputs::Random;
-use crate::record::notice::{Area, Notice};
+use bellnewt::notice::{Area, Notice};
 use std::ptr;
 
 /// An entry of the row that lends the areas: which number it is, and what it is.

@@ -1,7 +1,7 @@
 //! The text of a notice.
 
 use crate::inputs::Random;
-use crate::record::ENGLISH;
+use record::ENGLISH;
 
 /// A good text of so many bytes.
 pub fn good_text(random: &mut Random, language: u8, size: usize) -> Vec<u8> {

@@ -1,0 +1,50 @@
+//! Times of the year.
+
+use super::field;
+use record::{ShortTime, Time};
+
+/// A time that stands in a message as one field.
+pub trait TimeField {
+    const WIDTH: u32;
+
+    fn of_bits(bits: u64) -> Self;
+    fn bits(&self) -> u64;
+    fn good(&self) -> bool;
+}
+
+impl TimeField for Time {
+    const WIDTH: u32 = 20;
+
+    fn of_bits(bits: u64) -> Time {
+        Time {
+            month: field(bits, 16, 4) as u8,
+            day: field(bits, 11, 5) as u8,
+            hour: field(bits, 6, 5) as u8,
+            minute: field(bits, 0, 6) as u8,
+        }
+    }
+
+    fn bits(&self) -> u64 {
+        u64::from(self.month) << 16 | u64::from(self.day) << 11 | u64::from(self.hour) << 6 | u64::from(self.minute)
+    }
+
+    fn good(&self) -> bool {
+        (self.month <= 12) & (self.day <= 31) & (self.hour <= 23) & (self.minute <= 59)
+    }
+}
+
+impl TimeField for ShortTime {
+    const WIDTH: u32 = 14;
+
+    fn of_bits(bits: u64) -> ShortTime {
+        ShortTime { month: field(bits, 10, 4) as u8, day: field(bits, 5, 5) as u8, hour: field(bits, 0, 5) as u8 }
+    }
+
+    fn bits(&self) -> u64 {
+        u64::from(self.month) << 10 | u64::from(self.day) << 5 | u64::from(self.hour)
+    }
+
+    fn good(&self) -> bool {
+        (self.month <= 12) & (self.day <= 31) & (self.hour <= 23)
+    }
+}
