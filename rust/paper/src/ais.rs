@@ -73,6 +73,7 @@ pub fn correct<M: Kind>(message: &mut [u8], field: usize, value: u64) -> Result<
 }
 
 /// How many slots so many data bytes need.
+#[inline]
 pub fn slots(message: u8, bytes: usize) -> Result<u8, Refusal> {
     let limits = match message {
         area::MESSAGE => [8, 36, 64, 92, 117],

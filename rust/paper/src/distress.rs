@@ -135,6 +135,7 @@ pub fn read_sentence(sentence: &[u8]) -> Result<(u32, Report), Refusal> {
     Ok((address, read(&message)?))
 }
 
+#[inline]
 pub fn read_sentence_row(sentence: &[u8], row: &mut [i64]) -> Result<(), Refusal> {
     let (address, report) = read_sentence(sentence)?;
     let row: &mut [i64; 1 + Report::ROW] = row.first_chunk_mut().ok_or(Refusal::ROOM)?;

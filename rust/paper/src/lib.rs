@@ -4,6 +4,8 @@
 //! nothing else, and it does not link the library. It is the judge of the comparison and the measure of the benchmark.
 //!
 //! The numbers in brackets at the head of a module name the paper and the section that it is written from.
+//!
+//! Functions that a comparison of speed depends on are `#[inline]`, so that they are compiled where they are measured.
 #![forbid(unsafe_code)]
 
 pub mod ais;
@@ -18,6 +20,7 @@ use record::Refusal;
 
 const LARGEST_ADDRESS: u32 = 2_097_151;
 
+#[inline]
 fn need(holds: bool, refusal: Refusal) -> Result<(), Refusal> {
     if holds {
         Ok(())
@@ -27,28 +30,33 @@ fn need(holds: bool, refusal: Refusal) -> Result<(), Refusal> {
 }
 
 /// The `width` bits of a number that have `below` bits below them.
+#[inline]
 fn field(number: u64, below: u32, width: u32) -> u64 {
     number >> below & ((1 << width) - 1)
 }
 
 /// A corrected field's new value, if its bits can spell it.
+#[inline]
 fn narrow(value: u64, width: u32) -> Result<u64, Refusal> {
     need(value >> width == 0, Refusal::RANGE)?;
     Ok(value)
 }
 
 /// The number that `width` bits spell in two's complement.
+#[inline]
 fn signed(bits: u64, width: u32) -> i32 {
     let unused = 32 - width;
     (bits as i32) << unused >> unused
 }
 
 /// A longitude or latitude in its range, or none.
+#[inline]
 fn within(position: i32, bound: u32, none: i32) -> bool {
     (position.unsigned_abs() <= bound) | (position == none)
 }
 
 /// The checksum of serial frames and sentences.
+#[inline]
 fn xor(bytes: &[u8]) -> u8 {
     bytes.iter().fold(0, |sum, byte| sum ^ byte)
 }

@@ -7,6 +7,7 @@ const TYPE: u8 = 0xE1;
 const VERSION: u8 = 1;
 
 /// Reads a packet: its numbers, and the content as a part of it.
+#[inline]
 pub fn read(packet: &[u8]) -> Result<(Packet, &[u8]), Refusal> {
     let &[kind, a, b, c, _] = packet.first_chunk().ok_or(Refusal::SIZE)?;
     need(kind == TYPE && a >> 5 == VERSION, Refusal::KIND)?;
@@ -17,6 +18,7 @@ pub fn read(packet: &[u8]) -> Result<(Packet, &[u8]), Refusal> {
     Ok((record, content))
 }
 
+#[inline]
 pub fn read_row(packet: &[u8], row: &mut [i64]) -> Result<(), Refusal> {
     let (record, content) = read(packet)?;
     let row: &mut [i64; Packet::ROW] = row.first_chunk_mut().ok_or(Refusal::ROOM)?;
@@ -32,11 +34,13 @@ pub fn read_row(packet: &[u8], row: &mut [i64]) -> Result<(), Refusal> {
 }
 
 /// The fields stand in their ranges.
+#[inline]
 fn good(record: &Packet) -> bool {
     record.language <= 1 && (1..=63).contains(&record.total) && record.own < record.total
 }
 
 /// The bytes before the content of a good packet.
+#[inline]
 fn head(record: &Packet) -> [u8; Packet::HEAD] {
     [
         TYPE,
@@ -46,6 +50,7 @@ fn head(record: &Packet) -> [u8; Packet::HEAD] {
     ]
 }
 
+#[inline]
 pub fn write(buf: &mut [u8], record: &Packet, content: &[u8]) -> Result<(), Refusal> {
     need(good(record), Refusal::RANGE)?;
     need((1..=Packet::CONTENT).contains(&content.len()), Refusal::SIZE)?;
@@ -70,6 +75,7 @@ pub fn correct(packet: &mut [u8], field: usize, value: u64) -> Result<(), Refusa
 }
 
 /// Makes the packet of that number, from 0 on, of a content.
+#[inline]
 pub fn split(buf: &mut [u8], content: &[u8], language: u8, number: u8, packet: usize) -> Result<(), Refusal> {
     need(language <= 1, Refusal::RANGE)?;
     need((1..=notice::GREATEST).contains(&content.len()), Refusal::SIZE)?;
@@ -80,6 +86,7 @@ pub fn split(buf: &mut [u8], content: &[u8], language: u8, number: u8, packet: u
 }
 
 /// The message number that follows.
+#[inline]
 pub fn next_number(number: u8) -> u8 {
     if number == 255 {
         0

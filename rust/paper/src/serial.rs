@@ -93,39 +93,47 @@ fn run<F: Frame>(frame: &[u8]) -> &[u8] {
 }
 
 /// Makes the last byte of a frame its checksum.
+#[inline]
 pub fn seal(frame: &mut [u8]) {
     if let Some((seal, sealed)) = frame.split_last_mut() {
         *seal = xor(sealed);
     }
 }
 
+#[inline]
 fn u16_at(frame: &[u8], at: usize) -> u16 {
     u16::from_be_bytes([frame[at], frame[at + 1]])
 }
 
+#[inline]
 fn u24_at(frame: &[u8], at: usize) -> u32 {
     u32::from_be_bytes([0, frame[at], frame[at + 1], frame[at + 2]])
 }
 
+#[inline]
 fn put_u24(frame: &mut [u8], at: usize, value: u32) {
     frame[at..at + 3].copy_from_slice(&value.to_be_bytes()[1..]);
 }
 
+#[inline]
 fn need_address(address: u32) -> Result<(), Refusal> {
     need(address <= LARGEST_ADDRESS, Refusal::RANGE)
 }
 
 /// An hour and a minute.
+#[inline]
 fn need_time(hour: u8, minute: u8) -> Result<(), Refusal> {
     need(hour <= 23 && minute <= 59, Refusal::RANGE)
 }
 
 /// The content has as many bytes as the bit length takes.
+#[inline]
 fn need_bytes(content: &[u8], bits: u16) -> Result<(), Refusal> {
     need(content.len() == usize::from(bits.div_ceil(8)), Refusal::SIZE)
 }
 
 /// The low bits that the last byte of the content doesn't use are zero.
+#[inline]
 fn need_fill(content: &[u8], bits: u16) -> Result<(), Refusal> {
     let used = bits % 8;
     need(used == 0 || content.last().is_none_or(|last| last << used == 0), Refusal::FILL)

@@ -13,6 +13,7 @@ const LONGITUDE_WIDTH: u32 = 28;
 const LATITUDE_WIDTH: u32 = 27;
 
 impl Kind for Area {
+    #[inline]
     fn handled(start: &[u8; SMALLEST]) -> bool {
         start[0] >> 2 == MESSAGE && start[9..11] == APPLICATION && (1..=2).contains(&(start[11] >> 2 & 3))
     }
@@ -77,6 +78,7 @@ impl Kind for Area {
         message[23..].copy_from_slice(&end.to_be_bytes());
     }
 
+    #[inline]
     fn fill_row(&self, row: &mut [i64]) -> Result<(), Refusal> {
         *row.first_chunk_mut().ok_or(Refusal::ROOM)? = self.row();
         Ok(())
@@ -124,19 +126,23 @@ fn good_shape(shape: &Shape) -> bool {
 }
 
 /// The longitude in the 55 bits of a position.
+#[inline]
 fn longitude(position: u64) -> i32 {
     signed(field(position, LATITUDE_WIDTH, LONGITUDE_WIDTH), LONGITUDE_WIDTH)
 }
 
+#[inline]
 fn latitude(position: u64) -> i32 {
     signed(field(position, 0, LATITUDE_WIDTH), LATITUDE_WIDTH)
 }
 
 /// The 55 bits of a longitude and a latitude.
+#[inline]
 fn position(longitude: i32, latitude: i32) -> u64 {
     field(longitude as u64, 0, LONGITUDE_WIDTH) << LATITUDE_WIDTH | field(latitude as u64, 0, LATITUDE_WIDTH)
 }
 
+#[inline]
 fn good_position(longitude: i32, latitude: i32) -> bool {
     within(longitude, 108_000_000, 108_600_000) & within(latitude, 54_000_000, 54_600_000)
 }

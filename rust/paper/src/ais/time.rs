@@ -15,6 +15,7 @@ pub trait TimeField {
 impl TimeField for Time {
     const WIDTH: u32 = 20;
 
+    #[inline]
     fn of_bits(bits: u64) -> Time {
         Time {
             month: field(bits, 16, 4) as u8,
@@ -24,10 +25,12 @@ impl TimeField for Time {
         }
     }
 
+    #[inline]
     fn bits(&self) -> u64 {
         u64::from(self.month) << 16 | u64::from(self.day) << 11 | u64::from(self.hour) << 6 | u64::from(self.minute)
     }
 
+    #[inline]
     fn good(&self) -> bool {
         (self.month <= 12) & (self.day <= 31) & (self.hour <= 23) & (self.minute <= 59)
     }
@@ -36,14 +39,17 @@ impl TimeField for Time {
 impl TimeField for ShortTime {
     const WIDTH: u32 = 14;
 
+    #[inline]
     fn of_bits(bits: u64) -> ShortTime {
         ShortTime { month: field(bits, 10, 4) as u8, day: field(bits, 5, 5) as u8, hour: field(bits, 0, 5) as u8 }
     }
 
+    #[inline]
     fn bits(&self) -> u64 {
         u64::from(self.month) << 10 | u64::from(self.day) << 5 | u64::from(self.hour)
     }
 
+    #[inline]
     fn good(&self) -> bool {
         (self.month <= 12) & (self.day <= 31) & (self.hour <= 23)
     }

@@ -12,6 +12,7 @@ const APPLICATION: [u8; 2] = [0x67, 0x03];
 const FARTHEST: u32 = 7_200_000;
 
 impl Kind for Warning {
+    #[inline]
     fn handled(start: &[u8; SMALLEST]) -> bool {
         start[0] >> 2 == MESSAGE && start[5..7] == APPLICATION && (1..=5).contains(&(start[7] >> 4))
     }
@@ -58,6 +59,7 @@ impl Kind for Warning {
         message[7..].copy_from_slice(&rest.to_be_bytes());
     }
 
+    #[inline]
     fn fill_row(&self, row: &mut [i64]) -> Result<(), Refusal> {
         *row.first_chunk_mut().ok_or(Refusal::ROOM)? = self.row();
         Ok(())

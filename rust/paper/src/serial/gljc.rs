@@ -7,25 +7,30 @@ use std::ops::RangeInclusive;
 impl Kind for Gljc {
     const SIZES: RangeInclusive<usize> = 12..=12;
 
+    #[inline]
     fn unpack(frame: &[u8]) -> Result<Gljc, Refusal> {
         Ok(Gljc { address: u24_at(frame, 7), minutes: frame[10] })
     }
 
+    #[inline]
     fn judge(&self, run: &[u8]) -> Result<(), Refusal> {
         need(run.is_empty(), Refusal::SIZE)?;
         need_address(self.address)
     }
 
+    #[inline]
     fn pack(&self, frame: &mut [u8]) {
         put_u24(frame, 7, self.address);
         frame[10] = self.minutes;
     }
 
+    #[inline]
     fn fill_row(&self, _: &[u8], row: &mut [i64]) -> Result<(), Refusal> {
         *row.first_chunk_mut().ok_or(Refusal::ROOM)? = [self.address.into(), self.minutes.into()];
         Ok(())
     }
 
+    #[inline]
     fn change(mut self, frame: &mut [u8], field: usize, value: u64) -> Result<(), Refusal> {
         match field {
             Gljc::ADDRESS => self.address = narrow(value, 24)? as u32,

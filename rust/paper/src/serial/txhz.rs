@@ -8,6 +8,7 @@ use std::ops::RangeInclusive;
 const RECEIPT: usize = 4;
 
 /// How many bytes the counted receipts have.
+#[inline]
 fn counted(record: &Txhz) -> usize {
     RECEIPT * usize::from(record.count)
 }
@@ -27,6 +28,7 @@ fn change_receipt(record: &Txhz, frame: &mut [u8], field: usize, value: u64) -> 
 impl Kind for Txhz {
     const SIZES: RangeInclusive<usize> = 35..=35;
 
+    #[inline]
     fn unpack(frame: &[u8]) -> Result<Txhz, Refusal> {
         Ok(Txhz { address: u24_at(frame, 7), receiver: u24_at(frame, 10), count: frame[13] })
     }
@@ -41,12 +43,14 @@ impl Kind for Txhz {
         need(fill.iter().all(|byte| *byte == 0), Refusal::FILL)
     }
 
+    #[inline]
     fn pack(&self, frame: &mut [u8]) {
         put_u24(frame, 7, self.address);
         put_u24(frame, 10, self.receiver);
         frame[13] = self.count;
     }
 
+    #[inline]
     fn fill_row(&self, receipts: &[u8], row: &mut [i64]) -> Result<(), Refusal> {
         let (numbers, bytes) = row.get_mut(..Txhz::ROW).ok_or(Refusal::ROOM)?.split_at_mut(3);
         numbers.copy_from_slice(&[self.address.into(), self.receiver.into(), self.count.into()]);

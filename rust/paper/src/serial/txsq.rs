@@ -11,6 +11,7 @@ impl Kind for Txsq {
     const SIZES: RangeInclusive<usize> = 18..=228;
 
     /// The class's first bits come after the own address, so its refusal goes before theirs.
+    #[inline]
     fn unpack(frame: &[u8]) -> Result<Txsq, Refusal> {
         let (address, class) = (u24_at(frame, 7), frame[10]);
         need_address(address)?;
@@ -42,6 +43,7 @@ impl Kind for Txsq {
         need_fill(content, self.bits)
     }
 
+    #[inline]
     fn pack(&self, frame: &mut [u8]) {
         put_u24(frame, 7, self.address);
         frame[10] = MESSAGE << 4 | self.category << 2 | self.mode << 1 | self.password;
@@ -50,6 +52,7 @@ impl Kind for Txsq {
         frame[16] = self.answer;
     }
 
+    #[inline]
     fn fill_row(&self, content: &[u8], row: &mut [i64]) -> Result<(), Refusal> {
         *row.first_chunk_mut().ok_or(Refusal::ROOM)? = [
             self.address.into(),

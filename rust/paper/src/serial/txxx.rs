@@ -7,6 +7,7 @@ use std::ops::RangeInclusive;
 impl Kind for Txxx {
     const SIZES: RangeInclusive<usize> = 20..=230;
 
+    #[inline]
     fn unpack(frame: &[u8]) -> Result<Txxx, Refusal> {
         Ok(Txxx {
             address: u24_at(frame, 7),
@@ -28,6 +29,7 @@ impl Kind for Txxx {
         need_fill(content, self.bits)
     }
 
+    #[inline]
     fn pack(&self, frame: &mut [u8]) {
         put_u24(frame, 7, self.address);
         frame[10] = self.class;
@@ -37,6 +39,7 @@ impl Kind for Txxx {
         frame[frame.len() - 2] = self.mark;
     }
 
+    #[inline]
     fn fill_row(&self, content: &[u8], row: &mut [i64]) -> Result<(), Refusal> {
         *row.first_chunk_mut().ok_or(Refusal::ROOM)? = [
             self.address.into(),

@@ -15,14 +15,17 @@ pub trait Calls<M: Ais> {
 }
 
 impl<M: bellnewt::ais::Kind> Calls<M> for Proved {
+    #[inline]
     fn read(message: &[u8], row: &mut [i64]) -> u8 {
         code(bellnewt::ais::read_row::<M>(message, row))
     }
 
+    #[inline]
     fn write(buf: &mut [u8], record: &M) -> u8 {
         code(bellnewt::ais::write(buf, record))
     }
 
+    #[inline]
     fn correct(message: &mut [u8], field: usize, value: u64) -> u8 {
         code(bellnewt::ais::correct::<M>(message, field, value))
     }
@@ -51,6 +54,7 @@ pub trait SlotCall {
 }
 
 impl SlotCall for Proved {
+    #[inline]
     fn slots(message: u8, bytes: usize, slots: &mut u8) -> u8 {
         code(bellnewt::ais::count_slots(message, bytes, slots))
     }

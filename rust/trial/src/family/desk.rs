@@ -34,18 +34,22 @@ pub trait Calls {
 impl Calls for Proved {
     type Cell = u8;
 
+    #[inline]
     fn places(row: &[u8]) -> Vec<u8> {
         row.to_vec()
     }
 
+    #[inline]
     fn row(places: &[u8]) -> Vec<u8> {
         places.to_vec()
     }
 
+    #[inline]
     fn accept(places: &mut [u8], store: &mut [u8], packet: &[u8], again: &mut u8) -> u8 {
         code(bellnewt::desk::accept_in(places, store, packet, again))
     }
 
+    #[inline]
     fn ask(
         places: &mut [u8],
         store: &[u8],
@@ -58,6 +62,7 @@ impl Calls for Proved {
         code(bellnewt::desk::ask_in(places, store, number, notice, missing, count, language))
     }
 
+    #[inline]
     fn drop(places: &mut [u8], store: &[u8], number: u8) -> u8 {
         code(bellnewt::desk::drop_in(places, store, number))
     }

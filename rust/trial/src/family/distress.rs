@@ -15,22 +15,27 @@ pub trait Calls {
 }
 
 impl Calls for Proved {
+    #[inline]
     fn read(message: &[u8], row: &mut [i64]) -> u8 {
         code(bellnewt::distress::read_row(message, row))
     }
 
+    #[inline]
     fn write(buf: &mut [u8], report: &Report) -> u8 {
         code(bellnewt::distress::write(buf, report))
     }
 
+    #[inline]
     fn correct(message: &mut [u8], field: usize, value: u64) -> u8 {
         code(bellnewt::distress::correct(message, field, value))
     }
 
+    #[inline]
     fn read_sentence(sentence: &[u8], row: &mut [i64]) -> u8 {
         code(bellnewt::distress::read_sentence_row(sentence, row))
     }
 
+    #[inline]
     fn write_sentence(buf: &mut [u8], size: &mut usize, address: u32, report: &Report) -> u8 {
         code(bellnewt::distress::write_sentence_sized(buf, size, address, report))
     }

@@ -15,18 +15,22 @@ pub trait Calls {
 }
 
 impl Calls for Proved {
+    #[inline]
     fn read(message: &[u8], language: u8, row: &mut [i64], areas: &mut [u32], text: &mut [u8]) -> u8 {
         code(bellnewt::notice::read_row(message, language, row, areas, text))
     }
 
+    #[inline]
     fn write(buf: &mut [u8], language: u8, head: &Head, count: u8, areas: &[u32], text: &[u8]) -> u8 {
         code(bellnewt::notice::write_row(buf, language, head, count, areas, text))
     }
 
+    #[inline]
     fn correct(message: &mut [u8], language: u8, field: usize, value: u64) -> u8 {
         code(bellnewt::notice::correct_field(message, language, field, value))
     }
 
+    #[inline]
     fn outline(message: &[u8], language: u8, row: &mut [i32], points: &mut usize) -> u8 {
         code(bellnewt::notice::outline_row(message, language, row, points))
     }

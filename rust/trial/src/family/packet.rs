@@ -16,22 +16,27 @@ pub trait Calls {
 }
 
 impl Calls for Proved {
+    #[inline]
     fn read(packet: &[u8], row: &mut [i64]) -> u8 {
         code(bellnewt::packet::read_row(packet, row))
     }
 
+    #[inline]
     fn write(buf: &mut [u8], record: &Packet, content: &[u8]) -> u8 {
         code(bellnewt::packet::write(buf, record, content))
     }
 
+    #[inline]
     fn correct(packet: &mut [u8], field: usize, value: u64) -> u8 {
         code(bellnewt::packet::correct(packet, field, value))
     }
 
+    #[inline]
     fn split(buf: &mut [u8], content: &[u8], language: u8, number: u8, packet: usize) -> u8 {
         code(bellnewt::packet::split(buf, content, language, number, packet))
     }
 
+    #[inline]
     fn next_number(number: u8) -> u8 {
         bellnewt::packet::next_number(number)
     }

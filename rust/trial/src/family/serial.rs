@@ -14,14 +14,17 @@ pub trait Calls<F: Frame> {
 }
 
 impl<F: bellnewt::serial::Kind> Calls<F> for Proved {
+    #[inline]
     fn read(frame: &[u8], row: &mut [i64]) -> u8 {
         code(bellnewt::serial::read_row::<F>(frame, row))
     }
 
+    #[inline]
     fn write(buf: &mut [u8], record: &F, run: &[u8]) -> u8 {
         code(bellnewt::serial::write(buf, record, run))
     }
 
+    #[inline]
     fn correct(frame: &mut [u8], field: usize, value: u64) -> u8 {
         code(bellnewt::serial::correct::<F>(frame, field, value))
     }
