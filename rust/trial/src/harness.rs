@@ -1,63 +1,17 @@
-//! What every comparison shares: guarded memory, a family's run over seeded inputs, and the count of checks.
+//! What every comparison shares: a family's run over seeded inputs, guarded memory, and the count of checks.
+
+mod guarded;
+mod table;
+mod tally;
+
+pub use guarded::{Cell, Guarded};
+pub use table::print_head;
+pub use tally::Tally;
 
 use crate::inputs::Random;
-use std::fmt::{Debug, Display};
+use std::fmt::Debug;
 use std::thread;
-
-/// A part that a call is lent, inside a larger allocation whose cells on both sides must stay as they are.
-#[derive(Clone, PartialEq, Debug)]
-pub struct Guarded<T> {
-    cells: Vec<T>,
-    start: usize,
-    end: usize,
-}
-
-/// What lent memory is made of.
-pub trait Cell {
-    fn any(random: &mut Random) -> Self;
-}
-
-macro_rules! cells {
-    ($($number:ty)*) => {
-        $(impl Cell for $number {
-            fn any(random: &mut Random) -> $number {
-                random.word() as $number
-            }
-        })*
-    };
-}
-
-cells!(u8 u16 u32 i32 i64 usize);
-
-impl<T: Cell> Guarded<T> {
-    /// Guards a part. The front guard's length varies, so that the part starts at every alignment.
-    pub fn new(random: &mut Random, part: Vec<T>) -> Guarded<T> {
-        let start = 16 + random.below(8);
-        let end = start + part.len();
-        let mut cells: Vec<T> = (0..start).map(|_| T::any(random)).collect();
-        cells.extend(part);
-        cells.extend((0..24).map(|_| T::any(random)));
-        Guarded { cells, start, end }
-    }
-
-    /// A part of so many cells, which hold any numbers.
-    pub fn any(random: &mut Random, count: usize) -> Guarded<T> {
-        let part = (0..count).map(|_| T::any(random)).collect();
-        Guarded::new(random, part)
-    }
-
-    pub fn part(&mut self) -> &mut [T] {
-        &mut self.cells[self.start..self.end]
-    }
-}
-
-impl<T: PartialEq> Guarded<T> {
-    /// Where the cells of two of them differ first, counted from the part's start.
-    pub fn differs(&self, other: &Guarded<T>) -> Option<isize> {
-        let at = self.cells.iter().zip(&other.cells).position(|(ours, theirs)| ours != theirs)?;
-        Some(at as isize - self.start as isize)
-    }
-}
+use table::{Row, NUMBERS};
 
 /// Options of a run: every input follows from the seed.
 #[derive(Clone, Copy)]
@@ -102,8 +56,6 @@ pub trait Family {
     fn paper(input: &Self::Input, lent: &mut Self::Lent) -> u8;
 }
 
-/// 0 and the eleven refusals.
-const NUMBERS: usize = 12;
 /// Two cores, shared with others.
 const WORKERS: u64 = 2;
 /// How many differing inputs are shown in full.
@@ -124,33 +76,6 @@ impl Met {
             (count > 0 || call.gives(number)).then_some(count)
         })
     }
-}
-
-/// A line of a table: how often each number was answered, none where it can't be.
-type Row = [Option<u64>; NUMBERS];
-
-/// How many inputs a line is of.
-fn inputs(row: &Row) -> u64 {
-    row.iter().flatten().sum()
-}
-
-/// The line of all that two lines are of.
-fn sum(row: &Row, other: &Row) -> Row {
-    std::array::from_fn(|number| match (row[number], other[number]) {
-        (Some(count), Some(more)) => Some(count + more),
-        (count, more) => count.or(more),
-    })
-}
-
-/// What stands in a line for a number.
-fn cell(count: &Option<u64>) -> String {
-    count.map_or("-".to_string(), |count| count.to_string())
-}
-
-/// A number's digits in groups of three.
-fn grouped(digits: &str) -> String {
-    let groups = digits.as_bytes().rchunks(3).rev().map(String::from_utf8_lossy);
-    groups.collect::<Vec<_>>().join(",")
 }
 
 /// What a run met, by call, and the first inputs that differ.
@@ -243,24 +168,11 @@ pub fn run_pieces(
     let mut all = Row::default();
     for (call, met) in calls.iter().zip(&counts.met) {
         let row = met.row(call);
-        print_row(name, call.name, &row);
+        table::print_row(name, call.name, &row);
         judge(&format!("{name} {}", call.name), call, met, floor, tally);
-        all = sum(&all, &row);
+        all = table::sum(&all, &row);
     }
-    tally.families.push((name, all));
-}
-
-/// The head of the lines that `run` prints.
-pub fn print_head() {
-    print!("{:<10}{:<16}{:>9}", "family", "call", "inputs");
-    (0..NUMBERS).for_each(|number| print!("{number:>9}"));
-    println!();
-}
-
-fn print_row(family: &str, call: &str, row: &Row) {
-    print!("{family:<10}{call:<16}{:>9}", inputs(row));
-    row.iter().for_each(|count| print!("{:>9}", cell(count)));
-    println!();
+    tally.add_family(name, all);
 }
 
 /// A call's checks: no input differs, every number that it can give is met often enough, and no other is met.
@@ -272,43 +184,4 @@ fn judge(name: &str, call: &Call, met: &Met, floor: u64, tally: &mut Tally) {
     }
     let others: u64 = others.iter().map(|(_, count)| *count).sum();
     tally.check(others == 0, format_args!("{name}: {others} times a number that it can't give"));
-}
-
-/// The checks so far. One that fails is printed.
-#[derive(Default)]
-pub struct Tally {
-    pub passed: u32,
-    pub failed: u32,
-    /// What each family met over all of its calls.
-    families: Vec<(&'static str, Row)>,
-}
-
-impl Tally {
-    pub fn check(&mut self, holds: bool, failure: impl Display) {
-        if holds {
-            self.passed += 1;
-        } else {
-            self.failed += 1;
-            println!("FAILED: {failure}");
-        }
-    }
-
-    /// Prints what each family met, and all of them together, as a table for docs/.
-    pub fn print_families(&self) {
-        let line = |cells: Vec<String>| println!("| {} |", cells.join(" | "));
-        let counts = |row: &Row| [Some(inputs(row))].iter().chain(row).map(|count| grouped(&cell(count))).collect();
-        let names = ["family", "inputs"].map(str::to_string).into_iter();
-        line(names.chain((0..NUMBERS).map(|number| number.to_string())).collect());
-        line(vec!["---".to_string(); 2 + NUMBERS]);
-        let all = self.families.iter().fold(Row::default(), |all, (_, row)| sum(&all, row));
-        for (name, row) in self.families.iter().chain([&("all", all)]) {
-            let counts: Vec<String> = counts(row);
-            line([vec![name.to_string()], counts].concat());
-        }
-    }
-
-    /// Checks that two values are equal, and shows both where they are not.
-    pub fn same<T: PartialEq + Debug>(&mut self, name: &str, found: T, due: T) {
-        self.check(found == due, format_args!("{name}: {found:?}, due {due:?}"));
-    }
 }

@@ -1,10 +1,12 @@
 //! AIS messages, good and damaged, and what slots are counted for.
 
 mod area;
+mod piece;
 mod warning;
 
-use super::field::{field, field_number, pack, put_anywhere, put_at_edges, Field};
+use super::field::{field_number, pack, put_anywhere, put_at_edges, Field};
 use super::{damage, Random};
+use piece::{Piece, Role};
 use record::{Ais, Area, Warning};
 
 /// What the inputs of a message are made by.
@@ -14,118 +16,6 @@ pub trait Kind: Ais {
     const LAYOUTS: &'static [&'static [Piece]];
     /// The times that a correction names as one field each.
     const TIMES: &'static [(usize, Field)];
-}
-
-/// A piece of a message: its field, and what it is there.
-pub struct Piece {
-    field: Field,
-    role: Role,
-}
-
-enum Role {
-    /// The message number, or a part of the application.
-    Code,
-    /// The warning type or the shape: a code that stands in a row.
-    Variant,
-    Fill,
-    /// A number of the record that no correction names: a part of a time, or what the layout has not.
-    Part,
-    /// A number of the record, and the number that a correction names it by.
-    Own(usize),
-}
-
-impl AsRef<Field> for Piece {
-    fn as_ref(&self) -> &Field {
-        &self.field
-    }
-}
-
-impl Piece {
-    const fn code(width: u32, value: &'static [i64; 1]) -> Piece {
-        Piece { field: field(width, value[0], value[0], value), role: Role::Code }
-    }
-
-    const fn variant(width: u32, value: &'static [i64; 1]) -> Piece {
-        Piece { field: field(width, value[0], value[0], value), role: Role::Variant }
-    }
-
-    const fn fill(width: u32) -> Piece {
-        Piece { field: field(width, 0, 0, &[0]), role: Role::Fill }
-    }
-
-    const fn part(width: u32, most: i64) -> Piece {
-        Piece { field: field(width, 0, most, &[0]), role: Role::Part }
-    }
-
-    const fn own(number: usize, field: Field) -> Piece {
-        Piece { field, role: Role::Own(number) }
-    }
-
-    /// A number that every value of its bits is good for. The notes are the ends of the range that 003 prints.
-    const fn carried(number: usize, width: u32, notes: &'static [i64]) -> Piece {
-        Piece::own(number, field(width, 0, (1 << width) - 1, notes))
-    }
-
-    fn is_code(&self) -> bool {
-        matches!(self.role, Role::Code | Role::Variant)
-    }
-
-    fn is_fill(&self) -> bool {
-        matches!(self.role, Role::Fill)
-    }
-
-    /// A number of the record that some value of its bits is bad for.
-    fn has_range(&self) -> bool {
-        matches!(self.role, Role::Part | Role::Own(_)) && !self.field.is_full()
-    }
-}
-
-const REPEAT: Piece = Piece::carried(Warning::REPEAT, 2, &[0]);
-const MMSI: Field = field(30, 0, 999_999_999, &[0]);
-const SOURCE: Piece = Piece::own(Warning::SOURCE, MMSI);
-const COUNTRY: Piece = Piece::code(10, &[412]);
-const MONTH: Piece = Piece::part(4, 12);
-const DAY: Piece = Piece::part(5, 31);
-const HOUR: Piece = Piece::part(5, 23);
-const MINUTE: Piece = Piece::part(6, 59);
-const ABSENT: Piece = Piece::part(0, 0);
-
-/// A time as one field. The notes end or pass the range of each part; numbers between them have good and bad parts.
-const TIME: Field = field(
-    20,
-    0,
-    time(12, 31, 23, 59),
-    &[
-        time(0, 0, 0, 59),
-        time(0, 0, 0, 60),
-        time(0, 0, 23, 0),
-        time(0, 0, 24, 0),
-        time(0, 31, 0, 0),
-        time(12, 0, 0, 0),
-        time(13, 0, 0, 0),
-        time(15, 31, 23, 59),
-    ],
-);
-const SECOND_TIME: Field = field(
-    14,
-    0,
-    short_time(12, 31, 23),
-    &[
-        short_time(0, 0, 23),
-        short_time(0, 0, 24),
-        short_time(0, 31, 0),
-        short_time(12, 0, 0),
-        short_time(13, 0, 0),
-        short_time(15, 31, 23),
-    ],
-);
-
-const fn time(month: i64, day: i64, hour: i64, minute: i64) -> i64 {
-    short_time(month, day, hour) << 6 | minute
-}
-
-const fn short_time(month: i64, day: i64, hour: i64) -> i64 {
-    month << 10 | day << 5 | hour
 }
 
 fn good_numbers(random: &mut Random, layout: &[Piece]) -> Vec<i64> {

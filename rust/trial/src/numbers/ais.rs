@@ -1,108 +1,16 @@
 //! Case K, a message of each type and shape with its bytes spelled from the tables of 003, and refusals whose order is
 //! easily mistaken.
 
+mod messages;
+
+pub use messages::{AREAS, WARNINGS};
+
 use crate::family::ais::{Calls, Kind, SlotCall};
 use crate::family::{Paper, Proved};
 use crate::harness::Tally;
 use bellnewt::ais::{correct, read, slots, write};
-use record::{Ais, Area, Body, Refusal, Shape, ShortTime, Time, Warning};
-
-const TIME: Time = Time { month: 8, day: 27, hour: 6, minute: 30 };
-
-/// A warning off 122.5° E, 30° N.
-const fn warning(body: Body) -> Warning {
-    Warning { repeat: 0, source: 4_122_100, longitude: 3_750_000, latitude: 4_800_000, body, time: TIME, hours: 24 }
-}
-
-/// A warning of each type.
-pub const WARNINGS: [(Warning, [u8; Warning::BYTES]); 5] = [
-    (
-        warning(Body::Cyclone {
-            kind: 4,
-            gale_radius: 300,
-            storm_radius: 120,
-            speed: 20,
-            direction: 315,
-            force: 14,
-            pressure: 150,
-        }),
-        [
-            0x20, 0x00, 0xFB, 0x97, 0xD0, 0x67, 0x03, 0x17, 0x27, 0x0E, 0x12, 0x4F, 0x80, 0x24, 0xB0, 0xF0, 0xA4, 0xED,
-            0xC9, 0x68, 0xD9, 0x9E, 0x60,
-        ],
-    ),
-    (
-        warning(Body::Gale { radius: 100, least: 8, greatest: 10, direction: 7 }),
-        [
-            0x20, 0x00, 0xFB, 0x97, 0xD0, 0x67, 0x03, 0x27, 0x27, 0x0E, 0x12, 0x4F, 0x80, 0x19, 0x10, 0xA7, 0x00, 0x00,
-            0x00, 0x08, 0xD9, 0x9E, 0x60,
-        ],
-    ),
-    (
-        warning(Body::Waves { radius: 150, height: 5, period: 12 }),
-        [
-            0x20, 0x00, 0xFB, 0x97, 0xD0, 0x67, 0x03, 0x37, 0x27, 0x0E, 0x12, 0x4F, 0x80, 0x25, 0x8A, 0x00, 0xC0, 0x00,
-            0x00, 0x08, 0xD9, 0x9E, 0x60,
-        ],
-    ),
-    (
-        warning(Body::Fog { radius: 200, visibility: 5 }),
-        [
-            0x20, 0x00, 0xFB, 0x97, 0xD0, 0x67, 0x03, 0x47, 0x27, 0x0E, 0x12, 0x4F, 0x80, 0x19, 0x00, 0xA0, 0x00, 0x00,
-            0x00, 0x08, 0xD9, 0x9E, 0x60,
-        ],
-    ),
-    (
-        warning(Body::Surge { radius: 80, rise: 150, tide: 620, period: 600 }),
-        [
-            0x20, 0x00, 0xFB, 0x97, 0xD0, 0x67, 0x03, 0x57, 0x27, 0x0E, 0x12, 0x4F, 0x80, 0x0A, 0x09, 0x69, 0xB0, 0x4B,
-            0x00, 0x08, 0xD9, 0x9E, 0x60,
-        ],
-    ),
-];
-
-/// A circle off 122.5° E, 30.25° N.
-const CIRCLE: Area = Area {
-    repeat: 0,
-    source: 4_122_100,
-    sequence: 1,
-    destination: 413_456_789,
-    resent: 0,
-    kind: 1,
-    longitude: 73_500_000,
-    latitude: 18_150_000,
-    shape: Shape::Circle { radius: 25 },
-    time: TIME,
-    second_time: ShortTime { month: 8, day: 28, hour: 18 },
-    advice: 2,
-};
-
-/// An area of each shape. The rectangle is that from 75° W, 10.5° S to 74° W, 9.5° S.
-pub const AREAS: [(Area, [u8; Area::BYTES]); 2] = [
-    (
-        CIRCLE,
-        [
-            0x18, 0x00, 0xFB, 0x97, 0xD1, 0x62, 0x93, 0x66, 0x54, 0x67, 0x0B, 0x15, 0x18, 0x61, 0x58, 0x08, 0xA7, 0x93,
-            0x81, 0x90, 0x00, 0x00, 0x00, 0x00, 0x00, 0x08, 0xD9, 0x9E, 0x8E, 0x48, 0x80,
-        ],
-    ),
-    (
-        Area {
-            sequence: 3,
-            resent: 1,
-            kind: 6,
-            longitude: -45_000_000,
-            latitude: -6_300_000,
-            shape: Shape::Rectangle { longitude: -44_400_000, latitude: -5_700_000 },
-            advice: 5,
-            ..CIRCLE
-        },
-        [
-            0x18, 0x00, 0xFB, 0x97, 0xD3, 0x62, 0x93, 0x66, 0x56, 0x67, 0x0B, 0x6B, 0x54, 0x56, 0xB0, 0x3C, 0xFE, 0xF5,
-            0x06, 0xAD, 0x41, 0x40, 0x7A, 0x90, 0x66, 0x08, 0xD9, 0x9E, 0x8E, 0x49, 0x40,
-        ],
-    ),
-];
+use messages::CIRCLE;
+use record::{Ais, Area, Refusal, Warning};
 
 /// A message with other bytes at some places.
 pub fn with_bytes(message: &[u8], others: &[(usize, u8)]) -> Vec<u8> {

@@ -1,82 +1,20 @@
 //! Cases G, H and L, a notice with an area of each kind whose bytes are spelled from the tables of 000, and refusals
 //! whose order is easily mistaken.
 
+mod judged;
+mod notices;
+mod wrapped;
+
+pub use notices::{outermost, BARE, BARE_HEAD, CHINESE_NOTICE, WARNING};
+
 use super::ais::with_bytes;
 use crate::family::notice::Calls;
 use crate::family::{Paper, Proved};
 use crate::harness::Tally;
-use bellnewt::notice::{Angle, Area, Expiry, Field, Head, Notice, Point};
-use record::{Refusal, CHINESE, ENGLISH};
-
-/// Case G.
-pub const BARE: [u8; 8] = [0x20, 0x80, 0x02, 0x61, 0x18, 0x00, 0x00, 0x00];
-pub const BARE_HEAD: Head = Head { source: 4, station: 1, serial: 1, year: 24, kind: 4, subtype: 6, expiry: 0 };
-
-/// A notice of each kind of area, in English.
-pub const WARNING: [u8; 62] = [
-    0x59, 0x00, 0xF6, 0x61, 0x2D, 0x1B, 0x33, 0xCA, 0x04, 0x48, 0x8F, 0x1E, 0xC8, 0xF4, 0xF0, 0x04, 0x43, 0xC0, 0x00,
-    0x3D, 0x00, 0x00, 0x7C, 0x00, 0x07, 0xB0, 0x00, 0x38, 0x00, 0x00, 0xED, 0x3C, 0xC6, 0x0C, 0xD0, 0xC9, 0xAD, 0x32,
-    0x76, 0x7A, 0x59, 0x36, 0x40, 0x0E, 0xDD, 0xE3, 0x26, 0xA0, 0x29, 0xDC, 0x00, 0x09, 0x68, 0xA8, 0xAA, 0x04, 0x08,
-    0x69, 0x88, 0xA8, 0x2A, 0x40,
-];
-const WARNING_HEAD: Head =
-    Head { source: 11, station: 2, serial: 123, year: 24, kind: 4, subtype: 11, expiry: 579_998 };
-const WARNING_EXPIRY: Expiry = Expiry { next_year: false, month: 8, day: 27, hour: 6, minute: 30 };
-const WARNING_TEXT: [u8; 10] = *b"KEEP CLEAR";
-
-/// A point north and east.
-fn north_east(latitude: [u8; 3], longitude: [u8; 3]) -> Point {
-    let angle = |[degrees, minutes, hundredths]: [u8; 3]| Angle { negative: false, degrees, minutes, hundredths };
-    Point::new(angle(latitude), angle(longitude))
-}
-
-/// Case L: S 0°00.01', W 180°60.99'.
-pub fn outermost() -> Point {
-    let south = Angle { negative: true, degrees: 0, minutes: 0, hundredths: 1 };
-    let west = Angle { negative: true, degrees: 180, minutes: 60, hundredths: 99 };
-    Point::new(south, west)
-}
-
-/// The areas of that notice. The circle's centre is case L.
-fn warning_areas() -> Vec<Area> {
-    vec![
-        Area::Sea { code: 17 },
-        Area::Points(vec![north_east([30, 15, 50], [122, 30, 0])]),
-        Area::Line(vec![north_east([30, 0, 0], [122, 0, 0]), north_east([31, 0, 0], [123, 0, 0])]),
-        Area::Circle { centre: outermost(), radius: 25, unit: 2 },
-        Area::Polygon(vec![
-            north_east([38, 45, 25], [118, 30, 75]),
-            north_east([38, 50, 0], [118, 59, 99]),
-            north_east([38, 40, 5], [119, 0, 0]),
-        ]),
-    ]
-}
-
-const WARNING_OUTLINE: [[i32; 2]; 7] = [
-    [181_550, 735_000],
-    [180_000, 732_000],
-    [186_000, 738_000],
-    [-1, -1_086_099],
-    [232_525, 711_075],
-    [233_000, 713_999],
-    [232_005, 714_000],
-];
-
-/// A Chinese notice of one sea area, whose text ends in the middle of a byte.
-pub const CHINESE_NOTICE: [u8; 16] =
-    [0x59, 0x00, 0x0E, 0x60, 0x68, 0x00, 0x00, 0x02, 0x04, 0x75, 0xB6, 0xF2, 0x6F, 0x48, 0x0D, 0xC0];
-const CHINESE_HEAD: Head = Head { source: 11, station: 2, serial: 7, year: 24, kind: 1, subtype: 10, expiry: 0 };
-const CHINESE_TEXT: [u8; 6] = [0xD6, 0xDB, 0xC9, 0xBD, 0x20, 0x37];
-
-/// The three notices, their language, and what they say.
-fn notices() -> [(&'static str, &'static [u8], u8, Notice); 3] {
-    let notice = |head, areas, text: &[u8]| Notice { head, areas, text: text.to_vec() };
-    [
-        ("case G", &BARE, CHINESE, notice(BARE_HEAD, vec![], &[])),
-        ("every area", &WARNING, ENGLISH, notice(WARNING_HEAD, warning_areas(), &WARNING_TEXT)),
-        ("Chinese", &CHINESE_NOTICE, CHINESE, notice(CHINESE_HEAD, vec![Area::Sea { code: 17 }], &CHINESE_TEXT)),
-    ]
-}
+use bellnewt::notice::{Area, Head, Notice};
+use judged::{bare_with, heads_and_areas, texts_and_fills};
+use notices::{notices, WARNING_HEAD, WARNING_OUTLINE};
+use record::{CHINESE, ENGLISH};
 
 /// The areas of a notice as a row.
 fn row_of(areas: &[Area]) -> Vec<u32> {
@@ -86,8 +24,7 @@ fn row_of(areas: &[Area]) -> Vec<u32> {
 pub fn run(tally: &mut Tally) {
     cases::<Proved>("proved", tally);
     cases::<Paper>("paper", tally);
-    wrapped(tally);
-    wrapped_corrections(tally);
+    wrapped::run(tally);
 }
 
 fn cases<C: Calls>(who: &str, tally: &mut Tally) {
@@ -122,53 +59,6 @@ fn answer<C: Calls>(message: &[u8], language: u8) -> (u8, bool) {
     let (mut row, mut areas, mut text) = ([7; Notice::ROW], [7; Notice::ENTRIES], [7; Notice::TEXT]);
     let code = C::read(message, language, &mut row, &mut areas, &mut text);
     (code, row == [7; Notice::ROW] && areas == [7; Notice::ENTRIES] && text == [7; Notice::TEXT])
-}
-
-/// Case G with other bytes from the fourth on, where its type, subtype, expiry, areas and text stand.
-fn bare_with(rest: &[u8]) -> Vec<u8> {
-    [&BARE[..3], rest].concat()
-}
-
-/// Notices whose head or areas are judged: the case, its language, and what reading it answers.
-fn heads_and_areas() -> Vec<(&'static str, Vec<u8>, u8, u8)> {
-    vec![
-        ("no bytes in language 2", vec![], 2, 4),
-        ("no bytes", vec![], CHINESE, 1),
-        ("7 bytes", BARE[..7].to_vec(), CHINESE, 1),
-        ("8 zeros", vec![0; 8], CHINESE, 4),
-        ("type 2 with a subtype", bare_with(&[0x60, 0x98, 0, 0, 0]), CHINESE, 4),
-        ("subtype 14", bare_with(&[0x61, 0x38, 0, 0, 0]), CHINESE, 4),
-        ("the next year and nothing more", bare_with(&[0x61, 0x1A, 0, 0, 0]), CHINESE, 4),
-        ("an area without a kind", bare_with(&[0x61, 0x18, 0, 0, 0x02]), CHINESE, 1),
-        ("kind 5", bare_with(&[0x61, 0x18, 0, 0, 0x03, 0x40]), CHINESE, 4),
-        ("no points", bare_with(&[0x61, 0x18, 0, 0, 0x02, 0x40]), CHINESE, 4),
-        ("a point that is missing", bare_with(&[0x61, 0x18, 0, 0, 0x02, 0x44]), CHINESE, 1),
-        ("a line of one point", bare_with(&[0x61, 0x18, 0, 0, 0x02, 0x84]), CHINESE, 4),
-        ("a polygon of two points", bare_with(&[0x61, 0x18, 0, 0, 0x03, 0x08]), CHINESE, 4),
-        ("latitude 91, then cut", bare_with(&[0x61, 0x18, 0, 0, 0x02, 0x45, 0x6C]), CHINESE, 4),
-        ("latitude 90, then cut", bare_with(&[0x61, 0x18, 0, 0, 0x02, 0x45, 0x68]), CHINESE, 1),
-        ("longitude 181, then cut", bare_with(&[0x61, 0x18, 0, 0, 2, 0x45, 0x6B, 0xCC, 0x6B, 0x50]), CHINESE, 4),
-        ("longitude 180, then cut", bare_with(&[0x61, 0x18, 0, 0, 2, 0x45, 0x6B, 0xCC, 0x6B, 0x40]), CHINESE, 1),
-        ("61 minutes", bare_with(&[0x61, 0x18, 0, 0, 2, 0x45, 0x6B, 0xD0, 0, 0, 0, 0]), CHINESE, 4),
-        ("100 hundredths", bare_with(&[0x61, 0x18, 0, 0, 2, 0x45, 0x68, 0, 0, 0, 0x32, 0]), CHINESE, 4),
-        ("31 February", bare_with(&[0x61, 0x18, 0x5F, 0, 0]), CHINESE, 0),
-    ]
-}
-
-/// Notices whose text or fill is judged.
-fn texts_and_fills() -> Vec<(&'static str, Vec<u8>, u8, u8)> {
-    vec![
-        ("0x1F before the fill", bare_with(&[0x61, 0x18, 0, 0, 0, 0x3F]), ENGLISH, 4),
-        ("a pair in English", bare_with(&[0x61, 0x18, 0, 0, 0x01, 0x61, 0x42]), ENGLISH, 4),
-        ("half a pair", bare_with(&[0x61, 0x18, 0, 0, 0x01, 0x60]), CHINESE, 4),
-        ("the pair past the last", bare_with(&[0x61, 0x18, 0, 0, 0x01, 0xAF, 0xF4]), CHINESE, 4),
-        ("the only bit of fill", bare_with(&[0x61, 0x18, 0, 0, 0x01]), CHINESE, 5),
-        ("the first of six bits of fill", bare_with(&[0x61, 0x18, 0, 0, 0x02, 0x04, 0x60]), CHINESE, 5),
-        ("the last of six bits of fill", bare_with(&[0x61, 0x18, 0, 0, 0x02, 0x04, 0x41]), CHINESE, 5),
-        ("the last pair", bare_with(&[0x61, 0x18, 0, 0, 0x01, 0xAF, 0xF2]), CHINESE, 0),
-        ("a space", bare_with(&[0x61, 0x18, 0, 0, 0, 0x40]), ENGLISH, 0),
-        ("six bits of fill", bare_with(&[0x61, 0x18, 0, 0, 0x02, 0x04, 0x40]), CHINESE, 0),
-    ]
 }
 
 /// What reading answers. A good notice fills what it is lent, a refusal leaves it.
@@ -294,54 +184,4 @@ fn outlines<C: Calls>(who: &str, tally: &mut Tally) {
     tally.same(&format!("{who}: an outline in language 2"), (code, points, row), (4, 99, [7; 13]));
     let code = C::outline(&BARE, CHINESE, &mut [], &mut points);
     tally.same(&format!("{who}: an outline of no points"), (code, points), (0, 0));
-}
-
-/// The wrapper's calls over records.
-fn wrapped(tally: &mut Tally) {
-    use bellnewt::notice::{outline, read, write};
-    for (case, message, language, notice) in notices() {
-        tally.same(&format!("wrapper: {case}"), read(message, language), Ok(notice.clone()));
-        tally.same(&format!("wrapper: {case}, its size"), notice.bytes(), message.len());
-        let mut bytes = vec![0; message.len()];
-        let answer = write(&mut bytes, language, &notice);
-        tally.same(&format!("wrapper: {case} written"), (answer, &bytes[..]), (Ok(()), message));
-    }
-    tally.same("wrapper: no notice", read(&[], CHINESE), Err(Refusal::SIZE));
-    let crowded = Notice { head: BARE_HEAD, areas: vec![Area::Sea { code: 0 }; 256], text: vec![] };
-    tally.same("wrapper: 256 areas", write(&mut [0; 400], CHINESE, &crowded), Err(Refusal::RANGE));
-    tally.same("wrapper: outline", outline(&WARNING, ENGLISH), Ok(WARNING_OUTLINE.to_vec()));
-    tally.same("wrapper: an expiry's number", WARNING_EXPIRY.number(), WARNING_HEAD.expiry);
-    tally.same("wrapper: a number's expiry", Expiry::of_number(WARNING_HEAD.expiry), Some(WARNING_EXPIRY));
-    tally.same("wrapper: no expiry", Expiry::of_number(0), None);
-}
-
-/// Fields corrected by their names.
-fn wrapped_corrections(tally: &mut Tally) {
-    use bellnewt::notice::{correct, read};
-    let mut bytes = WARNING;
-    for (field, value, due) in [
-        (Field::Year, 25, Ok(())),
-        (Field::Code { area: 0 }, 99, Ok(())),
-        (Field::Code { area: 1 }, 99, Err(Refusal::FIELD)),
-        (Field::Latitude { area: 3, point: 0 }, 90 << 13, Ok(())),
-        (Field::Latitude { area: 3, point: 1 }, 0, Err(Refusal::FIELD)),
-        (Field::Longitude { area: 4, point: 2 }, 181 << 13, Err(Refusal::RANGE)),
-        (Field::Longitude { area: 4, point: 2 }, 0, Ok(())),
-        (Field::Longitude { area: 5, point: 0 }, 0, Err(Refusal::FIELD)),
-        (Field::Radius { area: 3 }, 30, Ok(())),
-        (Field::Unit { area: 3 }, 1, Ok(())),
-        (Field::Unit { area: 0 }, 1, Err(Refusal::FIELD)),
-    ] {
-        tally.same(&format!("wrapper: {field:?} corrected"), correct(&mut bytes, ENGLISH, field, value), due);
-    }
-    let mut areas = warning_areas();
-    areas[0] = Area::Sea { code: 99 };
-    let Area::Polygon(points) = &mut areas[4] else { panic!("the last area is a polygon") };
-    points[2].longitude = 0;
-    let centre = areas[3].points()[0];
-    tally.check(centre.longitude_parts().negative, "wrapper: a longitude in its parts");
-    areas[3] = Area::Circle { centre: Point { latitude: 90 << 13, ..centre }, radius: 30, unit: 1 };
-    let head = Head { year: 25, ..WARNING_HEAD };
-    let corrected = Notice { head, areas, text: WARNING_TEXT.to_vec() };
-    tally.same("wrapper: all that was corrected", read(&bytes, ENGLISH), Ok(corrected));
 }

@@ -1,7 +1,9 @@
 //! Areas.
 
-use super::{field, Field, Kind, Piece};
-use super::{ABSENT, COUNTRY, DAY, HOUR, MINUTE, MMSI, MONTH, REPEAT, SECOND_TIME, SOURCE, TIME};
+use super::piece::Piece;
+use super::piece::{ABSENT, COUNTRY, DAY, HOUR, MINUTE, MMSI, MONTH, REPEAT, SECOND_TIME, SOURCE, TIME};
+use super::Kind;
+use crate::inputs::field::{field, Field};
 use record::Area;
 
 const ADDRESSED: Piece = Piece::code(6, &[6]);

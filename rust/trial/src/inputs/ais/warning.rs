@@ -1,7 +1,9 @@
 //! Warnings.
 
-use super::{field, Field, Kind, Piece};
-use super::{ABSENT, COUNTRY, DAY, HOUR, MINUTE, MONTH, REPEAT, SOURCE, TIME};
+use super::piece::Piece;
+use super::piece::{ABSENT, COUNTRY, DAY, HOUR, MINUTE, MONTH, REPEAT, SOURCE, TIME};
+use super::Kind;
+use crate::inputs::field::{field, Field};
 use record::Warning;
 
 const BROADCAST: Piece = Piece::code(6, &[8]);
