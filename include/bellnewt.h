@@ -1,5 +1,9 @@
 /*
- * Bellnewt: the proved calls, for C and C++. Link with target/staticlib/librelay.a (made by `rt staticlib relay`).
+ * Bellnewt: the proved calls, for C and C++. A box links target/native/librelay.a, which `rust/native` makes for the
+ * machine that it runs on. In the repository's folder:
+ *
+ *   rust/native
+ *   cc -I include your.c target/native/librelay.a
  *
  * What holds for every call:
  * - The answer is 0 or a refusal's number. The numbers that a call can give stand above it, in the order of the tests:

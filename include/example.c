@@ -1,7 +1,8 @@
 /*
  * Reads, writes and corrects a message of each kind, counts slots, draws an outline, splits a notice and joins one.
- * Build:
- *   cc -Wall -Wextra -Werror -I include include/example.c target/staticlib/librelay.a -o example
+ * Build, in the repository's folder:
+ *   rust/native
+ *   cc -Wall -Wextra -Werror -I include include/example.c target/native/librelay.a -o example
  */
 #include <inttypes.h>
 #include <stdio.h>
