@@ -37,7 +37,7 @@
 //!
 //! # Refusals
 //!
-//! A call that does not accept what it is given answers a [`Refusal`]: a number, and in words
+//! A call that does not accept what it is given answers a [`Refusal`]. Its number says why:
 //!
 //! | Number | Name | Meaning |
 //! |---|---|---|

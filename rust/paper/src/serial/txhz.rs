@@ -33,6 +33,7 @@ impl Kind for Txhz {
         Ok(Txhz { address: u24_at(frame, 7), receiver: u24_at(frame, 10), count: frame[13] })
     }
 
+    #[inline]
     fn judge(&self, receipts: &[u8]) -> Result<(), Refusal> {
         need(receipts.len() == Txhz::RECEIPTS, Refusal::SIZE)?;
         need_address(self.address)?;
