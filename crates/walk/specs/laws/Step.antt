@@ -75,8 +75,6 @@ flawless w j b = go (j (take w b)) (leb w (length b)) refl
     go good false e h = let z : _≡_ {A = ℕ} 0 1 = cc in absurd (omega arith)
     go (bad c i) false e h = let z : _≡_ {A = ℕ} 0 1 = cc in absurd (omega arith)
 
--- ---- one step
-
 -- The code's step past a field: its fault c and how far in, as the layout judges it; its value u; m where it may be corrected.
 pub record Steps (s : List ℕ) (at w : ℕ) (j : Judge) (h : List ℕ) (m : Bool) (u c i : ℕ) : Type 0 where
   pub findable : m ≡ true → (0 < w) × (w ≤ 32)
@@ -205,8 +203,6 @@ step-late {o} {all} {i} {s} {h} {at} {k} {r} {w} {j} {f} {u} {c} {q} v reach e x
     go : (t : Bool) → eqb (r .code) 0 ≡ t → Reading o all i s f (u ∷ h) (at + w) (λ vs. k (u ∷ vs)) (onward w false v c q r)
     go true t = let z = eqb-true (r .code) 0 t in step v e (x z (e .within z))
     go false t = late (eqb-false (r .code) 0 t)
-
--- ---- a field of one number
 
 module _ (s : List ℕ) (at w : ℕ) (j : Judge) (h : List ℕ) {faultOf : ℕ → ℕ} (x : Tells w (j h) faultOf) (reach : at + w < 2 ^ 64) (some : length s * 8 < at → 0 < w) where
   abbrev rest : List Bool
