@@ -10,7 +10,7 @@ pub struct Spot {
     pub width: usize,
 }
 
-// The spot of field number `field`, where a layout's fields stand in the same offsets in every message.
+// The spot of field number `field`, where a layout's fields stand at the same offsets in every message.
 pub fn look_up(offsets: &[usize], widths: &[usize], field: usize) -> Spot
     ensures { λ r. ⌜ (r .at ≡ getD (now (offsets .entry)) field 0) × (r .width ≡ getD (now (widths .entry)) field 0) ⌝ }
 {

@@ -110,7 +110,7 @@ pub fn sized(fixed: u8, length: u64, size: u64) -> u8
 }
 
 // The fill bits behind content of `size` bits.
-pub fn spare(size: u16) -> usize
+pub fn unused_bits(size: u16) -> usize
     ensures { λ r. ⌜ r ≡ pad size ⌝ }
 {
     (8 - size as usize % 8) % 8

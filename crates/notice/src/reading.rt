@@ -242,7 +242,7 @@ fn close(s: &[u8], w: Walk, english: bool) -> Ending
     }
     let rest = w.rest(s);
     let text = rest.v as usize;
-    let fault = choose_code(text::spoken(s, w.at, text, english), 0, format::RANGE);
+    let fault = choose_code(text::in_language(s, w.at, text, english), 0, format::RANGE);
     let walk = rest.wide(text * 8, fault).end(s);
     Ending { walk, text }
 }

@@ -9,7 +9,7 @@ ghost use Rattle.text.specs.Text.{plain, levelOne, english, chinese, inL
 
 // Whether the `n` bytes that start at bit `at` of `s`, which need be no byte's first, lie within it and are text: English, or
 // else Chinese.
-pub fn spoken(s: &[u8], at: usize, n: usize, english: bool) -> bool
+pub fn in_language(s: &[u8], at: usize, n: usize, english: bool) -> bool
     ensures { λ r. ⌜ r ≡ (spanned (length (now (s .entry))) at n && inLanguage english (bytesAt (now (s .entry)) at n)) ⌝ }
 {
     if bits::whole_bytes::spans(s.len(), at, n) {

@@ -129,7 +129,9 @@ pub fn fields(s: &[u8], code: u8) -> Answer
     let size = w.v as u16;
     let w = w.num(s, 8, 0, allowed(password, 255));
     let answer = w.v as u8;
-    let w = w.content(s, size as u32).fill(s, frame::spare(size)).end(s);
+    let w = w.content(s, size as u32)
+        .fill(s, frame::unused_bits(size))
+        .end(s);
     let r = Txsq {
         address,
         category,

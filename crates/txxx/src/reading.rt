@@ -116,7 +116,7 @@ pub fn fields(s: &[u8], code: u8) -> Answer
     let fault = limit(bits::get(s, 40, 16), bits::get(s, 128, 16));
     let w = w.given(s, 16, fault);
     let size = w.v as u16;
-    let w = w.content(s, size as u32).fill(s, frame::spare(size));
+    let w = w.content(s, size as u32).fill(s, frame::unused_bits(size));
     let w = w.num(s, 8, 0, 255);
     let mark = w.v as u8;
     let w = w.end(s);

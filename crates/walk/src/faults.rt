@@ -28,7 +28,7 @@ pub fn signs(s: &[u8], at: usize, w: usize, top: u64, bottom: u64, none: u64) ->
 }
 
 // Whether w bits from bit `at` on lie within `len` bytes.
-pub fn lies(len: usize, at: usize, w: u32) -> bool
+pub fn lies_within(len: usize, at: usize, w: u32) -> bool
     ensures { λ r. ⌜ r ≡ leb (at + w) (len * 8) ⌝ }
 {
     at / 8 + (at % 8 + w as usize + 7) / 8 <= len

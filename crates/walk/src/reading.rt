@@ -10,7 +10,7 @@ use crate::choosing::choose_offset;
 use crate::choosing::no_refusal;
 use crate::faults::clear;
 use crate::faults::closing;
-use crate::faults::lies;
+use crate::faults::lies_within;
 use crate::faults::past;
 use crate::faults::range;
 use crate::faults::signs;
@@ -68,7 +68,7 @@ impl Walk {
         let at = self.at;
         self.wide(
             w as usize,
-            choose_code(lies(s.len(), at, w), 0, format::SIZE),
+            choose_code(lies_within(s.len(), at, w), 0, format::SIZE),
         )
     }
 

@@ -66,7 +66,7 @@ refused-filling {o} {row} {c} {t} f = refused-stands (into row o) row t c (f .co
 
 -- ---- a family's reading, from its own type of answer
 
--- q is what an answer tells of a record r, and `as` makes the row of what the code tells of q
+-- q is what an answer tells of a record r; the code makes `rowOf q` of it, and `as-row` the entries of that
 module _ {R Q A N : Type 0} (part : R → Q) (good : Q → A) (bad : ℕ → A) (outOf : A → Out Q) (of-good : (q : Q) → outOf (good q) ≡ accepted q) (of-bad : (c : ℕ) → outOf (bad c) ≡ refused c 0)
     (as-row : N → List ℤ) (rowOf : Q → N) (o : Out R) (row : List ℤ) {a : A} (reads : a ≡ answered (λ r. good (part r)) bad o) where
   pub fills-good : {q : Q} {xs : N} {c : ℕ} {t : List ℤ} → a ≡ good q → xs ≡ rowOf q → Fills (accepted (as-row xs)) row c t → Fills (also (λ r. as-row (rowOf (part r))) o) row c t

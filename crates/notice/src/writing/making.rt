@@ -22,7 +22,11 @@ pub(crate) fn judged(r: Notice, areas: &[u32], text: &[u8], english: bool) -> St
     let all = notice_fields::making::judge(areas, r.count);
     let next = all.next;
     let behind = all.walk;
-    let fault = choose_code(text::spoken(text, 0, text.len(), english), 0, format::RANGE);
+    let fault = choose_code(
+        text::in_language(text, 0, text.len(), english),
+        0,
+        format::RANGE,
+    );
     let walk = behind.wide(0, fault);
     Stepped { walk, next }
 }

@@ -30,7 +30,7 @@ pub(crate) fn judged(r: Txsq, content: &[u8]) -> walk::walk::Walk
     );
     let w = w.value(8, r.answer as u64, 0, allowed(r.password, 255));
     let w = w.wide(r.size as usize, 0);
-    let spare = frame::spare(r.size);
+    let spare = frame::unused_bits(r.size);
     w.fill_value(spare, bits::get(content, r.size as usize, spare))
 }
 

@@ -20,7 +20,7 @@ pub(crate) fn judged(r: Txxx, content: &[u8]) -> walk::walk::Walk
     let w = w.value(8, r.minute as u64, 0, frame::MINUTE);
     let w = w.on(16, false, size, limit(length, size), 0);
     let w = w.wide(r.size as usize, 0);
-    let spare = frame::spare(r.size);
+    let spare = frame::unused_bits(r.size);
     let w = w.fill_value(spare, bits::get(content, r.size as usize, spare));
     w.value(8, r.mark as u64, 0, 255)
 }

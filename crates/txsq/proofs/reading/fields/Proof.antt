@@ -52,7 +52,7 @@ returns c =
     let r6 = step-given 16 (lit≤ tt) (lit< tt) (lit< tt) (twice-tells 16 3 0 limits filling _) fault r5 (given .given .ensures .0) in
     let r7 = step-limits 8 (lit< tt) (lit≤ tt) (lit< tt) 3 0 _ (λ h. (0 ‥ allowed (ago 2 h) 255) h) (λ v. refl) r6 (answer .num5 .ensures .0 ∙ ap (λ n. ranged s 8 true 0 n 4 (given .given .result)) (with .allowed2 .ensures)) in
     let r8 = step-content l (omega (arith, small)) r7 (carried .content .ensures) in
-    let r9 = step-fill (pad l) (omega arith) (omega (arith, small)) r8 (fill .fill .ensures ∙ ap (λ p. ranged s p false 0 0 5 (carried .content .result)) (spare .spare .ensures)) in
+    let r9 = step-fill (pad l) (omega arith) (omega (arith, small)) r8 (fill .fill .ensures ∙ ap (λ p. ranged s p false 0 0 5 (carried .content .result)) (spare .unused-bits .ensures)) in
     let w = finish (omega (arith, small)) r9 (ended .end .ensures) in
     c .told .ensures ∙ told-so (λ r. Good (r .0)) Refused recordOf _ _ (ended .end .result .code) (ended .end .result .offset) (w .so)
 

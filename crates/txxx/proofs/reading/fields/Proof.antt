@@ -46,7 +46,7 @@ returns c =
     let fault = limit .limit .ensures ∙ ap₂ bounded (length .get .ensures) (bits .get2 .ensures) in
     let r5 = step-given 16 (lit≤ tt) (lit< tt) (lit< tt) (twice-tells 16 3 0 limits filling _) fault r4 (given .given .ensures .0) in
     let r6 = step-content l (omega (arith, small)) r5 (carried .content .ensures) in
-    let r7 = step-fill (pad l) (omega arith) (omega (arith, small)) r6 (fill .fill .ensures ∙ ap (λ p. ranged s p false 0 0 5 (carried .content .result)) (spare .spare .ensures)) in
+    let r7 = step-fill (pad l) (omega arith) (omega (arith, small)) r6 (fill .fill .ensures ∙ ap (λ p. ranged s p false 0 0 5 (carried .content .result)) (spare .unused-bits .ensures)) in
     let r8 = step-num 8 (lit< tt) (lit≤ tt) (omega (arith, small)) 0 255 r7 (mark .num5 .ensures .0) in
     let w = finish (omega (arith, small)) r8 (ended .end .ensures) in
     c .told .ensures ∙ told-so (λ r. Good (r .0)) Refused recordOf _ _ (ended .end .result .code) (ended .end .result .offset) (w .so)

@@ -48,7 +48,7 @@ returns-2 c =
     let y = subst⁻¹ (AreasAre (a .areas .now) (a .r .count) 0 (bare front 0 0)) (j .judge .ensures) (areas-are (a .areas .now) (a .r .count) 0 (bare front 0 0) (omega (arith, few))) in
     let g = y .along .on (from-front (i .if1 .left) (x .is (a .english) (areasTold (a .r .count) (a .areas .now) ++ texted t))) in
     record {
-      judged = text-judged (a .english) t (ch .choose-code .result) fine (omega (arith, y .near, few)) (ch .choose-code .ensures ∙ ap (λ b. cond b 0 4) (sp .spoken .ensures ∙ spoken-whole (a .english) t fine)) (c .wide .ensures) g;
+      judged = text-judged (a .english) t (ch .choose-code .result) fine (omega (arith, y .near, few)) (ch .choose-code .ensures ∙ ap (λ b. cond b 0 4) (sp .in-language .ensures ∙ spoken-whole (a .english) t fine)) (c .wide .ensures) g;
       asked = λ z. y .next (clean (j .judge .result .walk .code) (ch .choose-code .result) (ap (λ (w : Walk). w .code) (sym (c .wide .ensures)) ∙ z) .0) ∙ omega arith;
     }
 

@@ -61,9 +61,9 @@ returns c =
     let r7 = judge-limits 8 (lit< tt) (λ h. (0 ‥ allowed (ago 2 h) 255) h) 0 (allowed (r .password) 255) (allowed-below (r .password) 255 256 (lit< tt) (lit< tt)) (λ l. refl) r6
     (answer .value5 .ensures ∙ ap (λ n. valued 8 (r .answer) 0 n (on .on .result)) (with .allowed2 .ensures)) in
     let r8 = judge-tells l false 0 0 (omega (arith, small)) (field-lt b 0 l) (only-tells l 3 any _) refl opens-field r7 (wide .wide .ensures) in
-    let fill = got .get .ensures ∙ ap (λ p. got-of b l p) (spare .spare .ensures) ∙ got-fill b l in
+    let fill = got .get .ensures ∙ ap (λ p. got-of b l p) (spare .unused-bits .ensures) ∙ got-fill b l in
     judge-end (judge-tells (pad l) false (fieldAt b l (pad l)) _ (omega (arith, small)) (field-lt b l (pad l)) (only-tells (pad l) 4 (0 ‥ 0) _) refl opens-field r8
-    (c .fill-value .ensures ∙ ap₂ (λ p v. filled p v (wide .wide .result)) (spare .spare .ensures) fill))
+    (c .fill-value .ensures ∙ ap₂ (λ p v. filled p v (wide .wide .result)) (spare .unused-bits .ensures) fill))
 
 pub judged-spec : {M : Type 1} → statement M
 judged-spec =

@@ -53,9 +53,9 @@ returns c =
     let fault = limit .limit .ensures ∙ ap (λ n. bounded n l) (length .declared .ensures) in
     let r5 = judge-tells 16 false l (limit .limit .result) (lit< tt) small (twice-tells 16 3 0 limits filling _) fault opens-choice r4 (on .on .ensures) in
     let r6 = judge-tells l false 0 0 (omega (arith, small)) (field-lt b 0 l) (only-tells l 3 any _) refl opens-field r5 (wide .wide .ensures) in
-    let spelled = got .get .ensures ∙ ap (λ p. got-of b l p) (spare .spare .ensures) ∙ got-fill b l in
+    let spelled = got .get .ensures ∙ ap (λ p. got-of b l p) (spare .unused-bits .ensures) ∙ got-fill b l in
     let r7 = judge-tells (pad l) false (fieldAt b l (pad l)) _ (omega (arith, small)) (field-lt b l (pad l)) (only-tells (pad l) 4 (0 ‥ 0) _) refl opens-field r6
-    (fill .fill-value .ensures ∙ ap₂ (λ p v. filled p v (wide .wide .result)) (spare .spare .ensures) spelled) in
+    (fill .fill-value .ensures ∙ ap₂ (λ p v. filled p v (wide .wide .result)) (spare .unused-bits .ensures) spelled) in
     judge-end (judge-num 8 (omega (arith, small)) 0 255 (lit< tt) r7 (c .value5 .ensures))
 
 pub judged-spec : {M : Type 1} → statement M

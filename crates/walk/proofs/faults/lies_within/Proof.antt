@@ -1,4 +1,4 @@
--- `lies` compares whole bytes: the bytes that hold the bits end within the message just where the bits do.
+-- `lies_within` compares whole bytes: the bytes that hold the bits end within the message just where the bits do.
 use mathlib.Core.Path.{_≡_, refl}
 use mathlib.Core.Bool.{Bool, true, false}
 use Prim.Native.Nat.{ℕ, _+_, _*_, _/_, _%_}
@@ -6,8 +6,8 @@ use native.Mathlib.Omega.{arith}
 use lib.Dec.{leb}
 use borrow.Author.Tests.{le-leb, lt-leb, leb-true, leb-false}
 use borrow.Author.Needs.{needs}
-use Rattle.walk.proofs.faults.lies.Statement.{statement}
-use Rattle.walk.proofs.faults.lies.Tie as tie
+use Rattle.walk.proofs.faults.lies_within.Statement.{statement}
+use Rattle.walk.proofs.faults.lies_within.Tie as tie
 
 returns : tie.Need-returns
 returns c =
@@ -18,5 +18,5 @@ returns c =
     go at w len true e = let l = leb-true (at + w) (len * 8) e in le-leb (at / 8 + (at % 8 + w + 7) / 8) len (omega arith)
     go at w len false e = let l = leb-false (at + w) (len * 8) e in lt-leb (at / 8 + (at % 8 + w + 7) / 8) len (omega arith)
 
-pub lies-spec : {M : Type 1} → statement M
-lies-spec = tie.close (tie.spec (λ c. search needs) (λ c. search needs) (λ c. search needs) returns)
+pub lies-within-spec : {M : Type 1} → statement M
+lies-within-spec = tie.close (tie.spec (λ c. search needs) (λ c. search needs) (λ c. search needs) returns)
