@@ -10,10 +10,10 @@ use Rattle.format.specs.Promises.{answered, readRecord}
 use Rattle.distress.specs.Report.{reports, valuesOf, reportOf}
 use Rattle.distress.specs.declared.reading.Report.{Report}
 use Rattle.sentence.specs.Pattern.{sentence, addressGood, aroundSo}
-use Rattle.sentence.specs.declared.Heard.{Heard}
-use Rattle.sentence.specs.declared.Heard.the-variants.{Good, Refused}
-use Rattle.sentence.specs.declared.Sent.{Sent}
-use Rattle.sentence.specs.declared.Sent.the-variants.{Bytes, Refused as Unsent}
+use Rattle.sentence.specs.declared.reading.Heard.{Heard}
+use Rattle.sentence.specs.declared.reading.Heard.the-variants.{Good, Refused}
+use Rattle.sentence.specs.declared.writing.Sent.{Sent}
+use Rattle.sentence.specs.declared.writing.Sent.the-variants.{Bytes, Refused as Unsent}
 
 -- The report inside is read only if the sentence around it was accepted.
 unfoldable pub readSentence : List ℕ → Out (ℕ × Report)

@@ -11,7 +11,7 @@ use Rattle.distress.specs.Promises.{Reads}
 use Rattle.distress.specs.declared.reading.Report.{Report}
 use Rattle.distress.specs.declared.reading.Answer.the-variants.{Refused}
 use Rattle.sentence.specs.Sentence.{laidOver, Hears}
-use Rattle.sentence.specs.declared.Heard.the-variants.{Refused as Unheard}
+use Rattle.sentence.specs.declared.reading.Heard.the-variants.{Refused as Unheard}
 use Rattle.c_rows.specs.Row.{Fills}
 use Rattle.c_rows.specs.Report.{numbersOf}
 use Rattle.c_rows.specs.laws.Row.{one-filling}

@@ -10,9 +10,9 @@ use Rattle.format.specs.Message.{codeOf, leaves}
 use Rattle.format.specs.laws.Answers.{bad-refuses}
 use Rattle.sentence.specs.Sentence.{readSentence, outOf, sentOf, Hears, Sends}
 use Rattle.distress.specs.declared.reading.Report.{Report}
-use Rattle.sentence.specs.declared.Heard.the-variants.{Good, Refused}
-use Rattle.sentence.specs.declared.Sent.{Sent}
-use Rattle.sentence.specs.declared.Sent.the-variants.{Bytes, Refused as Unsent}
+use Rattle.sentence.specs.declared.reading.Heard.the-variants.{Good, Refused}
+use Rattle.sentence.specs.declared.writing.Sent.{Sent}
+use Rattle.sentence.specs.declared.writing.Sent.the-variants.{Bytes, Refused as Unsent}
 use Rattle.c_rows.specs.Row.{Fills}
 use Rattle.c_rows.specs.Report.{rowOf}
 use Rattle.c_rows.specs.Sentence.{sentenceNumbers, sentenceInto, SentenceWrites}

@@ -24,9 +24,9 @@ use Rattle.distress.specs.declared.reading.Answer.{Answer}
 use Rattle.distress.specs.declared.reading.Answer.the-variants.{Good as GoodReport, Refused as BadReport}
 use Rattle.sentence.specs.declared.pattern.Around.{Around}
 use Rattle.sentence.specs.declared.pattern.Around.the-variants.{Accepted as Accepts, Refused as Refuses}
-use Rattle.sentence.specs.declared.Heard.{Heard}
-use Rattle.sentence.specs.declared.Heard.the-variants.{Good, Refused}
-use Rattle.sentence.specs.declared.Sent.the-variants.{Bytes as Written, Refused as Unsent}
+use Rattle.sentence.specs.declared.reading.Heard.{Heard}
+use Rattle.sentence.specs.declared.reading.Heard.the-variants.{Good, Refused}
+use Rattle.sentence.specs.declared.writing.Sent.the-variants.{Bytes as Written, Refused as Unsent}
 
 -- ---- reading
 

@@ -24,10 +24,10 @@ use Rattle.sentence.specs.laws.Tests.{never-around}
 use Rattle.distress.specs.declared.reading.Report.{Report}
 use Rattle.distress.specs.declared.reading.Answer.{Answer}
 use Rattle.distress.specs.declared.reading.Answer.the-variants.{Good as GoodReport, Refused as BadReport}
-use Rattle.sentence.specs.declared.Heard.{Heard}
-use Rattle.sentence.specs.declared.Heard.the-variants.{Good, Refused}
-use Rattle.sentence.specs.declared.Sent.{Sent}
-use Rattle.sentence.specs.declared.Sent.the-variants.{Bytes as Written, Refused as Unsent}
+use Rattle.sentence.specs.declared.reading.Heard.{Heard}
+use Rattle.sentence.specs.declared.reading.Heard.the-variants.{Good, Refused}
+use Rattle.sentence.specs.declared.writing.Sent.{Sent}
+use Rattle.sentence.specs.declared.writing.Sent.the-variants.{Bytes as Written, Refused as Unsent}
 
 -- ---- answers are decided
 

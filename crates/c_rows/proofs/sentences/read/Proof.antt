@@ -4,7 +4,7 @@ use mathlib.Core.List.{_∷_}
 use lib.IntN.{pos}
 use Rattle.c_rows.specs.laws.Row.{fills-good, fills-refused}
 use Rattle.sentence.specs.Sentence.{readSentence, outOf}
-use Rattle.sentence.specs.declared.Heard.the-variants.{Good, Refused}
+use Rattle.sentence.specs.declared.reading.Heard.the-variants.{Good, Refused}
 use Rattle.c_rows.specs.Report.{rowOf}
 use borrow.Author.Needs.{needs}
 use Rattle.c_rows.proofs.sentences.read.Statement.{statement}

@@ -8,11 +8,11 @@ use borrow.Author.Tests.{eq-eqb}
 use Rattle.sentence.specs.Spelling.{unhexed}
 use Rattle.sentence.specs.Pattern.{hexPart, refusalOf}
 use Rattle.format.specs.Fmt.{accepted}
-use Rattle.sentence.specs.declared.Heard.the-variants.{Refused}
+use Rattle.sentence.specs.declared.reading.Heard.the-variants.{Refused}
 use Rattle.sentence.specs.laws.Parts.{length-part}
 use Rattle.sentence.specs.laws.Calls.{heard-refused, Taken, taken, heardAs, heard-inside}
-use Rattle.sentence.proofs.read.Statement.{statement}
-use Rattle.sentence.proofs.read.Tie as tie
+use Rattle.sentence.proofs.reading.read.Statement.{statement}
+use Rattle.sentence.proofs.reading.read.Tie as tie
 
 apart : (c : tie.After-known-told) → Taken (c .before .before .before .before .before .args .s .now) (c .before .outer .given .0 .0)
 apart c =

@@ -12,8 +12,8 @@ use Rattle.sentence.specs.Spelling.{decimal}
 use Rattle.sentence.specs.laws.Digits.{decimal-wide, spells-from, spells-digits}
 use Rattle.sentence.specs.laws.Calls.{Reported, reported, bad-address, bad-report, all-laid, none-laid}
 use borrow.Author.Needs.{needs}
-use Rattle.sentence.proofs.write.Statement.{statement}
-use Rattle.sentence.proofs.write.Tie as tie
+use Rattle.sentence.proofs.writing.write.Statement.{statement}
+use Rattle.sentence.proofs.writing.write.Tie as tie
 
 within : (c : tie.Else2) → addressGood (c .before .before .before .args .address) ≡ true
 within c = let a = c .before .before .before .args .address in rw (le-leb 1 a (omega arith), le-leb a 2_097_151 (omega arith)) refl
