@@ -7,7 +7,6 @@ use native.Mathlib.Omega.{arith}
 use lib.Dec.{ltb, eqb}
 use lib.ListN.{length}
 use borrow.Author.Tests.{eq-eqb, eqb-true, eqb-false, ltb-true, ltb-false}
-use Rattle.bits.specs.Answers.{got}
 use Rattle.bits.specs.Bits.{Bytes, bitsOf, fieldAt, putAt}
 use Rattle.bits.specs.laws.Answers.{got-fits, puttable-fits}
 use Rattle.bits.specs.laws.Fields.{field-lt, length-put, put-put, put-field}
