@@ -9,9 +9,12 @@ use Rattle.format.specs.Message.{readMessage, codeOf as refusal}
 use Rattle.area.specs.Area.{areas}
 use Rattle.warning.specs.Warning.{warnings}
 
--- the smallest size (1), the message's number (2), then as the message of that number is read
+-- as the message of that number is read; another is 2
+unfoldable pub codeAs : ℕ → List ℕ → ℕ
+codeAs message s =
+    cond (eqb message 6) (refusal (readMessage areas s))
+    (cond (eqb message 8) (refusal (readMessage warnings s)) 2)
+
+-- the smallest size (1), then by the message's number
 unfoldable pub codeOf : List ℕ → ℕ
-codeOf s =
-    cond (leb 23 (length s))
-    (cond (eqb (fieldAt s 0 6) 6) (refusal (readMessage areas s))
-    (cond (eqb (fieldAt s 0 6) 8) (refusal (readMessage warnings s)) 2)) 1
+codeOf s = cond (leb 23 (length s)) (codeAs (fieldAt s 0 6) s) 1

@@ -7,7 +7,7 @@ use Rattle.bits.specs.Bits.{bit, valueOf, digits, bitsOf, fieldAt}
 use Rattle.format.specs.Message.{readMessage}
 use Rattle.area.specs.Area.{areas}
 use Rattle.warning.specs.Warning.{warnings}
-use Rattle.ais.specs.Ais.{codeOf}
+use Rattle.ais.specs.Ais.{codeAs, codeOf}
 
 nothing : codeOf [] ≡ 1
 unfolding codeOf
@@ -19,5 +19,5 @@ cut last shape = 0x18 ∷ 0 ∷ 0 ∷ 0 ∷ 0 ∷ 0 ∷ 0 ∷ 0 ∷ 0 ∷ 0x67 �
 
 -- message 6 cut to 23 bytes: 2 where its application or its shape is bad, else 1
 short : (codeOf (cut 0x0B 0x14) ≡ 1) × (codeOf (cut 0x0B 0x10) ≡ 2) × (codeOf (cut 0x03 0x14) ≡ 2)
-unfolding codeOf readMessage areas warnings told fieldAt valueOf bit digits bitsOf
+unfolding codeOf codeAs readMessage areas warnings told fieldAt valueOf bit digits bitsOf
 short = (refl, refl, refl)

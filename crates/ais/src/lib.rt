@@ -1,7 +1,7 @@
 // AIS (paper 01, "AIS"): both messages with their calls, what reading either answers, and how many slots one needs. A crate above takes
 // all of it from here; crates.txt names `warning` and `area` beside it there, since the kit asks for the crate that declares a type.
 ghost use mathlib.Core.Path.{_≡_};
-ghost use Rattle.ais.specs.Ais.{codeOf};
+ghost use Rattle.ais.specs.Ais.{codeAs, codeOf};
 pub use crate::slot_count::Needed;
 pub use crate::slot_count::slots;
 pub use ais_common::head::SMALLEST;
@@ -17,7 +17,12 @@ pub fn code(s: &[u8]) -> u8
     if s.len() < SMALLEST {
         return format::SIZE;
     }
-    let message = bits::get(s, 0, 6);
+    code_as(bits::get(s, 0, 6), s)
+}
+
+fn code_as(message: u64, s: &[u8]) -> u8
+    ensures { λ r. ⌜ r ≡ codeAs message (now (s .entry)) ⌝ }
+{
     if message == area::MESSAGE {
         return area::read(s).refusal();
     }
