@@ -33,13 +33,22 @@ static void show_content(const uint8_t *frame, const int64_t *row)
     show_bytes("content", frame + row[BELLNEWT_CONTENT_START], (size_t)row[BELLNEWT_CONTENT_BYTES]);
 }
 
+/* What stands in the row of a sentence: an address, then the report's own row. */
+static const char *const sentence_names[] = {"address", "MMSI",   "longitude", "latitude", "day",
+                                             "hour",    "minute", "speed",     "course",   "kind"};
+
 static void show_report(const uint8_t *report)
 {
-    static const char *const names[] = {"MMSI",   "longitude", "latitude", "day", "hour",
-                                        "minute", "speed",     "course",   "kind"};
     int64_t row[BELLNEWT_DISTRESS_ROW];
     uint8_t code = bellnewt_distress_read(report, BELLNEWT_DISTRESS_BYTES, row, BELLNEWT_DISTRESS_ROW);
-    show(code, names, row, BELLNEWT_DISTRESS_ROW);
+    show(code, sentence_names + 1, row, BELLNEWT_DISTRESS_ROW);
+}
+
+static void show_sentence(const uint8_t *sentence, size_t size)
+{
+    int64_t row[BELLNEWT_SENTENCE_ROW];
+    uint8_t code = bellnewt_sentence_read(sentence, size, row, BELLNEWT_SENTENCE_ROW);
+    show(code, sentence_names, row, BELLNEWT_SENTENCE_ROW);
 }
 
 /* The example of 001, A.2: its day corrected, two refusals, and sent on in a sentence. */
@@ -63,6 +72,10 @@ static void distress(void)
                                            12, 25, 10, 45, 8);
     printf("write the sentence: %d, %zu bytes\n", code, size);
     fwrite(sentence, 1, size, stdout);
+    show_sentence(sentence, size);
+    printf("write the report with its first day: %d\n",
+           bellnewt_distress_write(report, sizeof report, 123456789, 7387407, 107380, 9, 12, 25, 10, 45, 8));
+    show_bytes("report", report, sizeof report);
 }
 
 static void gljc(void)
@@ -177,6 +190,16 @@ static void warning(void)
     show(bellnewt_warning_read(message, sizeof message, row, BELLNEWT_WARNING_ROW), names, row, BELLNEWT_WARNING_ROW);
     printf("write fog with a visibility of 251: %d\n",
            bellnewt_fog_write(message, sizeof message, 0, 4122100, 3750000, 4800000, 200, 251, 8, 27, 6, 30, 24));
+    printf("write a gale: %d\n",
+           bellnewt_gale_write(message, sizeof message, 0, 4122100, 3750000, 4800000, 120, 8, 10, 3, 8, 27, 6, 30, 24));
+    show_bytes("message", message, sizeof message);
+    printf("write waves: %d\n",
+           bellnewt_waves_write(message, sizeof message, 0, 4122100, 3750000, 4800000, 90, 6, 13, 8, 27, 6, 30, 24));
+    show_bytes("message", message, sizeof message);
+    printf("write a surge: %d\n",
+           bellnewt_surge_write(message, sizeof message, 0, 4122100, 3750000, 4800000, 150, 210, 480, 75, 8, 27, 6, 30,
+                                24));
+    show_bytes("message", message, sizeof message);
 }
 
 /* A rectangle between 75 and 74 degrees W, 10.5 and 9.5 degrees S. */
@@ -295,6 +318,10 @@ static void packet(const uint8_t *content, size_t size)
            bellnewt_packet_correct(buf, len, BELLNEWT_PACKET_NUMBER, bellnewt_next_number(255)));
     printf("correct the own number to 1, of 1: %d\n",
            bellnewt_packet_correct(buf, len, BELLNEWT_PACKET_OWN, 1));
+    uint8_t written[BELLNEWT_PACKET_GREATEST];
+    printf("write it: %d, ",
+           bellnewt_packet_write(written, sizeof written, content, size, BELLNEWT_ENGLISH, 0, 1, 0));
+    printf("%s\n", memcmp(written, buf, len) == 0 ? "the same bytes" : "other bytes");
     uint8_t code = bellnewt_packet_read(buf, len, row, BELLNEWT_PACKET_ROW);
     if (show(code, names, row, BELLNEWT_PACKET_ENTRY_START))
         show_bytes("content", buf + row[BELLNEWT_PACKET_ENTRY_START], (size_t)row[BELLNEWT_PACKET_ENTRY_BYTES]);
