@@ -2,6 +2,6 @@
 unfoldable pub use Rattle.area.specs.Area.{areas}
 pub use Rattle.area.specs.Area.{valuesOf, recordOf, answerOf, outOf, numberOf}
 unfoldable pub use Rattle.area.specs.Changed.{changed}
-pub use Rattle.area.specs.Changed.{fieldOf}
+pub use Rattle.area.specs.Changed.{fieldOf, spotBy, changedBy}
 pub use Rattle.area.specs.Promises.{Reads}
-pub use Rattle.area.specs.laws.Demands.{family, written-reads, read-writes-back, corrected, corrected-none}
+pub use Rattle.area.specs.laws.Demands.{family, written-reads, read-writes-back, corrected}

@@ -2,6 +2,6 @@
 unfoldable pub use Rattle.warning.specs.Warning.{warnings}
 pub use Rattle.warning.specs.Warning.{valuesOf, recordOf, answerOf, outOf, numberOf}
 unfoldable pub use Rattle.warning.specs.Changed.{changed}
-pub use Rattle.warning.specs.Changed.{fieldOf}
+pub use Rattle.warning.specs.Changed.{fieldOf, spotBy, changedBy}
 pub use Rattle.warning.specs.Promises.{Reads}
-pub use Rattle.warning.specs.laws.Demands.{family, written-reads, read-writes-back, corrected, corrected-none}
+pub use Rattle.warning.specs.laws.Demands.{family, written-reads, read-writes-back, corrected}

@@ -7,7 +7,7 @@ use lib.ListN.{getD}
 use Rattle.format.specs.Correcting.{entryOf}
 use Rattle.format.specs.Fmt.{Spot, none, found}
 use Rattle.ais_common.specs.Time.{timeOf, shortOf}
-use Rattle.area.specs.Shapes.{Kind, circle, rectangle, kindOf, eastOf, northOf}
+use Rattle.area.specs.Shapes.{Kind, circle, rectangle, kindOf, typeOf, shapeKind, eastOf, northOf}
 use Rattle.area.specs.declared.reading.Area.{Area}
 use Rattle.area.specs.declared.reading.shapes.Shape.{Shape}
 use Rattle.area.specs.declared.reading.shapes.Shape.the-variants.{Circle, Rectangle}
@@ -100,3 +100,14 @@ changed i v r = record {
   «second_time» = cond (eqb i 16) (shortOf v) (r .«second_time»);
   advice = cond (eqb i 17) v (r .advice);
 }
+
+-- ---- a field by its number: where it stands in the record, and the record with it changed
+
+abbrev pub namedBy : Area → ℕ → ℕ
+namedBy r = fieldOf (typeOf (shapeKind (r .shape)))
+
+abbrev pub spotBy : Area → ℕ → Spot
+spotBy r n = spotOf (shapeKind (r .shape)) (namedBy r n)
+
+abbrev pub changedBy : ℕ → ℕ → Area → Area
+changedBy n v r = changed (namedBy r n) v r

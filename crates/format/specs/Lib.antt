@@ -4,5 +4,6 @@ pub mod Words
 pub mod Message
 pub mod Promises
 pub mod Sealing
+pub mod Settled
 pub mod Correcting
 pub mod laws

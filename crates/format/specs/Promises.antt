@@ -14,6 +14,10 @@ abbrev pub answered : {R A : Type 0} → (R → A) → (ℕ → A) → Out R →
 answered good bad (accepted r) = good r
 answered good bad (refused c p) = bad c
 
+-- an answer as a call tells it: a refusal has its number alone
+abbrev pub plain : {A : Type 0} → Out A → Out A
+plain = answered accepted (λ c. refused c 0)
+
 -- writing the values vs: the code, and t left of s
 abbrev pub Writes : Layout → List ℕ → ℕ → List ℕ → List ℕ → Type 0
 Writes l s code t vs = (code ≡ codeOf (into s (writeMessage l vs))) × (t ≡ leaves (into s (writeMessage l vs)) s)

@@ -17,6 +17,7 @@ pub mod Sealing
 pub mod Correcting
 pub mod Entries
 pub mod Family
+pub mod Settled
 pub mod Corrections
 pub mod Showing
 pub mod Runs

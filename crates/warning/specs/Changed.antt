@@ -4,7 +4,7 @@ use mathlib.Core.Bool.{cond}
 use mathlib.Core.List.{List, [], _∷_}
 use lib.Dec.{eqb}
 use lib.ListN.{getD}
-use Rattle.warning.specs.Bodies.{Kind, cyclone, gale, waves, fog, surge, kindOf, bodyKind}
+use Rattle.warning.specs.Bodies.{Kind, cyclone, gale, waves, fog, surge, kindOf, typeOf, bodyKind}
 use Rattle.warning.specs.declared.bodies.Body.{Body}
 use Rattle.warning.specs.declared.bodies.Body.the-variants.{Cyclone, Gale, Waves, Fog, Surge}
 use Rattle.format.specs.Correcting.{entryOf}
@@ -111,3 +111,14 @@ changed i v r = let t = bodyKind (r .body) in record {
   time = cond (eqb i (timeAt t)) (timeOf v) (r .time);
   hours = cond (eqb i (hoursAt t)) v (r .hours);
 }
+
+-- ---- a field by its number: where it stands in the record, and the record with it changed
+
+abbrev pub namedBy : Warning → ℕ → ℕ
+namedBy r = fieldOf (typeOf (bodyKind (r .body)))
+
+abbrev pub spotBy : Warning → ℕ → Spot
+spotBy r n = spotOf (bodyKind (r .body)) (namedBy r n)
+
+abbrev pub changedBy : ℕ → ℕ → Warning → Warning
+changedBy n v r = changed (namedBy r n) v r

@@ -12,21 +12,22 @@ use Rattle.bits.specs.Bits.{Bytes, fieldAt}
 use Rattle.bits.specs.laws.Answers.{got-fits}
 use Rattle.walk.specs.laws.Sign.{spell-int}
 use Rattle.format.specs.Correcting.{standing}
-use Rattle.format.specs.Fmt.{accepted, end, found, spot}
-use Rattle.format.specs.Message.{codeOf, leaves}
+use Rattle.format.specs.Fmt.{accepted, end, spot}
+use Rattle.format.specs.Settled.{Settled}
 use Rattle.format.specs.Promises.{readRecord, Writes, Corrects}
 use Rattle.format.specs.Words.{_‥_, num, fill, wide}
-use Rattle.format.specs.laws.Answers.{good-read}
+use Rattle.format.specs.laws.Answers.{good-read, answer-plain}
 use Rattle.format.specs.laws.Entries.{entries}
-use Rattle.format.specs.laws.Family.{Family, one-size, written-front, read-written, read-values, correction-none, corrected-as-written}
+use Rattle.format.specs.laws.Family.{Family, one-size, written-front, read-written, read-values}
 use Rattle.format.specs.laws.Legal.{Legal, exactly, ranged}
+use Rattle.format.specs.laws.Settled.{settled-named}
 use Rattle.format.specs.laws.Whole.{was}
 use Rattle.format.specs.laws.Zero.{Judged, Counted, only-numbered}
 use Rattle.ais_common.specs.Time.{shortTime, spellTime, timeOf, spellShort, shortOf}
 use Rattle.ais_common.specs.laws.Spelling.{time-spell, spell-time, short-spell, spell-short}
 use Rattle.ais_common.specs.laws.Walking.{time-numbered, short-numbered}
 use Rattle.area.specs.Area.{tail, area, areas, valuesAs, valuesOf, recordOf, answerOf, outOf}
-use Rattle.area.specs.Changed.{spotOf, fieldOf, changed}
+use Rattle.area.specs.Changed.{spotOf, fieldOf, changed, namedBy, spotBy, changedBy}
 use Rattle.area.specs.Promises.{Reads}
 use Rattle.area.specs.Shapes.{Kind, circle, rectangle, kindOf, typeOf, shape, shapeKind, shapeValues, shapeOf}
 use Rattle.area.specs.laws.Correction.{Looked, stands, spotted, changed-values}
@@ -37,6 +38,7 @@ use Rattle.area.specs.laws.Walking.{shape-numbered}
 use Rattle.area.specs.declared.reading.Area.{Area}
 use Rattle.area.specs.declared.reading.shapes.Shape.{Shape}
 use Rattle.area.specs.declared.reading.shapes.Shape.the-variants.{Circle, Rectangle}
+use Rattle.area.specs.declared.reading.Answer.{Answer}
 use Rattle.area.specs.declared.reading.Answer.the-variants.{Good, Refused}
 
 -- ---- the values of a record
@@ -177,7 +179,7 @@ pub read-writes-back : (s : List ℕ) (r : Area) → Bytes s → Reads s (Good r
 read-writes-back s r fine a = read-written family s r fine (good s r a)
 
 -- the shape's number in the bytes is that of the record's shape
-pub shape-number : (s : List ℕ) (r : Area) → Bytes s → readRecord areas recordOf s ≡ accepted r → fieldAt s 92 2 ≡ typeOf (shapeKind (r .shape))
+shape-number : (s : List ℕ) (r : Area) → Bytes s → readRecord areas recordOf s ≡ accepted r → fieldAt s 92 2 ≡ typeOf (shapeKind (r .shape))
 unfolding areas valuesAs
 shape-number s r fine e = let m = read-values family s r fine e .0 in shape-at s (valuesOf r) (was areas s (valuesOf r) m .walked)
 
@@ -190,16 +192,9 @@ looked-stands s n k fine is l r e =
     let found-so = is ∙ got-fits s 92 2 (lit≤ tt) (omega (arith, bytes s (valuesOf r) m)) in
     ap (λ t. spot (areas .fmt) [] (valuesOf r) (fieldOf t n)) (sym found-so) ∙ stands (kindOf k) n l r (ap kindOf (found-so ∙ shape-number s r fine e) ∙ kind-type (shapeKind (r .shape)))
 
--- Demand 3: correcting an area, where the field of that number can spell the value, is writing the area with that field changed; else nothing differs.
-pub corrected : (s : List ℕ) (r : Area) → Bytes s → Reads s (Good r) → (n v p w : ℕ) → let i = fieldOf (fieldAt s 92 2) n in spotOf (shapeKind (r .shape)) i ≡ found p w → v < 2 ^ w
-    → (code : ℕ) (t : List ℕ) → Corrects areas s i v code t → (u : List ℕ) → length s ≤ length u → (code′ : ℕ) (t′ : List ℕ) → Writes areas u code′ t′ (valuesOf (changed i v r))
-    → (code ≡ code′) × (code ≡ 0 → t ≡ take (length s) t′) × ((code ≡ 0 → ⊥) → t ≡ s)
-corrected s r fine a n v p w e l = let i = fieldOf (fieldAt s 92 2) n in corrected-as-written family s r fine (good s r a) i v p w (spotted r i ∙ e) l
-
--- A number that names no field of an area with that shape is 10, and nothing differs.
-pub corrected-none : (s : List ℕ) (r : Area) → Bytes s → Reads s (Good r) → (n v : ℕ) → fieldOf (fieldAt s 92 2) n ≡ 0 → (code : ℕ) (t : List ℕ) → Corrects areas s (fieldOf (fieldAt s 92 2) n) v code t
-    → (code ≡ 10) × (t ≡ s)
-corrected-none s r fine a n v z code t (x, y) =
-    let i = fieldOf (fieldAt s 92 2) n in
-    let o = correction-none family s r fine (good s r a) i v (spotted r i ∙ ap (spotOf (shapeKind (r .shape))) z) in
-    (x ∙ ap codeOf o, y ∙ ap (λ o. leaves o s) o)
+-- Demand 3: every correction of an area, by any number and any value.
+pub corrected : (s : List ℕ) (a : Answer) → Bytes s → Reads s a → (n v code : ℕ) (t : List ℕ) → Corrects areas s (fieldOf (fieldAt s 92 2) n) v code t
+    → Settled areas spotBy valuesOf changedBy s (outOf a) n v code t
+corrected s a fine reads n v code t c =
+    settled-named family (λ r. spotOf (shapeKind (r .shape))) spotted s fine (fieldOf (fieldAt s 92 2) n) v code t c namedBy n (λ r e. ap (λ k. fieldOf k n) (shape-number s r fine e))
+    (outOf a) (answer-plain Good Refused outOf (λ q. refl) (λ c. refl) (readRecord areas recordOf s) reads)

@@ -1,13 +1,17 @@
--- What the answers say, for callers: `within` as an inequality, both ways; what getting and putting answer where all fits. Assumes nothing.
+-- What the answers say, for callers: two that a promise allows are equal; `within` as an inequality, both ways; what getting and putting answer where all fits. Assumes nothing.
 use mathlib.Core.Bool.{Bool, true, cond, and-eq-true-iff}
 use mathlib.Core.List.{List}
-use mathlib.Core.Path.{_≡_, _∙_}
+use mathlib.Core.Path.{_≡_, sym, ap, _∙_}
 use Prim.Native.Nat.{ℕ, _+_, _*_, _^_, _≤_, _<_}
 use borrow.Author.Tests.{leb-true, le-leb, lt-ltb}
 use lib.Dec.{leb}
 use lib.ListN.{length}
 use Rattle.bits.specs.Bits.{fieldAt, putAt}
 use Rattle.bits.specs.Answers.{within, got, puttable}
+
+-- a promise that has an equation for the answer, and one for what is left, by the answer or not, allows one of each
+pub one-answer : {A B : Type 0} (left : A → B) {x a b : A} {t u : B} → (a ≡ x) × (t ≡ left a) → (b ≡ x) × (u ≡ left b) → (a ≡ b) × (t ≡ u)
+one-answer left p q = let e = p .0 ∙ sym (q .0) in (e, p .1 ∙ ap left e ∙ sym (q .1))
 
 module _ (n at w : ℕ) where
   pub within-true : within n at w ≡ true → (w ≤ 32) × (at + w ≤ n * 8)

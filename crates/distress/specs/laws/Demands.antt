@@ -1,16 +1,18 @@
 -- The report is a family of format/specs/laws/Family, whose theorems are demands 2 and 3; said here of the report's own promises. Assumes nothing.
 use mathlib.Core.Path.{_≡_, refl, sym, ap, _∙_, subst}
-use mathlib.Core.List.{List, [], _∷_}
-use Prim.Native.Nat.{ℕ, _≤_, _<_, _^_}
+use mathlib.Core.List.{List, [], _∷_, _++_}
+use Prim.Native.Nat.{ℕ, _≤_, _^_}
 use lib.Dec.{lit≤}
-use lib.ListN.{length, getD, take}
-use Rattle.bits.specs.Bits.{Bytes, putAt}
-use Rattle.format.specs.Fmt.{accepted, found}
+use lib.ListN.{length, getD, take, drop}
+use Rattle.bits.specs.Bits.{Bytes}
+use Rattle.format.specs.Fmt.{accepted}
 use Rattle.format.specs.Message.{writeMessage}
 use Rattle.format.specs.Promises.{readRecord, Writes, Corrects}
-use Rattle.format.specs.laws.Answers.{good-read}
+use Rattle.format.specs.laws.Answers.{good-read, answer-plain}
 use Rattle.format.specs.laws.Entries.{entries, legal-entries}
-use Rattle.format.specs.laws.Family.{Family, one-size, written-front, accepted-correction, corrected-as-written}
+use Rattle.format.specs.laws.Family.{Family, one-size, written-front, read-written}
+use Rattle.format.specs.Settled.{Settled}
+use Rattle.format.specs.laws.Settled.{settled}
 use Rattle.format.specs.laws.Legal.{Legal, exactly}
 use Rattle.walk.specs.laws.Sign.{spell-int}
 use Rattle.format.specs.laws.Zero.{Judged, only-numbered}
@@ -20,6 +22,7 @@ use Rattle.distress.specs.Report.{report, reports, valuesOf, reportOf, a
 use Rattle.distress.specs.laws.Correction.{spotted, changed-values}
 use Rattle.distress.specs.laws.Sound.{sound}
 use Rattle.distress.specs.declared.reading.Report.{Report}
+use Rattle.distress.specs.declared.reading.Answer.{Answer}
 use Rattle.distress.specs.declared.reading.Answer.the-variants.{Good, Refused}
 
 judged : Judged report
@@ -84,14 +87,11 @@ long = one-size reports 17 refl refl
 pub written-reads : (s : List ℕ) (r : Report) (t : List ℕ) → Writes reports s 0 t (valuesOf r) → Reads (take 17 t) (Good r)
 written-reads s r t w = sym (ap answerOf (written-front family s r t 17 tt w (long (valuesOf r))))
 
--- A correction changes the field's bits alone.
-pub correction-bits : (s : List ℕ) (i v : ℕ) (t : List ℕ) (e : Corrects reports s i v 0 t) → let c = accepted-correction family s i v t e in
-    t ≡ putAt s (c .offset) (c .width) v
-unfolding reports
-correction-bits s i v t e = accepted-correction family s i v t e .changed
+-- What is read is written back as the same bytes.
+pub read-writes-back : (s : List ℕ) (r : Report) → Bytes s → Reads s (Good r) → (u : List ℕ) (code : ℕ) (t : List ℕ) → length s ≤ length u → Writes reports u code t (valuesOf r)
+    → (code ≡ 0) × (t ≡ s ++ drop (length s) u)
+read-writes-back s r fine a = read-written family s r fine (good s r a)
 
--- Demand 3: correcting a report, where the field can spell the value, is writing the report with that field changed; else nothing differs.
-pub corrected : (s : List ℕ) (r : Report) → Bytes s → Reads s (Good r) → (i v p w : ℕ) → spotOf i ≡ found p w → v < 2 ^ w → (code : ℕ) (t : List ℕ) → Corrects reports s i v code t
-    → (u : List ℕ) → length s ≤ length u → (code′ : ℕ) (t′ : List ℕ) → Writes reports u code′ t′ (valuesOf (changed i v r))
-    → (code ≡ code′) × (code ≡ 0 → t ≡ take (length s) t′) × ((code ≡ 0 → ⊥) → t ≡ s)
-corrected s r fine a i v p w e n = corrected-as-written family s r fine (good s r a) i v p w (spotted r i ∙ e) n
+-- Demand 3: every correction of a report, by any number and any value.
+pub corrected : (s : List ℕ) (a : Answer) → Bytes s → Reads s a → (i v code : ℕ) (t : List ℕ) → Corrects reports s i v code t → Settled reports (λ r. spotOf) valuesOf changed s (outOf a) i v code t
+corrected s a fine reads i v code t c = settled family (λ r. spotOf) spotted s fine i v code t c (outOf a) (answer-plain Good Refused outOf (λ q. refl) (λ c. refl) (readRecord reports reportOf s) reads)

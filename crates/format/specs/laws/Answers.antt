@@ -2,11 +2,11 @@
 use mathlib.Core.Path.{_≡_, refl, sym, ap, _∙_}
 use mathlib.Core.Bool.{Bool, true, false, cond}
 use mathlib.Core.List.{List, []}
-use Prim.Native.Nat.{ℕ}
+use Prim.Native.Nat.{ℕ, zero, suc}
 use lib.Dec.{eqb}
-use Rattle.format.specs.Fmt.{Out, accepted, refused, also}
-use Rattle.format.specs.Message.{Layout, codeOf, readMessage}
-use Rattle.format.specs.Promises.{answered, readRecord}
+use Rattle.format.specs.Fmt.{Out, accepted, refused, check, also}
+use Rattle.format.specs.Message.{Layout, fault, codeOf, readMessage}
+use Rattle.format.specs.Promises.{answered, plain, readRecord}
 use Rattle.format.specs.laws.Round.{clash, accepted-inj}
 
 module _ {R A : Type 0} (good : R → A) (bad : ℕ → A) (recordOf : List ℕ → R) where
@@ -27,6 +27,18 @@ module _ {R A : Type 0} (good : R → A) (bad : ℕ → A) (recordOf : List ℕ 
     -- the number n of the answer a of reading s
     pub read-code : (l : Layout) (s : List ℕ) {a : A} {n : ℕ} → a ≡ answered good bad (readRecord l recordOf s) → n ≡ numberOf a → n ≡ codeOf (readMessage l s)
     read-code l s reads is = is ∙ ap numberOf reads ∙ numbered (readMessage l s)
+
+-- ---- an answer as it is told, without the bit where it was refused
+
+pub plain-good : {R : Type 0} (o : Out R) {r : R} → plain o ≡ accepted r → o ≡ accepted r
+plain-good (accepted q) e = e
+plain-good (refused c p) e = clash e
+
+-- by its number c, and its record where that is 0
+pub code-plain : {R : Type 0} (o : Out R) (c : ℕ) (r : R) → c ≡ codeOf o → ((p : ℕ) → o ≡ refused 0 p → ⊥) → (c ≡ 0 → o ≡ accepted r) → check (fault c) 0 (accepted r) ≡ plain o
+code-plain (accepted q) c r e never is = ap (λ c. check (fault c) 0 (accepted r)) e ∙ sym (is e)
+code-plain (refused zero p) c r e never is = absurd (never p refl)
+code-plain (refused (suc d) p) c r e never is = ap (λ c. check (fault c) 0 (accepted r)) e
 
 -- ---- what an answer says of the reading o: `outOf` takes it apart
 
@@ -51,3 +63,12 @@ module _ {Q A : Type 0} (good : Q → A) (bad : ℕ → A) (outOf : A → Out Q)
       let (r, x, k) = good-accepts (λ r. r .0) o e in
       let shown = d ∙ ap (answered (λ r. r .1) (λ n. [])) x in
       x ∙ (λ i. accepted (k i, sym shown i))
+
+  -- what a good or a bad one tells is the reading, but for the bit where it was refused
+  pub answer-plain : (o : Out Q) {a : A} → a ≡ answered good bad o → outOf a ≡ plain o
+  answer-plain (accepted q) e = ap outOf e ∙ of-good q
+  answer-plain (refused c p) e = ap outOf e ∙ of-bad c
+
+  pub shown-plain : (o : Out (Q × List ℕ)) {a : A} {c : List ℕ} → a ≡ answered (λ r. good (r .0)) bad o → c ≡ answered (λ r. r .1) (λ n. []) o → also (λ q. (q, c)) (outOf a) ≡ plain o
+  shown-plain (accepted r) {a} {c} e d = ap (also (λ q. (q, c))) (ap outOf e ∙ of-good (r .0)) ∙ (λ i. accepted (r .0, d i))
+  shown-plain (refused n p) {a} {c} e d = ap (also (λ q. (q, c))) (ap outOf e ∙ of-bad n)

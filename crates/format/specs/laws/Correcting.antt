@@ -1,4 +1,4 @@
--- The code corrects in place: it changes the field's bits, reads the fields again, puts the old bits back where they are refused, and makes the seal anew. Assumes nothing.
+-- The code corrects in place: it changes the field's bits, reads the fields again, puts the old bits back where they are refused, and makes the seal anew. Its steps have one answer each. Assumes nothing.
 use mathlib.Core.Path.{_≡_, refl, sym, ap, _∙_}
 use mathlib.Core.Bool.{Bool, true, false, cond}
 use mathlib.Core.List.{List, []}
@@ -8,7 +8,7 @@ use lib.Dec.{ltb, eqb}
 use lib.ListN.{length}
 use borrow.Author.Tests.{eq-eqb, eqb-true, eqb-false, ltb-true, ltb-false}
 use Rattle.bits.specs.Bits.{Bytes, bitsOf, fieldAt, putAt}
-use Rattle.bits.specs.laws.Answers.{got-fits, puttable-fits}
+use Rattle.bits.specs.laws.Answers.{one-answer, got-fits, puttable-fits}
 use Rattle.bits.specs.laws.Fields.{field-lt, length-put, put-put, put-field}
 use Rattle.format.specs.Correcting.{standing, admitted, putIn, Begins, Finishes}
 use Rattle.format.specs.Promises.{Corrects}
@@ -144,3 +144,15 @@ module _ (l : Layout) (ok : Sound l) (numbers : Judged (l .fmt)) (s : List ℕ) 
         go false e =
             let a = early (λ z. eqb-false code 0 e (begun .admits ∙ z)) in
             (finished .answers ∙ rw e (begun .admits ∙ a .0), finished .leaves ∙ rw e (begun .puts ∙ rw e (a .1)))
+
+-- ---- two answers that the promises of its steps allow are equal
+
+pub one-beginning : (s : List ℕ) (c p w v code at width old code′ at′ width′ old′ : ℕ) (t t′ : List ℕ) → Begins s c p w v code at width old t → Begins s c p w v code′ at′ width′ old′ t′
+    → (code ≡ code′) × (at ≡ at′) × (width ≡ width′) × (old ≡ old′) × (t ≡ t′)
+one-beginning s c p w v code at width old code′ at′ width′ old′ t t′ x y =
+    let (e, left) = one-answer (λ code. cond (eqb code 0) (putIn s p w v) s) (x .admits, x .puts) (y .admits, y .puts) in
+    (e, x .offset ∙ sym (y .offset), x .wide ∙ sym (y .wide), x .was ∙ sym (y .was), left)
+
+pub one-finishing : (seal : Bool) (code at width old d : ℕ) (t : List ℕ) (last last′ : ℕ) (x x′ : List ℕ) → Finishes seal code at width old d t last x → Finishes seal code at width old d t last′ x′
+    → (last ≡ last′) × (x ≡ x′)
+one-finishing seal code at width old d t last last′ x x′ a b = (a .answers ∙ sym (b .answers), a .leaves ∙ sym (b .leaves))

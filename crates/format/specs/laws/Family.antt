@@ -8,16 +8,16 @@ use borrow.Author.Tests.{le-leb, leb-true}
 use lib.Dec.{leb}
 use lib.ListN.{set, length, take, drop}
 use lib.Seq.{take-at}
-use Rattle.bits.specs.Bits.{Bytes, bitsOf, splice, putAt}
-use Rattle.bits.specs.laws.Fields.{length-put, bits-put}
+use Rattle.bits.specs.laws.Answers.{one-answer}
+use Rattle.bits.specs.Bits.{Bytes}
 use Rattle.format.specs.Fmt.{Out, accepted, refused, orBad, check, also, spot, none, found}
-use Rattle.format.specs.Message.{Layout, Sound, body, codeOf, leaves, into, readMessage, writeMessage, correctMessage}
+use Rattle.format.specs.Message.{Layout, Sound, codeOf, leaves, into, readMessage, writeMessage, correctMessage}
 use Rattle.format.specs.Promises.{readRecord, Writes, Corrects}
 use Rattle.format.specs.laws.Lead.{sized-by}
 use Rattle.format.specs.laws.Legal.{Legal, legal}
 use Rattle.format.specs.laws.Round.{clash, also-inv, read-write}
-use Rattle.format.specs.laws.Whole.{was, body-sealed, made, write-read-message, read-write-message, correct-wide, Corrected, corrected, same-size}
-use Rattle.format.specs.laws.Zero.{Judged, Counted, no-zero-message, read-zero-message, correct-zero}
+use Rattle.format.specs.laws.Whole.{was, made, write-read-message, read-write-message, correct-wide}
+use Rattle.format.specs.laws.Zero.{Judged, Counted, no-zero-message, read-zero-message}
 
 -- What a family brings for its records of type R: those of them that a caller can lend, the values of a record, the record of values, and the record with one field changed.
 pub record Family (l : Layout) (R : Type 0) (Lent : R → Type 0) (valuesOf : R → List ℕ) (recordOf : List ℕ → R) (changed : ℕ → ℕ → R → R) : Type 0 where
@@ -36,10 +36,10 @@ pub one-reading : {A : Type 0} (x a b : A) → a ≡ x → b ≡ x → a ≡ b
 one-reading x a b d e = d ∙ sym e
 
 pub one-writing : (l : Layout) (s vs : List ℕ) (c d : ℕ) (t u : List ℕ) → Writes l s c t vs → Writes l s d u vs → (c ≡ d) × (t ≡ u)
-one-writing l s vs c d t u x y = (x .0 ∙ sym (y .0), x .1 ∙ sym (y .1))
+one-writing l s vs c d t u = one-answer (λ c. leaves (into s (writeMessage l vs)) s)
 
 pub one-correction : (l : Layout) (s : List ℕ) (i v c d : ℕ) (t u : List ℕ) → Corrects l s i v c t → Corrects l s i v d u → (c ≡ d) × (t ≡ u)
-one-correction l s i v c d t u x y = (x .0 ∙ sym (y .0), x .1 ∙ sym (y .1))
+one-correction l s i v c d t u = one-answer (λ c. leaves (correctMessage l s i v) s)
 
 -- a layout of one size makes messages of that size
 pub one-size : (l : Layout) (n : ℕ) → l .least ≡ n → l .most ≡ n → (vs m : List ℕ) → writeMessage l vs ≡ accepted m → length m ≡ n
@@ -58,7 +58,7 @@ pub refused-correction : (l : Layout) (s : List ℕ) (i v code : ℕ) (t : List 
 refused-correction l s i v code t (z, x) h = refused-stands (correctMessage l s i v) s t code z x h
 
 -- a message with room for it, in front of a lent buffer
-roomy : (u m : List ℕ) → length m ≤ length u → into u (accepted m) ≡ accepted (m ++ drop (length m) u)
+pub roomy : (u m : List ℕ) → length m ≤ length u → into u (accepted m) ≡ accepted (m ++ drop (length m) u)
 roomy u m h = rw (le-leb (length m) (length u) h) refl
 
 module _ {l : Layout} {R : Type 0} {Lent : R → Type 0} {valuesOf : R → List ℕ} {recordOf : List ℕ → R} {changed : ℕ → ℕ → R → R} (F : Family l R Lent valuesOf recordOf changed) where
@@ -131,7 +131,7 @@ module _ {l : Layout} {R : Type 0} {Lent : R → Type 0} {valuesOf : R → List 
         let o = ap (into u) read-writes ∙ roomy u s h in
         (z ∙ ap codeOf o, x ∙ ap (λ o. leaves o u) o)
 
-    -- ---- demand 3
+    -- ---- demand 3, of which laws/Settled makes one piece
 
     -- A field that may be corrected, and a value that its bits can spell: what writing the changed record answers, its bytes or its refusal.
     pub correction-writes : (i v p w : ℕ) → spot (l .fmt) [] (valuesOf r) i ≡ found p w → v < 2 ^ w → correctMessage l s i v ≡ writeMessage l (valuesOf (changed i v r))
@@ -146,42 +146,3 @@ module _ {l : Layout} {R : Type 0} {Lent : R → Type 0} {valuesOf : R → List 
     pub correction-none : (i v : ℕ) → spot (l .fmt) [] (valuesOf r) i ≡ none → correctMessage l s i v ≡ refused 10 0
     unfolding correctMessage
     correction-none i v e = rw (read-values .0, e) refl
-
-    -- From the promises of the two calls: where the field can spell the value, correcting answers as writing the changed record into a buffer with room does;
-    -- accepted, the message is what that writing put in front, and refused, no byte differs.
-    pub corrected-as-written : (i v p w : ℕ) → spot (l .fmt) [] (valuesOf r) i ≡ found p w → v < 2 ^ w → (code : ℕ) (t : List ℕ) → Corrects l s i v code t
-        → (u : List ℕ) → length s ≤ length u → (code′ : ℕ) (t′ : List ℕ) → Writes l u code′ t′ (valuesOf (changed i v r))
-        → (code ≡ code′) × (code ≡ 0 → t ≡ take (length s) t′) × ((code ≡ 0 → ⊥) → t ≡ s)
-    corrected-as-written i v p w e n code t (z, x) u room code′ t′ (z′, x′) = go (writeMessage l (valuesOf (changed i v r))) refl (correction-writes i v p w e n)
-      where
-        go : (o : Out (List ℕ)) → writeMessage l (valuesOf (changed i v r)) ≡ o → correctMessage l s i v ≡ writeMessage l (valuesOf (changed i v r))
-            → (code ≡ code′) × (code ≡ 0 → t ≡ take (length s) t′) × ((code ≡ 0 → ⊥) → t ≡ s)
-        go (refused c q) k h =
-            let a : code ≡ c = z ∙ ap codeOf (h ∙ k) in
-            let b : code′ ≡ c = z′ ∙ ap (λ o. codeOf (into u o)) k in
-            let never = never-written (changed i v r) q (F .changes r i v p w (read-values .1) e n .1) in
-            (a ∙ sym b, λ y. absurd (never (k ∙ ap (λ c. refused c q) (sym a ∙ y))), λ y. x ∙ ap (λ o. leaves o s) (h ∙ k))
-        go (accepted m) k h =
-            let long = same-size l (F .sound) s i v m (h ∙ k) in
-            let j = ap (into u) k ∙ roomy u m (omega arith) in
-            let a : code ≡ 0 = z ∙ ap codeOf (h ∙ k) in
-            let b : code′ ≡ 0 = z′ ∙ ap codeOf j in
-            let front : take (length s) t′ ≡ m = ap (take (length s)) (x′ ∙ ap (λ o. leaves o u) j) ∙ take-at m (drop (length m) u) (length s) long in
-            (a ∙ sym b, λ y. x ∙ ap (λ o. leaves o s) (h ∙ k) ∙ sym front, λ y. absurd (y a))
-
-  -- An accepted correction is what writing the changed record gives, and differs in the field's bits alone, and the seal.
-  pub accepted-correction : (s : List ℕ) (i v : ℕ) (t : List ℕ) → Corrects l s i v 0 t → Corrected l (F .sound) s i v t
-  accepted-correction s i v t (z, x) = go (correctMessage l s i v) refl z x
-    where
-      go : (o : Out (List ℕ)) → correctMessage l s i v ≡ o → 0 ≡ codeOf o → t ≡ leaves o s → Corrected l (F .sound) s i v t
-      go (accepted u) e z x = corrected l (F .sound) s i v t (e ∙ ap accepted (sym x))
-      go (refused c p) e z x = absurd (correct-zero l (F .sound) s i v p (F .judged) (e ∙ ap (λ c. refused c p) (sym z)))
-
-  -- Nothing outside the field and the seal differs: the body's bits are those before, with the field's made v, and the size is the same.
-  pub correction-bits : (s : List ℕ) (i v : ℕ) (t : List ℕ) (e : Corrects l s i v 0 t) → let c = accepted-correction s i v t e in
-      (bitsOf (body (l .seal) t) ≡ splice (c .offset) (c .width) v (bitsOf (body (l .seal) s))) × (length (body (l .seal) t) ≡ length (body (l .seal) s))
-  correction-bits s i v t e =
-      let c = accepted-correction s i v t e in
-      let b = body (l .seal) s in
-      let is : body (l .seal) t ≡ putAt b (c .offset) (c .width) v = ap (body (l .seal)) (c .changed) ∙ body-sealed (l .seal) (putAt b (c .offset) (c .width) v) in
-      (ap bitsOf is ∙ bits-put b (c .offset) (c .width) (c .within) v, ap length is ∙ length-put b (c .offset) (c .width) v)

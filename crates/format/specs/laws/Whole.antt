@@ -13,12 +13,12 @@ use Rattle.bits.specs.Bits.{Bytes, digits, bitsOf, bytesOf, splice, putAt}
 use Rattle.bits.specs.Xor.{xorOf}
 use Rattle.bits.specs.laws.Bytes.{length-bits, length-bytes, bytes-bits, bits-bytes, bytes-below, bytes-take}
 use Rattle.bits.specs.laws.Digits.{length-digits}
-use Rattle.bits.specs.laws.Fields.{length-put, bits-put}
-use Rattle.format.specs.Fmt.{Out, accepted, refused, good, check, Fmt, end, field, choice, bytes, also, after, writeField, read, write, Spot, none, found, spot, unless10}
+use Rattle.bits.specs.laws.Fields.{bits-put}
+use Rattle.format.specs.Fmt.{Out, accepted, refused, good, check, Fmt, end, field, choice, bytes, also, after, writeField, read, write, found, spot}
 use Rattle.format.specs.Message.{Layout, fault, size, body, sealed, sealFault, closed, readMessage, writeMessage, correctMessage, Sound}
 use Rattle.format.specs.laws.Correct.{laid-set, changed-narrow, changed-wide, spot-within}
 use Rattle.format.specs.laws.Lead.{sized-by}
-use Rattle.format.specs.laws.Round.{unjudged, lay, clash, accepted-inj, checked, passed, also-inv, written, sized-inv, write-lay, read-lay, write-read, read-write}
+use Rattle.format.specs.laws.Round.{unjudged, lay, clash, accepted-inj, checked, passed, written, sized-inv, write-lay, read-lay, write-read, read-write}
 
 whole-field : (w at v : ℕ) (o : Out (List Bool)) (b : List Bool) → writeField w unjudged [] at v o ≡ accepted b
     → ((r : List Bool) → o ≡ accepted r → (at + w + length r) % 8 ≡ 0) → (at + length b) % 8 ≡ 0
@@ -72,7 +72,7 @@ sealed-body true s h e =
     let o : drop (suc n) s ≡ [] = drop-of-length-le s {i = suc n} (omega arith) in
     sym (split-at s n 0 (omega arith) ∙ ap (λ y. take n s ++ getD s n 0 ∷ y) o ∙ ap (λ y. take n s ++ y ∷ []) x)
 
-length-sealed : (z : Bool) (s t : List ℕ) → length s ≡ length t → length (sealed z s) ≡ length (sealed z t)
+pub length-sealed : (z : Bool) (s t : List ℕ) → length s ≡ length t → length (sealed z s) ≡ length (sealed z t)
 length-sealed false s t e = e
 length-sealed true s t e = omega (arith, length-append s (xorOf s ∷ []), length-append t (xorOf t ∷ []))
 
@@ -157,20 +157,6 @@ module _ (l : Layout) (ok : Sound l) where
       let n : length (bitsOf t) / 8 ≡ length t = omega (arith, length-bits t) in
       rw (ok .kinds (bitsOf t) vs (r .walked), read-write (l .fmt) [] 0 vs (bitsOf t) (r .walked), n, bytes-bits t (bytes-body (l .seal) s h), whole-again s vs r, fitting s vs r) refl
 
-  -- 3. An accepted correction: the message was read and the field may be corrected; what is left is what writing the changed values gives,
-  -- it is read as them, and its body differs from the message's in that field's bits alone.
-  pub record Corrected (s : List ℕ) (i v : ℕ) (t : List ℕ) : Type 0 where
-    pub values : List ℕ
-    pub offset : ℕ
-    pub width : ℕ
-    pub before : readMessage l s ≡ accepted values
-    pub there : spot (l .fmt) [] values i ≡ found offset width
-    pub wrote : writeMessage l (set values i v) ≡ accepted t
-    pub reads : readMessage l t ≡ accepted (set values i v)
-    pub changed : t ≡ sealed (l .seal) (putAt (body (l .seal) s) offset width v)
-    pub narrow : v < 2 ^ width
-    pub within : offset + width ≤ length (body (l .seal) s) * 8
-
   module _ (s vs : List ℕ) (i v p w : ℕ) (e : readMessage l s ≡ accepted vs) (x : spot (l .fmt) [] vs i ≡ found p w) where
     pub spot-fits : p + w ≤ length (body (l .seal) s) * 8
     spot-fits =
@@ -205,42 +191,3 @@ module _ (l : Layout) (ok : Sound l) where
     pub correct-wide : 2 ^ w ≤ v → correctMessage l s i v ≡ refused 4 p
     unfolding correctMessage writeMessage
     correct-wide n = rw (e, x, kind-stays, changed-wide (l .fmt) (bitsOf (body (l .seal) s)) vs i v p w (was l s vs e .walked) x n) refl
-
-  pub corrected : (s : List ℕ) (i v : ℕ) (t : List ℕ) → correctMessage l s i v ≡ accepted t → Corrected s i v t
-  unfolding correctMessage
-  corrected s i v t e = let (vs, r, k) = after-inv (readMessage l s) _ e in go vs r (spot (l .fmt) [] vs i) refl k
-    where
-      go : (vs : List ℕ) → readMessage l s ≡ accepted vs → (x : Spot) → spot (l .fmt) [] vs i ≡ x → unless10 x (writeMessage l (set vs i v)) ≡ accepted t → Corrected s i v t
-      go vs r none x k = clash k
-      go vs r (found p w) x k =
-          let wide : ¬ (2 ^ w ≤ v) = λ h. clash (sym (correct-wide s vs i v p w r x h) ∙ e) in
-          let n : v < 2 ^ w = omega arith in
-          let (us, u, c) = also-inv (λ us. sealed (l .seal) (putAt (body (l .seal) s) p w v)) (read (l .fmt) [] 0 (bitsOf (putAt (body (l .seal) s) p w v))) (sym (correct-narrow s vs i v p w r x n) ∙ e) in
-          record {
-            values = vs;
-            offset = p;
-            width = w;
-            before = r;
-            there = x;
-            wrote = k;
-            reads = write-read-message t (set vs i v) k;
-            changed = sym c;
-            narrow = n;
-            within = spot-fits s vs i v p w r x;
-          }
-
-  -- nothing before the field differs, and nothing behind it but the seal
-  pub same-size : (s : List ℕ) (i v : ℕ) (t : List ℕ) → correctMessage l s i v ≡ accepted t → length t ≡ length s
-  same-size s i v t e =
-      let c = corrected s i v t e in
-      ap length (c .changed)
-      ∙ length-sealed (l .seal) (putAt (body (l .seal) s) (c .offset) (c .width) v) (body (l .seal) s) (length-put (body (l .seal) s) (c .offset) (c .width) v)
-      ∙ ap length (whole-again s (c .values) (was l s (c .values) (c .before)))
-
-  pub corrected-bits : (s : List ℕ) (i v : ℕ) (t : List ℕ) (e : correctMessage l s i v ≡ accepted t) → let c = corrected s i v t e in
-      bitsOf (body (l .seal) t) ≡ splice (c .offset) (c .width) v (bitsOf (body (l .seal) s))
-  corrected-bits s i v t e =
-      let c = corrected s i v t e in
-      ap (λ x. bitsOf (body (l .seal) x)) (c .changed)
-      ∙ ap bitsOf (body-sealed (l .seal) (putAt (body (l .seal) s) (c .offset) (c .width) v))
-      ∙ bits-put (body (l .seal) s) (c .offset) (c .width) (c .within) v

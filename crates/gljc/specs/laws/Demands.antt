@@ -2,27 +2,30 @@
 use mathlib.Core.Path.{_≡_, refl, sym, ap, _∙_, subst}
 use mathlib.Core.Bool.{Bool}
 use mathlib.Core.List.{List, [], _∷_, _++_}
-use Prim.Native.Nat.{ℕ, _+_, _*_, _≤_, _<_, _^_}
+use Prim.Native.Nat.{ℕ, _+_, _*_, _≤_, _<_}
 use native.Mathlib.Omega.{arith}
 use lib.Dec.{lit<}
 use lib.ListN.{length, getD, take, drop}
 use Rattle.bits.specs.Bits.{Bytes}
 use Rattle.frame.specs.laws.Head.{head-numbered}
 use Rattle.frame.specs.laws.Sound.{frame-sound}
-use Rattle.format.specs.Fmt.{accepted, read, found}
+use Rattle.format.specs.Fmt.{accepted, read}
+use Rattle.format.specs.Settled.{Settled}
 use Rattle.format.specs.Promises.{readRecord, Writes, Corrects}
-use Rattle.format.specs.laws.Answers.{good-read}
+use Rattle.format.specs.laws.Answers.{good-read, answer-plain}
 use Rattle.format.specs.laws.Entries.{entries, legal-entries}
 use Rattle.format.specs.laws.Extent.{extent-laid}
-use Rattle.format.specs.laws.Family.{Family, one-size, written-front, read-written, corrected-as-written}
+use Rattle.format.specs.laws.Family.{Family, one-size, written-front, read-written}
 use Rattle.format.specs.laws.Legal.{Legal, legal, exactly}
 use Rattle.format.specs.laws.Round.{read-write}
+use Rattle.format.specs.laws.Settled.{settled}
 use Rattle.format.specs.laws.Zero.{Judged, only-numbered}
 use Rattle.gljc.specs.Changed.{spotOf, changed}
 use Rattle.gljc.specs.Gljc.{letters, body, gljc, gljcs, valuesOf, recordOf, answerOf, outOf}
 use Rattle.gljc.specs.Promises.{Reads}
 use Rattle.gljc.specs.laws.Correction.{spotted, changed-values}
 use Rattle.gljc.specs.declared.reading.Gljc.{Gljc}
+use Rattle.gljc.specs.declared.reading.Answer.{Answer}
 use Rattle.gljc.specs.declared.reading.Answer.the-variants.{Good, Refused}
 
 -- accepted values are those of their record: `$`, letters and length are as they must be
@@ -77,8 +80,6 @@ pub read-writes-back : (s : List ℕ) (r : Gljc) → Bytes s → Reads s (Good r
     → (code ≡ 0) × (t ≡ s ++ drop (length s) u)
 read-writes-back s r fine a = read-written family s r fine (good s r a)
 
--- Demand 3: correcting a frame, where the field can spell the value, is writing the frame with that field changed; else nothing differs.
-pub corrected : (s : List ℕ) (r : Gljc) → Bytes s → Reads s (Good r) → (i v p w : ℕ) → spotOf i ≡ found p w → v < 2 ^ w → (code : ℕ) (t : List ℕ) → Corrects gljcs s i v code t
-    → (u : List ℕ) → length s ≤ length u → (code′ : ℕ) (t′ : List ℕ) → Writes gljcs u code′ t′ (valuesOf (changed i v r))
-    → (code ≡ code′) × (code ≡ 0 → t ≡ take (length s) t′) × ((code ≡ 0 → ⊥) → t ≡ s)
-corrected s r fine a i v p w e n = corrected-as-written family s r fine (good s r a) i v p w (spotted r i ∙ e) n
+-- Demand 3: every correction of a frame GLJC, by any number and any value.
+pub corrected : (s : List ℕ) (a : Answer) → Bytes s → Reads s a → (i v code : ℕ) (t : List ℕ) → Corrects gljcs s i v code t → Settled gljcs (λ r. spotOf) valuesOf changed s (outOf a) i v code t
+corrected s a fine reads i v code t c = settled family (λ r. spotOf) spotted s fine i v code t c (outOf a) (answer-plain Good Refused outOf (λ q. refl) (λ c. refl) (readRecord gljcs recordOf s) reads)

@@ -4,8 +4,8 @@ use mathlib.Core.Bool.{Bool, true, false, cond}
 use mathlib.Core.List.{List, [], _∷_, _++_}
 use Prim.Native.Nat.{ℕ, zero, suc, _+_, _-_, _<_}
 use native.Mathlib.Omega.{arith}
-use borrow.Author.Tests.{leb-true, leb-false}
-use lib.Dec.{eqb, leb, lit<}
+use borrow.Author.Tests.{leb-true, leb-false, ltb-true}
+use lib.Dec.{eqb, leb, ltb, lit<}
 use lib.ListN.{length, drop, getD, set, length-append, length-drop, length-set, List·getD-append}
 use lib.Seq.{set-append-left, take-at}
 use Rattle.bits.specs.Bits.{Bytes}
@@ -16,7 +16,7 @@ use Rattle.format.specs.laws.Spots.{spotsAlong, spot-along, eachAt, set-each, e
 use Rattle.notice_fields.specs.Row.{areasLong, areasTold}
 use Rattle.notice_fields.specs.laws.Past.{areas-past, areas-filled}
 use Rattle.notice_fields.specs.laws.Row.{first-take, told-exact, exact-told}
-use Rattle.notice.specs.Changed.{spots, changed}
+use Rattle.notice.specs.Changed.{spots, spotOf, changed}
 use Rattle.notice.specs.Notice.{text, rest, notice}
 use Rattle.notice.specs.Record.{Whole, headed, texted, valuesOf}
 use Rattle.notice.specs.laws.Listed.{two}
@@ -34,6 +34,13 @@ head-spotted english x i l =
     let r = x .0 in
     let before = r .count ∷ r .expiry ∷ r .subtype ∷ r .kind ∷ r .year ∷ r .serial ∷ r .station ∷ r .source ∷ [] in
     spot-along (notice english) (valuesOf x) i ∙ List·getD-append spots (spotsAlong (rest english (r .count)) before (areasTold (r .count) (x .1 .0) ++ texted (x .1 .1)) 63) none i l
+
+pub spotted : (english : Bool) (x : Whole) (i : ℕ) → spot (notice english) [] (valuesOf x) i ≡ spotOf english x i
+spotted english x i = go (ltb i 8) refl
+  where
+    go : (b : Bool) → ltb i 8 ≡ b → spot (notice english) [] (valuesOf x) i ≡ cond b (getD spots i none) (spot (notice english) [] (valuesOf x) i)
+    go true e = head-spotted english x i (ltb-true i 8 e)
+    go false e = refl
 
 -- a text may not be corrected
 text-kept : (english : Bool) (t h : List ℕ) (k : ℕ) → spot (text english end) h (texted t) k ≡ none

@@ -1,19 +1,20 @@
 -- The notice is a family of format/specs/laws/Family, whose theorems are demands 2 and 3; said here of the notice's own promises, and once more of the expiry, whose correction must leave the count of areas. Assumes nothing.
-use mathlib.Core.Path.{_≡_, refl, sym, ap, ap₂, _∙_, subst⁻¹}
+use mathlib.Core.Path.{_≡_, refl, sym, ap, ap₂, _∙_, subst, subst⁻¹}
 use mathlib.Core.Bool.{Bool, true, false, _&&_}
 use mathlib.Core.List.{List, [], _∷_, _++_, append-nil}
 use Prim.Native.Nat.{ℕ, _+_, _*_, _≤_, _<_, _^_}
 use native.Mathlib.Omega.{arith}
-use lib.Dec.{leb, lit<, lit≤}
+use lib.Dec.{leb, lit≤}
 use lib.ListN.{length, take, drop, getD}
 use lib.Seq.{take-at}
-use Rattle.bits.specs.Bits.{Bytes, digits, putAt, fieldAt}
+use Rattle.bits.specs.Bits.{Bytes, digits, fieldAt}
 use Rattle.bits.specs.laws.Bytes.{length-bytes, bytes-below}
-use Rattle.bits.specs.laws.Fields.{length-put, field-put-before, field-put-after}
-use Rattle.format.specs.Fmt.{Out, accepted, refused, check, orBad, none, found, spot}
-use Rattle.format.specs.Message.{codeOf, leaves, readMessage, ahead}
+use Rattle.format.specs.Fmt.{Out, accepted, refused, check, orBad}
+use Rattle.format.specs.Message.{readMessage, ahead}
 use Rattle.format.specs.Promises.{answered, readRecord, Writes, Corrects}
-use Rattle.format.specs.laws.Family.{Family, written-read, read-written, record-values, accepted-correction, correction-none, corrected-as-written}
+use Rattle.format.specs.laws.Family.{Family, written-read, read-written}
+use Rattle.format.specs.Settled.{Differs}
+use Rattle.format.specs.laws.Settled.{accepted-correction}
 use Rattle.format.specs.laws.Legal.{Legal, legal}
 use Rattle.format.specs.laws.Round.{also-inv, read-write}
 use Rattle.format.specs.laws.Runs.{run-value}
@@ -22,7 +23,7 @@ use Rattle.text.specs.Text.{inLanguage}
 use Rattle.text.specs.laws.Clean.{no-line-end}
 use Rattle.notice_fields.specs.Row.{areasLong, areasTold}
 use Rattle.notice_fields.specs.laws.Row.{told-again, told-exact, exact-told}
-use Rattle.notice.specs.Changed.{changed}
+use Rattle.notice.specs.Changed.{spotOf, changed}
 use Rattle.notice.specs.Notice.{notice, notices}
 use Rattle.notice.specs.Promises.{housed, toldOf, answerOf, Reads}
 use Rattle.notice.specs.Record.{Whole, headed, texted, valuesOf, headOf, textOf, recordOf}
@@ -30,7 +31,7 @@ use Rattle.notice.specs.declared.reading.Answer.{Answer}
 use Rattle.notice.specs.declared.reading.Answer.the-variants.{Good, Refused}
 use Rattle.notice.specs.declared.reading.Notice.{Notice}
 use Rattle.notice.specs.declared.reading.Told.{Told}
-use Rattle.notice.specs.laws.Correction.{Lent, head-spotted, changes}
+use Rattle.notice.specs.laws.Correction.{Lent, spotted, changes}
 use Rattle.notice.specs.laws.Listed.{counted, Listed, listed}
 use Rattle.notice.specs.laws.Sound.{sound, judged}
 use Rattle.notice.specs.laws.Told.{recorded, told, reads-good}
@@ -138,51 +139,15 @@ module _ (english : Bool) (s row text : List ℕ) (a : Told) (row′ text′ : L
   pub read-writes-back : (u : List ℕ) (code : ℕ) (t : List ℕ) → length s ≤ length u → Writes (notices english) u code t (valuesOf (wholeOf a row′ text′)) → (code ≡ 0) × (t ≡ s ++ drop (length s) u)
   read-writes-back = read-written (family english) s (wholeOf a row′ text′) fine (good english s row text a row′ text′ reads)
 
-  -- Demand 3: correcting a notice, where the field can spell the value, is writing the notice with that field changed; else nothing differs.
-  pub corrected : (i v p w : ℕ) → spot (notice english) [] (valuesOf (wholeOf a row′ text′)) i ≡ found p w → v < 2 ^ w → (code : ℕ) (t : List ℕ) → Corrects (notices english) s i v code t
-      → (u : List ℕ) → length s ≤ length u → (code′ : ℕ) (t′ : List ℕ) → Writes (notices english) u code′ t′ (valuesOf (changed i v (wholeOf a row′ text′)))
-      → (code ≡ code′) × (code ≡ 0 → t ≡ take (length s) t′) × ((code ≡ 0 → ⊥) → t ≡ s)
-  unfolding notices
-  corrected = corrected-as-written (family english) s (wholeOf a row′ text′) fine (good english s row text a row′ text′ reads)
-
-  -- A field that may not be corrected is 10, and nothing differs;
-  pub corrected-none : (i v : ℕ) → spot (notice english) [] (valuesOf (wholeOf a row′ text′)) i ≡ none → (code : ℕ) (t : List ℕ) → Corrects (notices english) s i v code t → (code ≡ 10) × (t ≡ s)
-  unfolding notices
-  corrected-none i v e code t (x, y) =
-      let o = correction-none (family english) s (wholeOf a row′ text′) fine (good english s row text a row′ text′ reads) i v e in
-      (x ∙ ap codeOf o, y ∙ ap (λ o. leaves o s) o)
-
-  -- how many areas there are is one.
-  pub count-stays : (v code : ℕ) (t : List ℕ) → Corrects (notices english) s 7 v code t → (code ≡ 10) × (t ≡ s)
-  count-stays v = corrected-none 7 v (head-spotted english (wholeOf a row′ text′) 7 (lit< tt))
-
--- A correction changes the field's bits alone.
-pub correction-bits : (english : Bool) (s : List ℕ) (i v : ℕ) (t : List ℕ) (e : Corrects (notices english) s i v 0 t) → let c = accepted-correction (family english) s i v t e in t ≡ putAt s (c .offset) (c .width) v
+-- An expiry that was corrected leaves the areas' count, four bits at 59, and every other bit: what stands before its own 21 bits, and what stands behind them.
+pub expiry-leaves-count : (english : Bool) (s : List ℕ) (v : ℕ) (t : List ℕ) → Bytes s → Corrects (notices english) s 6 v 0 t → (fieldAt t 59 4 ≡ fieldAt s 59 4) × Differs false s 38 21 v t
 unfolding notices
-correction-bits english s i v t e = accepted-correction (family english) s i v t e .changed
-
--- the expiry stands in the 21 bits from 38 on, and they alone are changed
-expiry-bits : (english : Bool) (s : List ℕ) (v : ℕ) (t : List ℕ) → Corrects (notices english) s 6 v 0 t → (t ≡ putAt s 38 21 v) × (38 + 21 ≤ length s * 8)
-unfolding notices
-expiry-bits english s v t e =
-    let c = accepted-correction (family english) s 6 v t e in
-    let same = record-values (family english) s (c .values) (c .before) in
-    let there : found 38 21 ≡ found (c .offset) (c .width) =
-    sym (head-spotted english (recordOf (c .values)) 6 (lit< tt)) ∙ ap (λ vs. spot (notice english) [] vs 6) same ∙ c .there in
+expiry-leaves-count english s v t fine e =
+    let c = accepted-correction (family english) (spotOf english) (spotted english) s fine 6 v 0 t e refl in
     let offset : c .offset ≡ 38 = cc in
     let width : c .width ≡ 21 = cc in
-    (c .changed ∙ ap₂ (λ p w. putAt s p w v) offset width, omega (arith, c .within, offset, width))
-
--- An expiry that was corrected leaves the areas' count, four bits at 59, and every other bit: what stands before its own 21 bits, and what stands behind them.
-pub expiry-leaves-count : (english : Bool) (s : List ℕ) (v : ℕ) (t : List ℕ) → Corrects (notices english) s 6 v 0 t
-    → (fieldAt t 59 4 ≡ fieldAt s 59 4)
-    × ((at w : ℕ) → at + w ≤ 38 → fieldAt t at w ≡ fieldAt s at w)
-    × ((at w : ℕ) → 59 ≤ at → fieldAt t at w ≡ fieldAt s at w)
-    × (length t ≡ length s)
-expiry-leaves-count english s v t e =
-    let (is, fits) = expiry-bits english s v t e in
-    let behind : (at w : ℕ) → 59 ≤ at → fieldAt t at w ≡ fieldAt s at w = λ at w l. ap (λ t. fieldAt t at w) is ∙ field-put-after s 38 21 fits v at w l in
-    (behind 59 4 (lit≤ tt), λ at w l. ap (λ t. fieldAt t at w) is ∙ field-put-before s 38 21 fits v at w l, behind, ap length is ∙ length-put s 38 21 v)
+    let alone = subst (λ p. Differs false s p 21 v t) offset (subst (λ w. Differs false s (c .offset) w v t) width (c .alone)) in
+    (alone .behind 59 4 (lit≤ tt), alone)
 
 -- ---- the text
 

@@ -1,28 +1,32 @@
 -- Demands 2 and 3 of the notice, of the promises that its reading, writing and correcting make: a row with the numbers that its areas ask for is written as every layout's values are. Assumes nothing.
-use mathlib.Core.Path.{_≡_, refl, subst, subst⁻¹}
+use mathlib.Core.Path.{_≡_, refl, sym, _∙_, subst, subst⁻¹}
 use mathlib.Core.Bool.{Bool, true, false, cond}
 use mathlib.Core.List.{List, [], _∷_, _++_}
-use Prim.Native.Nat.{ℕ, _≤_, _<_, _^_}
+use Prim.Native.Nat.{ℕ, _≤_}
 use native.Mathlib.Omega.{arith}
 use borrow.Author.Tests.{le-leb}
 use lib.ListN.{length, take, drop, length-append}
 use Rattle.bits.specs.Bits.{Bytes}
-use Rattle.format.specs.Fmt.{Out, accepted, found, spot}
-use Rattle.format.specs.Message.{codeOf, leaves, into, readMessage, writeMessage, ahead}
-use Rattle.format.specs.Promises.{readRecord, Writes, Corrects}
-use Rattle.format.specs.laws.Family.{read-values, written-read}
+use Rattle.bits.specs.laws.Answers.{one-answer}
+use Rattle.format.specs.Fmt.{Out, accepted, refused, check, also}
+use Rattle.format.specs.Message.{fault, codeOf, leaves, into, readMessage, writeMessage, ahead}
+use Rattle.format.specs.Promises.{plain, readRecord, Writes, Corrects}
+use Rattle.format.specs.laws.Family.{never-read, read-values, written-read}
+use Rattle.format.specs.Settled.{SettledBy}
+use Rattle.format.specs.laws.Answers.{plain-good, code-plain}
+use Rattle.format.specs.laws.Settled.{settled-with, settled}
 use Rattle.format.specs.laws.Round.{clash}
 use Rattle.notice_fields.specs.Row.{areasLong, areasTold}
 use Rattle.notice_fields.specs.laws.Row.{exact-told, exact-more}
-use Rattle.notice.specs.Changed.{changed}
+use Rattle.notice.specs.Changed.{spotOf, changed}
 use Rattle.notice.specs.Notice.{notice, notices}
 use Rattle.notice.specs.Promises.{toldOf, Reads}
 use Rattle.notice.specs.Record.{Whole, valuesOf, recordOf}
 use Rattle.notice.specs.declared.reading.Answer.the-variants.{Good}
 use Rattle.notice.specs.declared.reading.Notice.{Notice}
 use Rattle.notice.specs.declared.reading.Told.{Told}
-use Rattle.notice.specs.laws.Correction.{Lent, changes}
-use Rattle.notice.specs.laws.Demands.{asked-row, longer-row, family, wholeOf, good, written-reads as written-values, read-writes-back as values-back, corrected as corrected-values}
+use Rattle.notice.specs.laws.Correction.{Lent, spotted, changes}
+use Rattle.notice.specs.laws.Demands.{asked-row, longer-row, family, wholeOf, good, written-reads as written-values, read-writes-back as values-back}
 use Rattle.notice.specs.WritingPromises.{enough, NoticeWrites}
 
 -- ---- what writing a notice promises, where the row has enough, is what every layout's writing does
@@ -53,6 +57,10 @@ accepted-writes english s r row t u fine x = go (enough r row) refl
         let y = written-read (family english) [] (r, (areasTold (r .count) row, t)) _ (exact-told (r .count) row, fine) (subst⁻¹ (Writes (notices english) [] 0 _) (asked-row r row t) w) in
         absurd (some-bytes english (y .message) (y .room) (y .reads))
 
+-- two answers that it allows are equal
+pub one-writing : (english : Bool) (s : List ℕ) (r : Notice) (row t : List ℕ) (c d : ℕ) (u w : List ℕ) → NoticeWrites english s r row t c u → NoticeWrites english s r row t d w → (c ≡ d) × (u ≡ w)
+one-writing english s r row t c d u w = one-answer (λ c. cond (enough r row) (leaves (into s (writeMessage (notices english) (valuesOf (r, (row, t))))) s) s)
+
 -- ---- demand 2
 
 -- What is written from a row and a text is read back as the same record, the numbers that the row was asked for, and the same text, where there is room for them.
@@ -77,12 +85,25 @@ module _ (english : Bool) (s row text : List ℕ) (a : Told) (row′ text′ : L
       let w = enough-writes english u r (xs ++ us) (take (a .text) text′) code t (le-leb (areasLong (r .count) (xs ++ us)) (length (xs ++ us)) (omega (arith, more, length-append xs us))) x in
       values-back english s row text a row′ text′ fine reads u code t l (subst (Writes (notices english) u code t) (longer-row r xs us (take (a .text) text′) (lent .0)) w)
 
-  -- Demand 3: correcting a notice, where the field can spell the value, is writing the notice with that field changed; else nothing differs.
-  pub corrected : (i v p w : ℕ) → spot (notice english) [] (valuesOf (wholeOf a row′ text′)) i ≡ found p w → v < 2 ^ w → (code : ℕ) (t : List ℕ) → Corrects (notices english) s i v code t
-      → (u : List ℕ) → length s ≤ length u → (code′ : ℕ) (t′ : List ℕ) → let y = changed i v (wholeOf a row′ text′) in NoticeWrites english u (y .0) (y .1 .0) (y .1 .1) code′ t′
-      → (code ≡ code′) × (code ≡ 0 → t ≡ take (length s) t′) × ((code ≡ 0 → ⊥) → t ≡ s)
-  corrected i v p w e n code t c u l code′ t′ x =
-      let y = changed i v (wholeOf a row′ text′) in
-      let (exact, fine′) = changes english (wholeOf a row′ text′) i v p w lent e .1 in
-      let has : enough (y .0) (y .1 .0) ≡ true = le-leb (areasLong (y .0 .count) (y .1 .0)) (length (y .1 .0)) (omega (arith, exact)) in
-      corrected-values english s row text a row′ text′ fine reads i v p w e n code t c u l code′ t′ (enough-writes english u (y .0) (y .1 .0) (y .1 .1) code′ t′ has x)
+-- ---- demand 3
+
+same-code : (o : Out (List ℕ)) → codeOf o ≡ codeOf (also recordOf o)
+same-code (accepted vs) = refl
+same-code (refused c p) = refl
+
+-- Every correction of a notice, by any number and any value. Its own refusal is c; where that is 0, a, row′ and text′ are what reading it gave.
+pub corrected : (english : Bool) (s row text : List ℕ) (a : Told) (row′ text′ : List ℕ) → Bytes s → (c : ℕ) → c ≡ codeOf (readMessage (notices english) s) → (c ≡ 0 → Reads english s row text (Good a) row′ text′)
+    → (i v code : ℕ) (t : List ℕ) → Corrects (notices english) s i v code t
+    → SettledBy (λ x u d y. let z = changed i v x in NoticeWrites english u (z .0) (z .1 .0) (z .1 .1) d y) (λ x. spotOf english x i) false s (check (fault c) 0 (accepted (wholeOf a row′ text′))) v code t
+unfolding notices
+corrected english s row text a row′ text′ fine c own reads i v code t corrects =
+    let q = readRecord (notices english) recordOf s in
+    let o = check (fault c) 0 (accepted (wholeOf a row′ text′)) in
+    let told : o ≡ plain q = code-plain q c (wholeOf a row′ text′) (own ∙ same-code (readMessage (notices english) s)) (never-read (family english) s) (λ z. good english s row text a row′ text′ (reads z)) in
+    settled-with (λ x. spotOf english x i) false s v (λ x u d y. Writes (notices english) u d y (valuesOf (changed i v x))) _ o code t
+    (λ x p w is there u d y wrote.
+    let lent = read-values (family english) s x fine (plain-good q (sym told ∙ is)) .1 in
+    let z = changed i v x in
+    let (exact, fine′) = changes english x i v p w lent (spotted english x i ∙ there) .1 in
+    enough-writes english u (z .0) (z .1 .0) (z .1 .1) d y (le-leb (areasLong (z .0 .count) (z .1 .0)) (length (z .1 .0)) (omega (arith, exact))) wrote)
+    (settled (family english) (spotOf english) (spotted english) s fine i v code t corrects o told)

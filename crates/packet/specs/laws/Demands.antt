@@ -1,22 +1,25 @@
 -- The packet is a family of format/specs/laws/Family, whose theorems are demands 2 and 3; said here of the packet's own promises. Assumes nothing.
 use mathlib.Core.Path.{_≡_, refl, sym, ap, _∙_, subst}
 use mathlib.Core.List.{List, [], _∷_, _++_}
-use Prim.Native.Nat.{ℕ, _+_, _*_, _/_, _≤_, _<_, _^_}
+use Prim.Native.Nat.{ℕ, _+_, _*_, _/_, _≤_}
 use native.Mathlib.Omega.{arith}
 use lib.ListN.{length, getD, take, drop}
-use Rattle.bits.specs.Bits.{Bytes, digits, bitsOf, putAt}
+use Rattle.bits.specs.Bits.{Bytes, digits, bitsOf}
 use Rattle.bits.specs.laws.Bytes.{length-bits, length-bytes, bytes-below}
-use Rattle.format.specs.Fmt.{accepted, found}
+use Rattle.format.specs.Fmt.{accepted, also}
 use Rattle.format.specs.Message.{writeMessage}
+use Rattle.format.specs.Settled.{Settled}
 use Rattle.format.specs.Promises.{answered, readRecord, Writes, Corrects}
-use Rattle.format.specs.laws.Answers.{good-shown}
+use Rattle.format.specs.laws.Answers.{good-shown, shown-plain}
 use Rattle.format.specs.laws.Entries.{entries}
 use Rattle.format.specs.laws.Extent.{extent-lay, extent-laid}
-use Rattle.format.specs.laws.Family.{Family, written-front, read-written, accepted-correction, corrected-as-written}
+use Rattle.format.specs.laws.Family.{Family, written-front, read-written}
 use Rattle.format.specs.laws.Legal.{Legal, exactly}
 use Rattle.format.specs.laws.Runs.{run-again, run-value}
 use Rattle.format.specs.laws.Whole.{made}
+use Rattle.format.specs.laws.Settled.{settled}
 use Rattle.format.specs.laws.Zero.{Judged, Counted, only-numbered}
+use Rattle.packet.specs.declared.reading.Answer.{Answer}
 use Rattle.packet.specs.declared.reading.Answer.the-variants.{Good, Refused}
 use Rattle.packet.specs.Promises.{Reads, Shows}
 use Rattle.packet.specs.Changed.{changed, spotOf}
@@ -83,13 +86,8 @@ pub read-writes-back : (s : List ℕ) (r : Packet) (c : List ℕ) → Bytes s �
     → (code ≡ 0) × (t ≡ s ++ drop (length s) u)
 read-writes-back s r c fine a b = read-written family s (r, c) fine (good s r c a b)
 
--- A correction changes the field's bits alone.
-pub correction-bits : (s : List ℕ) (i v : ℕ) (t : List ℕ) (e : Corrects packets s i v 0 t) → let c = accepted-correction family s i v t e in t ≡ putAt s (c .offset) (c .width) v
-unfolding packets
-correction-bits s i v t e = accepted-correction family s i v t e .changed
-
--- Demand 3: correcting a packet, where the field can spell the value, is writing the packet with that field changed and the content that it shows; else nothing differs.
-pub corrected : (s : List ℕ) (r : Packet) (c : List ℕ) → Bytes s → Reads s (Good r) → Shows s c → (i v p w : ℕ) → spotOf i ≡ found p w → v < 2 ^ w → (code : ℕ) (t : List ℕ) → Corrects packets s i v code t
-    → (u : List ℕ) → length s ≤ length u → (code′ : ℕ) (t′ : List ℕ) → Writes packets u code′ t′ (valuesOf (changed i v (r, c)))
-    → (code ≡ code′) × (code ≡ 0 → t ≡ take (length s) t′) × ((code ≡ 0 → ⊥) → t ≡ s)
-corrected s r c fine a b i v p w e n = corrected-as-written family s (r, c) fine (good s r c a b) i v p w (spotted (r, c) i ∙ e) n
+-- Demand 3: every correction of a packet, by any number and any value; the content c that it shows stays.
+pub corrected : (s : List ℕ) (a : Answer) (c : List ℕ) → Bytes s → Reads s a → Shows s c → (i v code : ℕ) (t : List ℕ) → Corrects packets s i v code t
+    → Settled packets (λ r. spotOf) valuesOf changed s (also (λ r. (r, c)) (outOf a)) i v code t
+corrected s a c fine reads shows i v code t x =
+    settled family (λ r. spotOf) spotted s fine i v code t x (also (λ r. (r, c)) (outOf a)) (shown-plain Good Refused outOf (λ q. refl) (λ c. refl) (readRecord packets recordOf s) reads shows)

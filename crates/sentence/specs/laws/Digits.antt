@@ -226,3 +226,10 @@ decimal-spelt (suc k) (c ∷ t) l a z =
     front : (i : List ℕ) → take (length t) (c ∷ t) ≡ i → getD i 0 0 ≡ 48 → ⊥
     front [] e h = omega arith
     front (d ∷ i) e h = z (head-of t d i e ∙ h)
+
+-- Two answers that spelling a number allows are equal.
+pub one-spelling : (n from from′ : ℕ) (chars chars′ : List ℕ) → Spells n from chars → Spells n from′ chars′ → (from ≡ from′) × (chars ≡ chars′)
+one-spelling n from from′ chars chars′ x y =
+    let long : (k : ℕ) → length (replicate k 0 ++ decimal 10 n) ≡ k + length (decimal 10 n) = λ k. length-append (replicate k 0) (decimal 10 n) ∙ ap (_+ length (decimal 10 n)) (length-replicate k 0) in
+    let same : from ≡ from′ = omega (arith, x .long, y .long, ap length (x .figures) ∙ long from, ap length (y .figures) ∙ long from′) in
+    (same, x .figures ∙ ap (λ k. replicate k 0 ++ decimal 10 n) same ∙ sym (y .figures))

@@ -12,20 +12,23 @@ use Rattle.frame.specs.Frame.{bytesFor, contentOf}
 use Rattle.frame.specs.laws.Content.{fits-content, declared-fits, content-again, content-first, content-fill, content-long, content-bytes}
 use Rattle.frame.specs.laws.Head.{head-numbered}
 use Rattle.frame.specs.laws.Sound.{frame-sound}
-use Rattle.format.specs.Fmt.{accepted, good as Fmt·good, pad, read, found}
+use Rattle.format.specs.Fmt.{accepted, also, good as Fmt·good, pad, read}
 use Rattle.format.specs.Words.{code, twice, ago}
-use Rattle.format.specs.laws.Answers.{good-shown}
+use Rattle.format.specs.laws.Answers.{good-shown, shown-plain}
 use Rattle.format.specs.laws.Entries.{entries, legal-entries}
 use Rattle.format.specs.laws.Extent.{extent, extent-laid}
-use Rattle.format.specs.laws.Family.{Family, written-front, read-written, corrected-as-written}
+use Rattle.format.specs.laws.Family.{Family, written-front, read-written}
 use Rattle.format.specs.laws.Legal.{Legal, legal, exactly, passed-twice}
 use Rattle.format.specs.laws.Round.{read-write}
+use Rattle.format.specs.laws.Settled.{settled}
 use Rattle.format.specs.laws.Zero.{Judged, only-numbered, twice-numbered}
+use Rattle.format.specs.Settled.{Settled}
 use Rattle.format.specs.Promises.{answered, readRecord, Writes, Corrects}
 use Rattle.format.specs.Message.{readMessage, writeMessage}
 use Rattle.format.specs.laws.Whole.{was, made, write-read-message}
 use Rattle.bits.specs.laws.Bytes.{length-bits}
 use lib.Seq.{length-take-le}
+use Rattle.txxx.specs.declared.reading.Answer.{Answer}
 use Rattle.txxx.specs.declared.reading.Answer.the-variants.{Good, Refused}
 use Rattle.txxx.specs.Promises.{Reads, Shows}
 use Rattle.txxx.specs.Changed.{changed, spotOf}
@@ -145,8 +148,8 @@ pub read-writes-back : (s : List ℕ) (r : Txxx) (c : List ℕ) → Bytes s → 
     → (code ≡ 0) × (t ≡ s ++ drop (length s) u)
 read-writes-back s r c fine a b = read-written family s (r, c) fine (good s r c a b)
 
--- Demand 3: correcting a frame, where the field can spell the value, is writing the frame with that field changed and the content that it shows; else nothing differs.
-pub corrected : (s : List ℕ) (r : Txxx) (c : List ℕ) → Bytes s → Reads s (Good r) → Shows s c → (i v p w : ℕ) → spotOf (r, c) i ≡ found p w → v < 2 ^ w → (code : ℕ) (t : List ℕ) → Corrects txxxs s i v code t
-    → (u : List ℕ) → length s ≤ length u → (code′ : ℕ) (t′ : List ℕ) → Writes txxxs u code′ t′ (valuesOf (changed i v (r, c)))
-    → (code ≡ code′) × (code ≡ 0 → t ≡ take (length s) t′) × ((code ≡ 0 → ⊥) → t ≡ s)
-corrected s r c fine a b i v p w e n = corrected-as-written family s (r, c) fine (good s r c a b) i v p w (spotted (r, c) i ∙ e) n
+-- Demand 3: every correction of a frame TXXX, by any number and any value; the content c that it shows stays.
+pub corrected : (s : List ℕ) (a : Answer) (c : List ℕ) → Bytes s → Reads s a → Shows s c → (i v code : ℕ) (t : List ℕ) → Corrects txxxs s i v code t
+    → Settled txxxs spotOf valuesOf changed s (also (λ r. (r, c)) (outOf a)) i v code t
+corrected s a c fine reads shows i v code t x =
+    settled family spotOf spotted s fine i v code t x (also (λ r. (r, c)) (outOf a)) (shown-plain Good Refused outOf (λ q. refl) (λ c. refl) (readRecord txxxs recordOf s) reads shows)

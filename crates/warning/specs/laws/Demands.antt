@@ -15,26 +15,28 @@ use Rattle.warning.specs.declared.bodies.Body.{Body}
 use Rattle.warning.specs.declared.bodies.Body.the-variants.{Cyclone, Gale, Waves, Fog, Surge}
 use Rattle.warning.specs.laws.Walking.{body-numbered}
 use Rattle.format.specs.Correcting.{standing}
-use Rattle.format.specs.Fmt.{accepted, end, found, spot}
-use Rattle.format.specs.Message.{codeOf, leaves}
+use Rattle.format.specs.Fmt.{accepted, end, spot}
+use Rattle.format.specs.Settled.{Settled}
 use Rattle.format.specs.Promises.{readRecord, Writes, Corrects}
 use Rattle.format.specs.Words.{_‥_, wide, num, fill}
-use Rattle.format.specs.laws.Answers.{good-read}
+use Rattle.format.specs.laws.Answers.{good-read, answer-plain}
 use Rattle.format.specs.laws.Entries.{entries, entries-behind}
-use Rattle.format.specs.laws.Family.{Family, read-values, one-size, written-front, read-written, corrected-as-written, correction-none}
+use Rattle.format.specs.laws.Family.{Family, read-values, one-size, written-front, read-written}
 use Rattle.format.specs.laws.Legal.{Legal, exactly, ranged}
+use Rattle.format.specs.laws.Settled.{settled-named}
 use Rattle.format.specs.laws.Whole.{was}
 use Rattle.format.specs.laws.Zero.{Judged, Counted, only-numbered}
 use Rattle.ais_common.specs.Time.{spellTime, timeOf}
 use Rattle.ais_common.specs.laws.Spelling.{time-spell, spell-time}
 use Rattle.ais_common.specs.laws.Walking.{time-numbered}
-use Rattle.warning.specs.Changed.{spotOf, fieldOf, changed}
+use Rattle.warning.specs.Changed.{spotOf, fieldOf, changed, namedBy, spotBy, changedBy}
 use Rattle.warning.specs.Promises.{Reads}
 use Rattle.warning.specs.Warning.{tail, warning, warnings, valuesAs, valuesOf, recordAs, recordOf, answerOf, outOf}
 use Rattle.warning.specs.laws.Correction.{Looked, stands, spotted, changed-values}
 use Rattle.warning.specs.laws.Sound.{front, bytes, type-at, sound}
 use Rattle.warning.specs.laws.Told.{recorded, kind-type}
 use Rattle.warning.specs.declared.reading.Warning.{Warning}
+use Rattle.warning.specs.declared.reading.Answer.{Answer}
 use Rattle.warning.specs.declared.reading.Answer.the-variants.{Good, Refused}
 
 -- ---- records and values are one another's
@@ -200,14 +202,19 @@ family = record {
   changes = λ r i v p w k e n. (changed-values r i v p w (sym (spotted r i) ∙ e) n, tt);
 }
 
+-- the type's number in the bytes is that of the record's body
+type-number : (s : List ℕ) (r : Warning) → Bytes s → readRecord warnings recordOf s ≡ accepted r → fieldAt s 56 4 ≡ typeOf (bodyKind (r .body))
+unfolding warnings valuesAs
+type-number s r fine e = let m = read-values family s r fine e .0 in type-at s (valuesOf r) (was warnings s (valuesOf r) m .walked)
+
 -- the field of number n, looked up by the type k that the code found there, stands where the tables say
 pub looked-stands : (s : List ℕ) (n k : ℕ) {p w : ℕ} → Bytes s → k ≡ got s 56 4 → Looked (kindOf k) n p w
     → (r : Warning) → readRecord warnings recordOf s ≡ accepted r → spot (warnings .fmt) [] (valuesOf r) (fieldOf (fieldAt s 56 4) n) ≡ standing p w
-unfolding warnings valuesAs
+unfolding warnings
 looked-stands s n k fine is l r e =
     let m = was warnings s (valuesOf r) (read-values family s r fine e .0) .walked in
     let found-so = is ∙ got-fits s 56 4 (lit≤ tt) (omega (arith, bytes s (valuesOf r) m)) in
-    ap (λ t. spot (warnings .fmt) [] (valuesOf r) (fieldOf t n)) (sym found-so) ∙ stands (kindOf k) n l r (ap kindOf (found-so ∙ type-at s (valuesOf r) m) ∙ kind-type (bodyKind (r .body)))
+    ap (λ t. spot (warnings .fmt) [] (valuesOf r) (fieldOf t n)) (sym found-so) ∙ stands (kindOf k) n l r (ap kindOf (found-so ∙ type-number s r fine e) ∙ kind-type (bodyKind (r .body)))
 
 -- ---- said of the warning's promises
 
@@ -225,16 +232,9 @@ pub read-writes-back : (s : List ℕ) (r : Warning) → Bytes s → Reads s (Goo
     → (code ≡ 0) × (t ≡ s ++ drop (length s) u)
 read-writes-back s r fine a = read-written family s r fine (good s r a)
 
--- Demand 3: correcting a warning, where the field can spell the value, is writing the warning with that field changed; else nothing differs.
-pub corrected : (s : List ℕ) (r : Warning) → Bytes s → Reads s (Good r) → (n v p w : ℕ) → let i = fieldOf (fieldAt s 56 4) n in spotOf (bodyKind (r .body)) i ≡ found p w → v < 2 ^ w
-    → (code : ℕ) (t : List ℕ) → Corrects warnings s i v code t → (u : List ℕ) → length s ≤ length u → (code′ : ℕ) (t′ : List ℕ) → Writes warnings u code′ t′ (valuesOf (changed i v r))
-    → (code ≡ code′) × (code ≡ 0 → t ≡ take (length s) t′) × ((code ≡ 0 → ⊥) → t ≡ s)
-corrected s r fine a n v p w e l = let i = fieldOf (fieldAt s 56 4) n in corrected-as-written family s r fine (good s r a) i v p w (spotted r i ∙ e) l
-
--- A number that names none of the warning's fields, as one of another body, is 10, and nothing differs.
-pub corrected-none : (s : List ℕ) (r : Warning) → Bytes s → Reads s (Good r) → (n v : ℕ) → fieldOf (fieldAt s 56 4) n ≡ 0 → (code : ℕ) (t : List ℕ) → Corrects warnings s (fieldOf (fieldAt s 56 4) n) v code t
-    → (code ≡ 10) × (t ≡ s)
-corrected-none s r fine a n v z code t (x, y) =
-    let i = fieldOf (fieldAt s 56 4) n in
-    let o = correction-none family s r fine (good s r a) i v (spotted r i ∙ ap (spotOf (bodyKind (r .body))) z) in
-    (x ∙ ap codeOf o, y ∙ ap (λ o. leaves o s) o)
+-- Demand 3: every correction of a warning, by any number and any value.
+pub corrected : (s : List ℕ) (a : Answer) → Bytes s → Reads s a → (n v code : ℕ) (t : List ℕ) → Corrects warnings s (fieldOf (fieldAt s 56 4) n) v code t
+    → Settled warnings spotBy valuesOf changedBy s (outOf a) n v code t
+corrected s a fine reads n v code t c =
+    settled-named family (λ r. spotOf (bodyKind (r .body))) spotted s fine (fieldOf (fieldAt s 56 4) n) v code t c namedBy n (λ r e. ap (λ k. fieldOf k n) (type-number s r fine e))
+    (outOf a) (answer-plain Good Refused outOf (λ q. refl) (λ c. refl) (readRecord warnings recordOf s) reads)
