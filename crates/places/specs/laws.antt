@@ -9,4 +9,5 @@ pub mod Joined
 pub mod Front
 pub mod Outcomes
 pub mod Row
+pub mod Taken
 pub mod One

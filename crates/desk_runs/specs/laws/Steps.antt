@@ -18,13 +18,13 @@ use Rattle.places.specs.Desk.{cell, inCell, laid, alike, numberOf, applied, fir
 use Rattle.places.specs.declared.Place.{Place}
 use Rattle.places.specs.declared.Reply.the-variants.{Done, Again, Joined, Missing, Refused}
 use Rattle.places.specs.laws.Alike.{alike-same}
-use Rattle.places.specs.laws.Front.{front-open, front-free, front-at, open-found, open-none, free-found}
+use Rattle.places.specs.laws.Front.{front-open, front-free, front-at, Unopened, open-found, open-none, free-found}
 use Rattle.places.specs.laws.Joined.{cell-within}
 use Rattle.places.specs.laws.Laid.{length-laid, other-cell}
 use Rattle.desk_runs.specs.Runs.{comes, asks, drops, Part, grown, notCome, inOrder, contentOf, given, due}
 use Rattle.desk_runs.specs.laws.Parts.{Member, each-answer}
 use Rattle.desk_runs.specs.laws.Stands.{Stands, in-cell, missing-is, joined-is, put-in, again}
-use Rattle.desk_runs.specs.laws.Told.{Told, Unopened, tests-pass, retold, filled, emptied}
+use Rattle.desk_runs.specs.laws.Told.{Told, tests-pass, retold, filled, emptied}
 
 -- ---- the entry of a packet that was accepted
 
