@@ -9,4 +9,5 @@ pub mod Takes
 pub mod Older
 pub mod Follows
 pub mod BytesDemand
-pub mod Joined
+pub mod Split
+pub mod Arrives
