@@ -57,7 +57,9 @@ module _ {ps : List Place} {s : List ℕ} {f : ℕ → List Part} (x : Told ps s
           let l = ltb-true i fourPlaces e in
           let (o, q) = open-found ps (y .0 .number) l in
           rw (front-at ps i l) (joins-due y i (placeAt ps i) (f (y .0 .number)) (subst (λ k. Stands s i (placeAt ps i) (f k)) q (x .stands i l o)))
-      go false e = rw (x .away (y .0 .number) (open-none ps (y .0 .number) (ltb-false i fourPlaces e)), room) (free (ltb (freeAt ps) fourPlaces) _ refl)
+      go false e =
+          let none = open-none ps (y .0 .number) (ltb-false i fourPlaces e) in
+          free (ltb (freeAt ps) fourPlaces) _ refl ∙ ap (λ u. cond u Done (Refused 8)) (sym room) ∙ ap (λ xs. welcome y xs n) (sym (x .away (y .0 .number) none))
 
   accepting-due : (m : List ℕ) → accepting ps s m .reply ≡ answered (λ y. welcome y (f (y .0 .number)) n) Refused (readRecord packets recordOf m)
   unfolding accepting
