@@ -4,3 +4,4 @@ pub mod Changes
 pub mod Rows
 pub mod One
 pub mod Taken
+pub mod Refused

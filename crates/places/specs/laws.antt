@@ -10,4 +10,6 @@ pub mod Front
 pub mod Outcomes
 pub mod Row
 pub mod Taken
+pub mod Ends
+pub mod Refused
 pub mod One
