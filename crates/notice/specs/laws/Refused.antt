@@ -1,6 +1,6 @@
 -- Demand 1 for the notice's calls over a row and a buffer: a refusal leaves both as they were, and where reading answers 0 the notice was read and both had room. What is tested last, room, is one law over any test. Assumes nothing.
 use mathlib.Core.Path.{_≡_, refl, sym, ap, _∙_}
-use mathlib.Core.Bool.{Bool, true, false, cond, _&&_, and-eq-true-iff}
+use mathlib.Core.Bool.{Bool, true, false, _&&_, and-eq-true-iff}
 use mathlib.Core.List.{List}
 use Prim.Native.Nat.{ℕ, _≤_}
 use native.Mathlib.Omega.{arith}
@@ -8,7 +8,7 @@ use lib.Dec.{leb}
 use lib.ListN.{length}
 use borrow.Author.Tests.{leb-true}
 use Rattle.format.specs.Fmt.{Out, accepted, refused, orBad, check, after}
-use Rattle.format.specs.Message.{codeOf, leaves, into, ahead}
+use Rattle.format.specs.Message.{codeOf, into, ahead}
 use Rattle.format.specs.Promises.{answered, readRecord}
 use Rattle.format.specs.laws.Family.{refused-stands, never-read}
 use Rattle.notice.specs.Notice.{notices}
@@ -16,7 +16,7 @@ use Rattle.notice.specs.Promises.{housed, toldOf, answerOf, numberOf, Re
 use Rattle.notice.specs.Record.{Whole, recordOf}
 use Rattle.notice.specs.WritingPromises.{Lays}
 use Rattle.notice.specs.declared.reading.Answer.{Answer}
-use Rattle.notice.specs.declared.reading.Answer.the-variants.{Good, Refused}
+use Rattle.notice.specs.declared.reading.Answer.the-variants.{Good}
 use Rattle.notice.specs.laws.Demands.{family}
 
 -- ---- a test that comes last and is 6
