@@ -3,3 +3,5 @@ pub mod Fits
 pub mod Changes
 pub mod Rows
 pub mod One
+pub mod Taken
+pub mod Refused

@@ -1,5 +1,6 @@
 -- Runs of calls at the desk: their definitions, and in `laws` demand 2 of them.
 pub mod Runs
+pub mod Taking
 mod Examples
 pub mod Lent
 pub mod laws

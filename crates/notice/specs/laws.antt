@@ -9,3 +9,4 @@ pub mod Demands
 pub mod Judging
 pub mod Writing
 pub mod WritingDemands
+pub mod Refused

@@ -9,4 +9,7 @@ pub mod Joined
 pub mod Front
 pub mod Outcomes
 pub mod Row
+pub mod Taken
+pub mod Ends
+pub mod Refused
 pub mod One

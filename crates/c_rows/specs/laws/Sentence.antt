@@ -1,27 +1,16 @@
--- A sentence's answers as numbers: what `read` and `write` give decides them, by the answer's case.
+-- A sentence that is written, as numbers: what `write` gives decides them, by the answer's case.
 use Prim.Native.Nat.{ℕ}
-use mathlib.Core.Path.{_≡_, refl, ap, subst}
-use mathlib.Core.List.{List, _∷_}
+use mathlib.Core.Path.{_≡_, refl, subst}
+use mathlib.Core.List.{List}
 use native.Mathlib.Omega.{arith}
-use lib.IntN.{ℤ, pos}
 use lib.ListN.{length}
 use Rattle.format.specs.Fmt.{Out, accepted, refused, also}
 use Rattle.format.specs.Message.{codeOf, leaves}
-use Rattle.format.specs.laws.Answers.{bad-refuses}
-use Rattle.sentence.specs.Sentence.{readSentence, outOf, sentOf, Hears, Sends}
+use Rattle.sentence.specs.Sentence.{sentOf, Sends}
 use Rattle.distress.specs.declared.reading.Report.{Report}
-use Rattle.sentence.specs.declared.reading.Heard.the-variants.{Good, Refused}
 use Rattle.sentence.specs.declared.writing.Sent.{Sent}
 use Rattle.sentence.specs.declared.writing.Sent.the-variants.{Bytes, Refused as Unsent}
-use Rattle.c_rows.specs.Row.{Fills}
-use Rattle.c_rows.specs.Report.{rowOf}
-use Rattle.c_rows.specs.Sentence.{sentenceNumbers, sentenceInto, SentenceWrites}
-use Rattle.c_rows.specs.laws.Row.{row-refused}
-
-pub refused-sentence : (s : List ℕ) (row : List ℤ) (c : ℕ) → Hears s (Refused c) → Fills (sentenceNumbers s) row c row
-refused-sentence s row c e =
-    let (p, is) = bad-refuses (λ x. Good (x .0) (x .1)) Refused outOf (λ q. refl) (λ c. refl) (λ x. x) (readSentence s) e in
-    row-refused row (ap (also (λ x. pos (x .0) ∷ rowOf (x .1))) is)
+use Rattle.c_rows.specs.Sentence.{sentenceInto, SentenceWrites}
 
 module _ (buf : List ℕ) (size address : ℕ) {r r′ : Report} (told : r ≡ r′) {sent : Sent} {t : List ℕ} (sends : Sends buf address r sent t) where
   -- the call's promise, from what the answer says of each writing

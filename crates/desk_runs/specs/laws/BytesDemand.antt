@@ -1,4 +1,4 @@
--- Demand 2 of every run of calls over lent bytes from an empty desk: what asking answers is due for the packets that have come, by the calls and their codes alone. It is desk_runs' theorem, since the run is one of places. Assumes nothing.
+-- Demand 2 of every run of calls over lent bytes from an empty desk: what asking answers is due for the packets that have come, and what a packet is answered is due for it, by the calls and their codes alone. It is desk_runs' theorem, since the run is one of places. Assumes nothing.
 use mathlib.Core.Path.{_≡_, sym, ap, _∙_, subst}
 use mathlib.Core.Bool.{false, not}
 use mathlib.Core.List.{List, _∷_}
@@ -10,13 +10,15 @@ use lib.ListN.{length, drop, getD}
 use lib.Seq.{getD-take, getD-drop}
 use Rattle.places.specs.Desk.{numberOf}
 use Rattle.places.specs.Places.{fourPlaces, placeAt}
-use Rattle.desk_runs.specs.Runs.{Desk, Empty, Call, Part, since, Complete, Given, asked, due}
+use Rattle.desk_runs.specs.Runs.{Desk, Empty, Call, comes, replyTo, Part, since, Complete, Given, asked, due}
+use Rattle.desk_runs.specs.Taking.{dueFor}
 use Rattle.desk_runs.specs.laws.Demand.{asked-is-due, handed-out-exactly, whole}
 use Rattle.desk_bytes.specs.Bytes.{placeBytes, begins, placeIn}
-use Rattle.desk_bytes.specs.Promises.{countOf, languageOf, AsksIn}
+use Rattle.desk_bytes.specs.Promises.{againOf, countOf, languageOf, AcceptsIn, AsksIn}
 use Rattle.desk_bytes.specs.laws.Changes.{fourIn, row-long}
 use Rattle.desk_runs.specs.Lent.{Lent, deskIn, EmptyIn, Run, callsOf}
 use Rattle.desk_runs.specs.laws.Follows.{follows}
+use Rattle.desk_runs.specs.laws.Takes.{accepted-is-due}
 
 -- ---- an empty desk
 
@@ -37,6 +39,17 @@ empty-in {d} x =
     let bs = d .places in
     let row = row-long bs (x .wide) in
     record { wide = subst (λ ps. fourPlaces ≤ length ps) row (lit≤ tt); deep = x .deep; closed = subst (λ ps. (i : ℕ) → i < fourPlaces → placeAt ps i .«open» ≡ false) row (closed-in bs (x .closed)) }
+
+-- ---- a packet comes in
+
+module _ (d : Lent) (empty : EmptyIn d) (h : List (Call × ℕ)) (e : Lent) (r : Run d h e) (m : List ℕ) where
+  -- Demand 2: the code and the mark are what is due for the packet.
+  pub accepted-over-bytes : (again code : ℕ) (bs t : List ℕ) (again′ : ℕ) → AcceptsIn (e .places) (e .store) m again code bs t again′
+      → (code ≡ numberOf (dueFor h m)) × (again′ ≡ againOf (dueFor h m) again)
+  accepted-over-bytes again code bs t again′ (x, _, _, y) =
+      let f = follows d (empty .wide) h e r in
+      let is = ap (replyTo (comes m)) (f .left) ∙ accepted-is-due (deskIn d) (empty-in empty) (callsOf h) m ∙ ap (λ h. dueFor h m) (sym (f .logged)) in
+      (x ∙ ap numberOf is, y ∙ ap (λ a. againOf a again) is)
 
 -- ---- asking
 

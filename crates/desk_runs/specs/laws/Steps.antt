@@ -1,13 +1,13 @@
 -- Each call keeps what is told of the desk, where its entry of the log is counted; and asking gives what is due. Assumes nothing.
 use mathlib.Core.Path.{_≡_, refl, sym, _∙_, subst}
-use mathlib.Core.Bool.{Bool, true, false, cond, _&&_, _||_, false≢true, and-eq-true-iff}
+use mathlib.Core.Bool.{Bool, true, false, cond, _||_, false≢true}
 use mathlib.Core.List.{List, [], _∷_, _++_, List·Memᴰ·not-nil}
 use Prim.Native.Nat.{ℕ, zero, suc, _+_, _≤_, _<_}
 use native.Mathlib.Omega.{arith}
 use lib.Dec.{leb, ltb, eqb}
 use lib.ListN.{length, getD, set, take, drop, replicate, length-replicate}
 use lib.Seq.{set-getD}
-use borrow.Author.Tests.{ltb-true, ltb-false, eqb-true, eq-eqb, ne-eqb, not-false}
+use borrow.Author.Tests.{ltb-true, ltb-false, eqb-true, eq-eqb, ne-eqb}
 use Rattle.format.specs.Fmt.{Out, accepted, refused}
 use Rattle.format.specs.Promises.{answered, readRecord}
 use Rattle.packet.specs.Packet.{mostPackets, partBytes, packets, recordOf}
@@ -18,13 +18,14 @@ use Rattle.places.specs.Desk.{cell, inCell, laid, alike, numberOf, applied, fir
 use Rattle.places.specs.declared.Place.{Place}
 use Rattle.places.specs.declared.Reply.the-variants.{Done, Again, Joined, Missing, Refused}
 use Rattle.places.specs.laws.Alike.{alike-same}
-use Rattle.places.specs.laws.Front.{front-open, front-free, front-at, open-found, open-none, free-found}
+use Rattle.places.specs.laws.Ends.{agreeing}
+use Rattle.places.specs.laws.Front.{front-open, front-free, front-at, Unopened, open-found, open-none, free-found}
 use Rattle.places.specs.laws.Joined.{cell-within}
 use Rattle.places.specs.laws.Laid.{length-laid, other-cell}
 use Rattle.desk_runs.specs.Runs.{comes, asks, drops, Part, grown, notCome, inOrder, contentOf, given, due}
 use Rattle.desk_runs.specs.laws.Parts.{Member, each-answer}
 use Rattle.desk_runs.specs.laws.Stands.{Stands, in-cell, missing-is, joined-is, put-in, again}
-use Rattle.desk_runs.specs.laws.Told.{Told, Unopened, tests-pass, retold, filled, emptied}
+use Rattle.desk_runs.specs.laws.Told.{Told, tests-pass, retold, filled, emptied}
 
 -- ---- the entry of a packet that was accepted
 
@@ -41,15 +42,6 @@ none-held : (n k : ℕ) → _≡_ {A = ℕ} (getD (replicate n 0) k 0) 0
 none-held zero k = refl
 none-held (suc n) zero = refl
 none-held (suc n) (suc k) = none-held n k
-
--- a packet that its place does not contradict
-agrees : (s : List ℕ) (i : ℕ) (p : Place) (r : Packet) (c : List ℕ) → contradicts s i p r c ≡ false
-    → (r .language ≡ p .language) × (r .total ≡ p .total) × ((lacks p (r .own) || alike (inCell s i p (r .own)) c) ≡ true)
-agrees s i p r c e =
-    let like = lacks p (r .own) || alike (inCell s i p (r .own)) c in
-    let (a, b) = and-eq-true-iff (eqb (r .language) (p .language)) (eqb (r .total) (p .total) && like) .0 (not-false (eqb (r .language) (p .language) && (eqb (r .total) (p .total) && like)) e) in
-    let (t, h) = and-eq-true-iff (eqb (r .total) (p .total)) like .0 b in
-    (eqb-true (r .language) (p .language) a, eqb-true (r .total) (p .total) t, h)
 
 module _ {ps : List Place} {s : List ℕ} {f : ℕ → List Part} (x : Told ps s f) where
   -- ---- a packet comes in
@@ -91,14 +83,14 @@ module _ {ps : List Place} {s : List ℕ} {f : ℕ → List Part} (x : Told ps s
             → Accepted m (cond u (turnedAway s 7) (cond v (taken s i (holding p (r .own) (length c)) r c) (record { reply = Again; change = stays; store = s })))
         go true v eu ev = retold x (λ n. grown n (comes m, 7) (f n)) (λ n. refl)
         go false true eu ev =
-            let (language, total, h) = agrees s i p r c eu in
+            let (language, total, h) = agreeing s i p r c eu in
             let member : Member (p .total) (p .language) y = record { fit = fit; total = total; language = language } in
             filled x i l (holding p (r .own) (length c)) (laid s (cell i (r .own)) c) (λ n. grown n (comes m, 0) (f n)) (length-laid s (cell i (r .own)) c (fits i l)) o
             (λ j a d oj e. d (x .alone j i a l oj o e)) (λ k. refl) (others i l)
             (rw (grown-here m y 0 (p .number) (f (p .number)) reads refl (sym q)) (put-in s i (holding p (r .own) (length c)) y (f (p .number)) (p .sizes) (fits i l) (member, st .members) (st .agreed) (sym (st .sizes (r .own)) ∙ eqb-true (held p (r .own)) 0 ev) (st .row) (st .sizes) (st .cells) refl))
             (λ n d. grown-there m y 0 n (f n) reads refl (λ e. d (sym e ∙ sym q)))
         go false false eu ev =
-            let (language, total, h) = agrees s i p r c eu in
+            let (language, total, h) = agreeing s i p r c eu in
             let member : Member (p .total) (p .language) y = record { fit = fit; total = total; language = language } in
             let same = sym (in-cell st (r .own)) ∙ alike-same (inCell s i p (r .own)) c (subst (λ v. (v || alike (inCell s i p (r .own)) c) ≡ true) ev h) in
             subst (λ qs. Told qs s (λ n. grown n (comes m, 0) (f n))) (set-getD ps i blank)

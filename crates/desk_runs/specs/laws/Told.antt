@@ -8,19 +8,16 @@ use native.Mathlib.Omega.{arith}
 use lib.Dec.{ltb, eqb}
 use lib.ListN.{length, set, take, drop, length-set}
 use lib.Seq.{getD-set-same, getD-set-other}
-use borrow.Author.Tests.{ltb-true, ltb-false, eqb-true, eqb-false, le-leb}
+use borrow.Author.Tests.{ltb-true, ltb-false, eqb-true, eqb-false}
 use Rattle.packet.specs.Packet.{mostPackets, partBytes}
 use Rattle.places.specs.Places.{everyBelow, blank, goodPlace, passes, clash, fourPlaces, placeAt, allApart, goodPlaces, openAt}
 use Rattle.places.specs.Desk.{storeBytes, cell, firstTests}
 use Rattle.places.specs.declared.Place.{Place}
 use Rattle.places.specs.laws.Below.{each-every}
-use Rattle.places.specs.laws.Front.{open-found, open-none}
+use Rattle.places.specs.laws.Front.{Unopened, open-found, open-none}
+use Rattle.places.specs.laws.Good.{pass-tests}
 use Rattle.desk_runs.specs.Runs.{Part}
 use Rattle.desk_runs.specs.laws.Stands.{Stands, good-place, moved}
-
--- no open place has message number n
-abbrev pub Unopened : List Place → ℕ → Type 0
-Unopened ps n = (i : ℕ) → i < fourPlaces → placeAt ps i .«open» ≡ true → placeAt ps i .number ≡ n → ⊥
 
 -- the packets f n of each message number n have come
 pub record Told (ps : List Place) (s : List ℕ) (f : ℕ → List Part) : Type 0 where
@@ -60,8 +57,7 @@ module _ {ps : List Place} {s : List ℕ} {f : ℕ → List Part} (x : Told ps s
       ) refl
 
   pub tests-pass : firstTests ps s ≡ 0
-  unfolding firstTests
-  tests-pass = rw (le-leb fourPlaces (length ps) (x .wide), le-leb storeBytes (length s) (x .deep), good-places) refl
+  tests-pass = pass-tests ps s (x .wide) (x .deep) good-places
 
   -- the place of a notice of which a packet has come
   pub its-place : (n : ℕ) (y : Part) (ys : List Part) → f n ≡ y ∷ ys → (i : ℕ) × Stands s i (placeAt ps i) (y ∷ ys)

@@ -33,8 +33,12 @@ open-found ps n l =
     let (a, b) = and-eq-true-iff (p .«open») (eqb (p .number) n) .0 (open-serves ps n l) in
     (a, eqb-true (p .number) n b)
 
+-- no open place has message number n
+abbrev pub Unopened : List Place → ℕ → Type 0
+Unopened ps n = (i : ℕ) → i < fourPlaces → placeAt ps i .«open» ≡ true → placeAt ps i .number ≡ n → ⊥
+
 -- and none where it is not found
-pub open-none : (ps : List Place) (n : ℕ) → fourPlaces ≤ openAt ps n → (i : ℕ) → i < fourPlaces → placeAt ps i .«open» ≡ true → placeAt ps i .number ≡ n → ⊥
+pub open-none : (ps : List Place) (n : ℕ) → fourPlaces ≤ openAt ps n → Unopened ps n
 unfolding openAt
 open-none ps n l i m e q =
     let is : serves (placeAt ps i) n ≡ true = rw (e, eq-eqb (placeAt ps i .number) n q) refl in

@@ -6,7 +6,7 @@ use mathlib.Core.Path.{_≡_, refl}
 use native.Mathlib.Omega.{arith}
 use lib.ListN.{length}
 use lib.Dec.{leb, ltb, eqb}
-use borrow.Author.Tests.{leb-true, eqb-true}
+use borrow.Author.Tests.{leb-true, le-leb, eqb-true}
 use Rattle.packet.specs.Packet.{mostPackets, partBytes}
 use Rattle.places.specs.Desk.{storeBytes, firstTests}
 use Rattle.places.specs.Places.{everyBelow, held, lacks, entryGood, goodPlace, passes, serves, fourPlaces, placeAt, allApart, goodPlaces, openAt}
@@ -57,3 +57,8 @@ tests-passed ps s e = go (leb fourPlaces (length ps)) (leb storeBytes (length s)
     go true true false d g z = absurd (omega (arith, z))
     go true false _ d g z = absurd (omega (arith, z))
     go false _ _ d g z = absurd (omega (arith, z))
+
+-- and where they are, the first tests pass
+pub pass-tests : (ps : List Place) (s : List ℕ) → fourPlaces ≤ length ps → storeBytes ≤ length s → goodPlaces ps ≡ true → firstTests ps s ≡ 0
+unfolding firstTests
+pass-tests ps s wide deep good = rw (le-leb fourPlaces (length ps) wide, le-leb storeBytes (length s) deep, good) refl

@@ -159,3 +159,12 @@ no-zero-sent s a r t (d, l) = go (addressGood a) (writeMessage reports (valuesOf
         room : (y : Bool) → Unsent 0 ≡ sentOf (check (orBad y 6) 0 (accepted (sentence a bs))) → ⊥
         room false d = let z : _≡_ {A = ℕ} 6 0 = cc in omega arith
         room true d = let z : _≡_ {A = ℕ} 0 1 = cc in omega arith
+
+-- ---- a refusal leaves the buffer
+
+pub refused-sending : (s : List ℕ) (a : ℕ) (r : Report) (c : ℕ) (t : List ℕ) → Sends s a r (Unsent c) t → t ≡ s
+refused-sending s a r c t (d, l) = go (roomFor s (writeSentence a r)) d l
+  where
+    go : (o : Out (List ℕ)) → Unsent c ≡ sentOf o → t ≡ laidOver o s → t ≡ s
+    go (accepted u) d l = let z : _≡_ {A = ℕ} 0 1 = cc in absurd (omega arith)
+    go (refused e p) d l = l

@@ -1,0 +1,61 @@
+-- Demand 1 for the desk, from the promises of its calls by value and over a lent row of places: a number other than 0 and 9 leaves places, store, buffer and row as they were, 9 leaves all but the row, and 0 is never a refusal. Assumes nothing.
+use mathlib.Core.Path.{_≡_, sym, ap, _∙_}
+use mathlib.Core.List.{List, _++_}
+use Prim.Native.Nat.{ℕ, _<_}
+use lib.ListN.{length, drop, set}
+use Rattle.format.specs.Fmt.{accepted}
+use Rattle.format.specs.Promises.{readRecord}
+use Rattle.packet.specs.Packet.{packets, recordOf}
+use Rattle.packet.specs.declared.reading.Packet.{Packet}
+use Rattle.places.specs.Places.{freed, fourPlaces}
+use Rattle.places.specs.Desk.{numberOf, applied, firstTests, Accepting, accepting, Asking, asking, Dropping}
+use Rattle.places.specs.Promises.{Accepts, Asks, Drops}
+use Rattle.places.specs.declared.Place.{Place}
+use Rattle.places.specs.declared.Reply.{Reply}
+use Rattle.places.specs.declared.Reply.the-variants.{Done, Joined}
+use Rattle.places.specs.laws.Taken.{Takes}
+use Rattle.places.specs.laws.Ends.{accepting-so, asking-so, dropping-so, its, notice, without, whole, accepting-away, accepting-in, asking-away, asking-lists, asking-hands, dropping-away, dropping-frees}
+
+-- ---- over a lent row of places
+
+module _ (ps : List Place) (s m : List ℕ) (a : Reply) (qs : List Place) (t : List ℕ) (e : Accepts ps s m a qs t) where
+  pub refused-accept : (numberOf a ≡ 0 → ⊥) → (qs ≡ ps) × (t ≡ s)
+  refused-accept h =
+      let is = accepting-away (accepting-so ps s m) (λ z. h (ap numberOf (e .0) ∙ z)) in
+      (e .1 ∙ ap (λ (o : Accepting). applied ps (o .change)) is, e .2 ∙ ap (λ (o : Accepting). o .store) is)
+
+  -- 0: the packet is good, the first tests pass, and it is taken in as it should be.
+  pub zero-accept : numberOf a ≡ 0 → (x : Packet × List ℕ) × (readRecord packets recordOf m ≡ accepted x) × (firstTests ps s ≡ 0) × Takes ps s (x .0) (x .1) (accepting ps s m)
+  zero-accept z = accepting-in (accepting-so ps s m) (ap numberOf (sym (e .0)) ∙ z)
+
+module _ (ps : List Place) (s : List ℕ) (n : ℕ) (b w : List ℕ) (a : Reply) (qs : List Place) (c v : List ℕ) (e : Asks ps s n b w a qs c v) where
+  number-is : numberOf (asking ps s n b w .reply) ≡ numberOf a
+  number-is = ap numberOf (sym (e .0))
+
+  pub refused-ask : (numberOf a ≡ 0 → ⊥) → (numberOf a ≡ 9 → ⊥) → (qs ≡ ps) × (c ≡ b) × (v ≡ w)
+  refused-ask h k =
+      let is = asking-away (asking-so ps s n b w) (λ z. h (sym number-is ∙ z)) (λ z. k (sym number-is ∙ z)) in
+      (e .1 ∙ ap (λ (o : Asking). applied ps (o .change)) is, e .2 ∙ ap (λ (o : Asking). o .notice) is, e .3 ∙ ap (λ (o : Asking). o .missing) is)
+
+  -- 9: the missing numbers stand in front of the row, and nothing else changes.
+  pub nine-ask : numberOf a ≡ 9 → (qs ≡ ps) × (c ≡ b) × (v ≡ without ps n ++ drop (length (without ps n)) w)
+  nine-ask z =
+      let is = asking-lists (asking-so ps s n b w) (number-is ∙ z) in
+      (e .1 ∙ ap (λ (o : Asking). applied ps (o .change)) is, e .2 ∙ ap (λ (o : Asking). o .notice) is, e .3 ∙ ap (λ (o : Asking). o .missing) is)
+
+  -- 0: the notice is open and lacks nothing; its bytes stand in front of the buffer, and its place is free.
+  pub zero-ask : numberOf a ≡ 0
+      → (its ps n < fourPlaces) × (length (without ps n) ≡ 0) × (a ≡ Joined (length (whole ps n s)) (notice ps n .language)) × (qs ≡ set ps (its ps n) (freed (notice ps n))) × (c ≡ whole ps n s ++ drop (length (whole ps n s)) b) × (v ≡ w)
+  zero-ask z =
+      let (l, none, room, is) = asking-hands (asking-so ps s n b w) (number-is ∙ z) in
+      (l, none, e .0 ∙ ap (λ (o : Asking). o .reply) is, e .1 ∙ ap (λ (o : Asking). applied ps (o .change)) is, e .2 ∙ ap (λ (o : Asking). o .notice) is, e .3 ∙ ap (λ (o : Asking). o .missing) is)
+
+module _ (ps : List Place) (s : List ℕ) (n : ℕ) (a : Reply) (qs : List Place) (e : Drops ps s n a qs) where
+  pub refused-drop : (numberOf a ≡ 0 → ⊥) → qs ≡ ps
+  refused-drop h = e .1 ∙ ap (λ (o : Dropping). applied ps (o .change)) (dropping-away (dropping-so ps s n) (λ z. h (ap numberOf (e .0) ∙ z)))
+
+  -- 0: its notice was open, and its place is free.
+  pub zero-drop : numberOf a ≡ 0 → (its ps n < fourPlaces) × (a ≡ Done) × (qs ≡ set ps (its ps n) (freed (notice ps n)))
+  zero-drop z =
+      let (l, is) = dropping-frees (dropping-so ps s n) (ap numberOf (sym (e .0)) ∙ z) in
+      (l, e .0 ∙ ap (λ (o : Dropping). o .reply) is, e .1 ∙ ap (λ (o : Dropping). applied ps (o .change)) is)
