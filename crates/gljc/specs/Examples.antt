@@ -1,13 +1,28 @@
--- The good frame of paper 01's case B (crate numbers_to_stand_by) from its record, computed from the definitions.
+-- A frame GLJC, laid down by hand from document 004, 4.1 and 4.2.1: read as the record that the document says, and written back as the same bytes.
 use mathlib.Core.Path.{_≡_, refl}
-use mathlib.Core.List.{[], _∷_}
-use Rattle.bits.specs.Bits.{bit, valueOf, digits, bytesOf}
+use mathlib.Core.List.{List, [], _∷_}
+use Prim.Native.Nat.{ℕ}
+use Rattle.bits.specs.Bits.{bit, valueOf, digits, bitsOf, bytesOf, fieldAt}
 use Rattle.bits.specs.Xor.{xorOf}
-use Rattle.format.specs.Fmt.{accepted, writeField, write}
-use Rattle.format.specs.Message.{writeMessage}
+use Rattle.frame.specs.Frame.{leads}
+use Rattle.format.specs.Fmt.{accepted, readField, read, writeField, write}
+use Rattle.format.specs.Message.{readMessage, writeMessage}
+use Rattle.format.specs.Promises.{readRecord}
 use Rattle.format.specs.Words.{walk}
-use Rattle.gljc.specs.Gljc.{gljc, gljcs, valuesOf}
+use Rattle.gljc.specs.Gljc.{gljc, gljcs, valuesOf, recordOf}
+use Rattle.gljc.specs.declared.reading.Gljc.{Gljc}
 
-written : writeMessage gljcs (valuesOf (record { address = 0; minutes = 0 })) ≡ accepted (0x24 ∷ 0x47 ∷ 0x4C ∷ 0x4A ∷ 0x43 ∷ 0x00 ∷ 0x0C ∷ 0x00 ∷ 0x00 ∷ 0x00 ∷ 0x00 ∷ 0x2A ∷ [])
+-- own address 1,193,046, every 75 minutes
+abbrev asked : Gljc
+asked = record { address = 1_193_046; minutes = 75 }
+
+abbrev frame : List ℕ
+frame = 0x24 ∷ 0x47 ∷ 0x4C ∷ 0x4A ∷ 0x43 ∷ 0x00 ∷ 0x0C ∷ 0x12 ∷ 0x34 ∷ 0x56 ∷ 0x4B ∷ 0x11 ∷ []
+
+frame-read : readRecord gljcs recordOf frame ≡ accepted asked
+unfolding readMessage gljcs gljc leads read readField walk recordOf fieldAt valueOf bit digits bitsOf bytesOf xorOf
+frame-read = refl
+
+frame-written : writeMessage gljcs (valuesOf asked) ≡ accepted frame
 unfolding writeMessage gljcs gljc valuesOf write writeField walk valueOf bit digits bytesOf xorOf
-written = refl
+frame-written = refl

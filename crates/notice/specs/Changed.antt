@@ -1,12 +1,12 @@
 -- The notice with one field changed, by the field's number (paper 01, "Correcting a field"): 0 to 6 in its head, 8 + j the row's number j. Assumes nothing.
 use Prim.Native.Nat.{ℕ, _-_}
-use mathlib.Core.Bool.{Bool, cond}
-use mathlib.Core.List.{List, [], _∷_}
-use lib.Dec.{eqb, leb, ltb}
+use mathlib.Core.Bool.{cond}
+use mathlib.Core.List.{List, [], _∷_, _++_}
+use lib.Dec.{eqb, leb}
 use lib.ListN.{getD, set}
-use Rattle.format.specs.Fmt.{Spot, none, found, spot}
-use Rattle.notice.specs.Notice.{notice}
-use Rattle.notice.specs.Record.{Whole, valuesOf}
+use Rattle.format.specs.Fmt.{Spot, none, found}
+use Rattle.notice_fields.specs.Spots.{areaSpots}
+use Rattle.notice.specs.Record.{Whole}
 
 -- the head's fields in bit order: where each that may be corrected stands, and its width
 abbrev pub spots : List Spot
@@ -21,9 +21,9 @@ spots =
     ∷ none  -- how many areas
     ∷ []
 
--- where field i of a notice stands: in its head by the table, behind it as the layout says
-abbrev pub spotOf : Bool → Whole → ℕ → Spot
-spotOf english x i = cond (ltb i 8) (getD spots i none) (spot (notice english) [] (valuesOf x) i)
+-- Where the field of number i stands, if it may be corrected: one of the head's, or a number of its areas, the first of which is at bit 63. The text stays.
+abbrev pub spotOf : Whole → ℕ → Spot
+spotOf x i = getD (spots ++ areaSpots (x .0 .count) (x .1 .0) 63) i none
 
 -- how many areas there are, and the text, stay
 unfoldable pub changed : ℕ → ℕ → Whole → Whole

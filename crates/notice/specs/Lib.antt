@@ -6,4 +6,5 @@ pub mod Promises
 pub mod WritingPromises
 pub mod Steps
 pub mod Making
+mod Examples
 pub mod laws

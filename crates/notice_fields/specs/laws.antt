@@ -3,6 +3,7 @@ pub mod Kinds
 pub mod Numbered
 pub mod Past
 pub mod Row
+pub mod Spots
 pub mod Standing
 pub mod Walking
 pub mod Subtypes

@@ -1,4 +1,4 @@
--- What paper 01 says of the count of a frame TXHZ, on frames with one nonzero receipt, computed from the definitions.
+-- A frame TXHZ with five receipts, laid down by hand from document 004, 4.4.4: read as the record that the document says, written back as the same bytes, corrected; and what paper 01 says of the count, on frames with one receipt.
 use mathlib.Core.Path.{_≡_, refl}
 use mathlib.Core.List.{List, [], _∷_}
 use Prim.Native.Nat.{ℕ}
@@ -7,8 +7,42 @@ use Rattle.bits.specs.Xor.{xorOf}
 use Rattle.frame.specs.Frame.{leads}
 use Rattle.format.specs.Fmt.{accepted, refused, readField, read, writeField, write, spot}
 use Rattle.format.specs.Message.{readMessage, writeMessage, correctMessage}
+use Rattle.format.specs.Promises.{readRecord}
 use Rattle.format.specs.Words.{walk}
-use Rattle.txhz.specs.Txhz.{txhz, txhzs}
+use Rattle.txhz.specs.Txhz.{txhz, txhzs, valuesOf, recordOf}
+use Rattle.txhz.specs.declared.reading.Receipt.{Receipt}
+use Rattle.txhz.specs.declared.reading.Txhz.{Txhz}
+
+-- sent at one time, received at another
+abbrev receipt : (hour minute hour′ minute′ : ℕ) → Receipt
+receipt hour minute hour′ minute′ = record { «sent_hour» = hour; «sent_minute» = minute; «receipt_hour» = hour′; «receipt_minute» = minute′ }
+
+-- own address 1,193,046, receiver 2,011,733, five receipts
+abbrev five : Txhz
+five = record { address = 1_193_046; receiver = 2_011_733; count = 5; first = receipt 21 43 22 5; second = receipt 7 58 9 16; third = receipt 13 31 14 27; fourth = receipt 3 12 4 50; fifth = receipt 18 39 20 1 }
+
+abbrev frame : List ℕ
+frame =
+    0x24 ∷ 0x54 ∷ 0x58 ∷ 0x48 ∷ 0x5A ∷ 0x00 ∷ 0x23 ∷ 0x12 ∷ 0x34 ∷ 0x56 ∷ 0x1E ∷ 0xB2 ∷ 0x55 ∷ 0x05
+    ∷ 0x15 ∷ 0x2B ∷ 0x16 ∷ 0x05 ∷ 0x07 ∷ 0x3A ∷ 0x09 ∷ 0x10 ∷ 0x0D ∷ 0x1F ∷ 0x0E ∷ 0x1B ∷ 0x03 ∷ 0x0C ∷ 0x04 ∷ 0x32 ∷ 0x12 ∷ 0x27 ∷ 0x14 ∷ 0x01 ∷ 0x82 ∷ []
+
+five-read : readRecord txhzs recordOf frame ≡ accepted five
+unfolding readMessage txhzs txhz leads read readField walk recordOf fieldAt valueOf bit digits bitsOf bytesOf xorOf
+five-read = refl
+
+five-written : writeMessage txhzs (valuesOf five) ≡ accepted frame
+unfolding writeMessage txhzs txhz valuesOf write writeField walk valueOf bit digits bytesOf xorOf
+five-written = refl
+
+-- the hour of the fourth receipt, field 20, is corrected to 11, and with it the checksum
+fourth-corrected : correctMessage txhzs frame 20 11
+    ≡ accepted (
+    0x24 ∷ 0x54 ∷ 0x58 ∷ 0x48 ∷ 0x5A ∷ 0x00 ∷ 0x23 ∷ 0x12 ∷ 0x34 ∷ 0x56 ∷ 0x1E ∷ 0xB2 ∷ 0x55 ∷ 0x05
+    ∷ 0x15 ∷ 0x2B ∷ 0x16 ∷ 0x05 ∷ 0x07 ∷ 0x3A ∷ 0x09 ∷ 0x10 ∷ 0x0D ∷ 0x1F ∷ 0x0E ∷ 0x1B ∷ 0x03 ∷ 0x0C ∷ 0x0B ∷ 0x32 ∷ 0x12 ∷ 0x27 ∷ 0x14 ∷ 0x01 ∷ 0x8D ∷ [])
+unfolding correctMessage readMessage writeMessage txhzs txhz leads read readField write writeField spot walk fieldAt valueOf bit digits bitsOf bytesOf xorOf
+fourth-corrected = refl
+
+-- ---- the count
 
 -- from 1 to 2, with the receipt 12:30, 13:00, the others zero, and a last byte
 abbrev message : ℕ → ℕ → List ℕ

@@ -1,14 +1,16 @@
--- The frame of paper 01's case A (crate numbers_to_stand_by) with all of its fields and its content, computed from the definitions.
+-- Two frames TXSQ: that of paper 01's case A (crate numbers_to_stand_by) with all of its fields and its content; and one laid down by hand from document 004, 4.1 and 4.2.3, read, written and corrected.
 use mathlib.Core.Path.{_≡_, refl}
 use mathlib.Core.List.{List, [], _∷_}
 use Prim.Native.Nat.{ℕ}
 use Rattle.bits.specs.Bits.{bit, valueOf, digits, bitsOf, bytesOf, fieldAt}
 use Rattle.bits.specs.Xor.{xorOf}
-use Rattle.frame.specs.Frame.{declared}
-use Rattle.format.specs.Fmt.{accepted, writeField, write}
-use Rattle.format.specs.Message.{writeMessage}
+use Rattle.frame.specs.Frame.{declared, leads, contentOf}
+use Rattle.format.specs.Fmt.{accepted, readField, read, writeField, write, spot}
+use Rattle.format.specs.Message.{readMessage, writeMessage, correctMessage}
+use Rattle.format.specs.Promises.{readRecord}
 use Rattle.format.specs.Words.{walk}
-use Rattle.txsq.specs.Txsq.{txsq, txsqs, valuesOf}
+use Rattle.txsq.specs.Txsq.{txsq, txsqs, valuesOf, recordOf}
+use Rattle.txsq.specs.declared.reading.Txsq.{Txsq}
 
 -- `24 54 58 53 51 00 14 02 00 BA 46 02 00 BA 00 10 00 A4 31 FD`
 abbrev message : List ℕ
@@ -18,3 +20,23 @@ message = 0x24 ∷ 0x54 ∷ 0x58 ∷ 0x53 ∷ 0x51 ∷ 0x00 ∷ 0x14 ∷ 0x02 �
 written : writeMessage txsqs (valuesOf (record { address = 131_258; category = 1; mode = 1; password = 0; receiver = 131_258; size = 16; answer = 0 }, 0xA4 ∷ 0x31 ∷ [])) ≡ accepted message
 unfolding writeMessage txsqs txsq declared valuesOf write writeField walk fieldAt valueOf bit digits bitsOf bytesOf xorOf
 written = refl
+
+-- own address 1,193,046; class 010, key 0, category 01, text (0), with a password (1); receiver 2,011,733; 24 bits; answer 5A; content B5 CA DB
+abbrev asked : Txsq
+asked = record { address = 1_193_046; category = 1; mode = 0; password = 1; receiver = 2_011_733; size = 24; answer = 0x5A }
+
+abbrev frame : List ℕ
+frame = 0x24 ∷ 0x54 ∷ 0x58 ∷ 0x53 ∷ 0x51 ∷ 0x00 ∷ 0x15 ∷ 0x12 ∷ 0x34 ∷ 0x56 ∷ 0x45 ∷ 0x1E ∷ 0xB2 ∷ 0x55 ∷ 0x00 ∷ 0x18 ∷ 0x5A ∷ 0xB5 ∷ 0xCA ∷ 0xDB ∷ 0x15 ∷ []
+
+frame-read : readRecord txsqs recordOf frame ≡ accepted (asked, 0xB5 ∷ 0xCA ∷ 0xDB ∷ [])
+unfolding readMessage txsqs txsq leads read readField walk recordOf contentOf fieldAt valueOf bit digits bitsOf bytesOf xorOf
+frame-read = refl
+
+frame-written : writeMessage txsqs (valuesOf (asked, 0xB5 ∷ 0xCA ∷ 0xDB ∷ [])) ≡ accepted frame
+unfolding writeMessage txsqs txsq declared valuesOf write writeField walk fieldAt valueOf bit digits bitsOf bytesOf xorOf
+frame-written = refl
+
+-- the receiver, field 8, is corrected to 990,765, and with it the checksum
+receiver-corrected : correctMessage txsqs frame 8 990_765 ≡ accepted (0x24 ∷ 0x54 ∷ 0x58 ∷ 0x53 ∷ 0x51 ∷ 0x00 ∷ 0x15 ∷ 0x12 ∷ 0x34 ∷ 0x56 ∷ 0x45 ∷ 0x0F ∷ 0x1E ∷ 0x2D ∷ 0x00 ∷ 0x18 ∷ 0x5A ∷ 0xB5 ∷ 0xCA ∷ 0xDB ∷ 0xD0 ∷ [])
+unfolding correctMessage readMessage writeMessage txsqs txsq leads read readField write writeField spot walk fieldAt valueOf bit digits bitsOf bytesOf xorOf
+receiver-corrected = refl

@@ -1,23 +1,39 @@
--- Two frames TXXX, computed from the definitions: 12 bits with their fill, and the same with a fill bit set.
+-- A frame TXXX, laid down by hand from document 004, 4.3 and 4.4.3: read as the record and the content that the document says, written back as the same bytes, corrected; and the same with a fill bit set.
 use mathlib.Core.Path.{_≡_, refl}
-use mathlib.Core.List.{[], _∷_}
+use mathlib.Core.List.{List, [], _∷_}
+use Prim.Native.Nat.{ℕ}
 use Rattle.bits.specs.Bits.{bit, valueOf, digits, bitsOf, bytesOf, fieldAt}
 use Rattle.bits.specs.Xor.{xorOf}
-use Rattle.frame.specs.Frame.{declared}
-use Rattle.format.specs.Fmt.{accepted, refused, writeField, write}
-use Rattle.format.specs.Message.{writeMessage}
+use Rattle.frame.specs.Frame.{declared, leads, contentOf}
+use Rattle.format.specs.Fmt.{accepted, refused, readField, read, writeField, write, spot}
+use Rattle.format.specs.Message.{readMessage, writeMessage, correctMessage}
+use Rattle.format.specs.Promises.{readRecord}
 use Rattle.format.specs.Words.{walk}
-use Rattle.txxx.specs.Txxx.{txxx, txxxs, valuesOf}
+use Rattle.txxx.specs.Txxx.{txxx, txxxs, valuesOf, recordOf}
 use Rattle.txxx.specs.declared.reading.Txxx.{Txxx}
 
+-- own address 1,193,046; class 01 1 0 1 1 00 (a code, found by a query, with a key); sender 2,011,733; 19:34; 21 bits; CRC mark 1, which is wrong
 abbrev sent : Txxx
-sent = record { address = 131_258; class = 0x60; sender = 7; hour = 23; minute = 59; size = 12; mark = 0xFF }
+sent = record { address = 1_193_046; class = 0x6C; sender = 2_011_733; hour = 19; minute = 34; size = 21; mark = 1 }
 
-twelve-bits : writeMessage txxxs (valuesOf (sent, 0xA4 ∷ 0x30 ∷ [])) ≡ accepted (0x24 ∷ 0x54 ∷ 0x58 ∷ 0x58 ∷ 0x58 ∷ 0x00 ∷ 0x16 ∷ 0x02 ∷ 0x00 ∷ 0xBA ∷ 0x60 ∷ 0x00 ∷ 0x00 ∷ 0x07 ∷ 0x17 ∷ 0x3B ∷ 0x00 ∷ 0x0C ∷ 0xA4 ∷ 0x30 ∷ 0xFF ∷ 0xAA ∷ [])
+-- its content is B5 CA D8, of which 21 bits count
+abbrev message : List ℕ
+message = 0x24 ∷ 0x54 ∷ 0x58 ∷ 0x58 ∷ 0x58 ∷ 0x00 ∷ 0x17 ∷ 0x12 ∷ 0x34 ∷ 0x56 ∷ 0x6C ∷ 0x1E ∷ 0xB2 ∷ 0x55 ∷ 0x13 ∷ 0x22 ∷ 0x00 ∷ 0x15 ∷ 0xB5 ∷ 0xCA ∷ 0xD8 ∷ 0x01 ∷ 0x58 ∷ []
+
+message-read : readRecord txxxs recordOf message ≡ accepted (sent, 0xB5 ∷ 0xCA ∷ 0xD8 ∷ [])
+unfolding readMessage txxxs txxx leads read readField walk recordOf contentOf fieldAt valueOf bit digits bitsOf bytesOf xorOf
+message-read = refl
+
+message-written : writeMessage txxxs (valuesOf (sent, 0xB5 ∷ 0xCA ∷ 0xD8 ∷ [])) ≡ accepted message
 unfolding writeMessage txxxs txxx declared valuesOf write writeField walk fieldAt valueOf bit digits bitsOf bytesOf xorOf
-twelve-bits = refl
+message-written = refl
 
--- at the fill, bit 156
-fill-bit : writeMessage txxxs (valuesOf (sent, 0xA4 ∷ 0x31 ∷ [])) ≡ refused 5 156
+-- the CRC mark, field 11, stands behind the content; it is corrected to 0, which is right, and with it the checksum
+mark-corrected : correctMessage txxxs message 11 0 ≡ accepted (0x24 ∷ 0x54 ∷ 0x58 ∷ 0x58 ∷ 0x58 ∷ 0x00 ∷ 0x17 ∷ 0x12 ∷ 0x34 ∷ 0x56 ∷ 0x6C ∷ 0x1E ∷ 0xB2 ∷ 0x55 ∷ 0x13 ∷ 0x22 ∷ 0x00 ∷ 0x15 ∷ 0xB5 ∷ 0xCA ∷ 0xD8 ∷ 0x00 ∷ 0x59 ∷ [])
+unfolding correctMessage readMessage writeMessage txxxs txxx leads read readField write writeField spot walk fieldAt valueOf bit digits bitsOf bytesOf xorOf
+mark-corrected = refl
+
+-- at the fill, three bits from 165 on
+fill-bit : writeMessage txxxs (valuesOf (sent, 0xB5 ∷ 0xCA ∷ 0xD9 ∷ [])) ≡ refused 5 165
 unfolding writeMessage txxxs txxx declared valuesOf write writeField walk fieldAt valueOf bit digits bitsOf
 fill-bit = refl

@@ -4,18 +4,20 @@ use mathlib.Core.Bool.{Bool, true, false, cond}
 use mathlib.Core.List.{List, [], _∷_, _++_}
 use Prim.Native.Nat.{ℕ, zero, suc, _+_, _-_, _<_}
 use native.Mathlib.Omega.{arith}
-use borrow.Author.Tests.{leb-true, leb-false, ltb-true}
-use lib.Dec.{eqb, leb, ltb, lit<}
+use borrow.Author.Tests.{leb-true, leb-false}
+use lib.Dec.{eqb, leb, lit<}
 use lib.ListN.{length, drop, getD, set, length-append, length-drop, length-set, List·getD-append}
 use lib.Seq.{set-append-left, take-at}
 use Rattle.bits.specs.Bits.{Bytes}
-use Rattle.format.specs.Fmt.{end, none, found, spot}
+use Rattle.format.specs.Fmt.{end, Spot, none, found, spot}
 use Rattle.format.specs.laws.Correct.{none-clash}
 use Rattle.format.specs.laws.Past.{Past, past-filled, past-found, filled-set}
 use Rattle.format.specs.laws.Spots.{spotsAlong, spot-along, eachAt, set-each, each-past, each-from, kept-entry}
 use Rattle.notice_fields.specs.Row.{areasLong, areasTold}
+use Rattle.notice_fields.specs.Spots.{areaSpots}
 use Rattle.notice_fields.specs.laws.Past.{areas-past, areas-filled}
 use Rattle.notice_fields.specs.laws.Row.{first-take, told-exact, exact-told}
+use Rattle.notice_fields.specs.laws.Spots.{areas-spots}
 use Rattle.notice.specs.Changed.{spots, spotOf, changed}
 use Rattle.notice.specs.Notice.{text, rest, notice}
 use Rattle.notice.specs.Record.{Whole, headed, texted, valuesOf}
@@ -27,20 +29,28 @@ Lent x = (areasLong (x .0 .count) (x .1 .0) ≡ length (x .1 .0)) × Bytes (x .1
 
 -- ---- where fields stand
 
--- the head's, the same in every notice
-pub head-spotted : (english : Bool) (x : Whole) (i : ℕ) → i < 8 → spot (notice english) [] (valuesOf x) i ≡ getD spots i none
+-- nothing that may be corrected stands behind the areas
+unplaced : (l : List Spot) (i : ℕ) → getD (l ++ (none ∷ none ∷ [])) i none ≡ getD l i none
+unplaced [] zero = refl
+unplaced [] (suc zero) = refl
+unplaced [] (suc (suc i)) = refl
+unplaced (x ∷ l) zero = refl
+unplaced (x ∷ l) (suc i) = unplaced l i
+
+-- Which fields of a notice may be corrected, and where they stand: those of the paper's table, whatever the notice.
+pub spotted : (english : Bool) (x : Whole) (i : ℕ) → spot (notice english) [] (valuesOf x) i ≡ spotOf x i
 unfolding notice valuesOf spotsAlong
-head-spotted english x i l =
+spotted english x i =
     let r = x .0 in
     let before = r .count ∷ r .expiry ∷ r .subtype ∷ r .kind ∷ r .year ∷ r .serial ∷ r .station ∷ r .source ∷ [] in
-    spot-along (notice english) (valuesOf x) i ∙ List·getD-append spots (spotsAlong (rest english (r .count)) before (areasTold (r .count) (x .1 .0) ++ texted (x .1 .1)) 63) none i l
+    let places = areaSpots (r .count) (x .1 .0) 63 in
+    spot-along (notice english) (valuesOf x) i
+    ∙ ap (λ l. getD (spots ++ l) i none) (areas-spots (r .count) (x .1 .0) (text english end) before (texted (x .1 .1)) 63 (none ∷ none ∷ []) (λ h at. refl))
+    ∙ unplaced (spots ++ places) i
 
-pub spotted : (english : Bool) (x : Whole) (i : ℕ) → spot (notice english) [] (valuesOf x) i ≡ spotOf english x i
-spotted english x i = go (ltb i 8) refl
-  where
-    go : (b : Bool) → ltb i 8 ≡ b → spot (notice english) [] (valuesOf x) i ≡ cond b (getD spots i none) (spot (notice english) [] (valuesOf x) i)
-    go true e = head-spotted english x i (ltb-true i 8 e)
-    go false e = refl
+-- the head's, the same in every notice
+pub head-spotted : (english : Bool) (x : Whole) (i : ℕ) → i < 8 → spot (notice english) [] (valuesOf x) i ≡ getD spots i none
+head-spotted english x i l = spotted english x i ∙ List·getD-append spots (areaSpots (x .0 .count) (x .1 .0) 63) none i l
 
 -- a text may not be corrected
 text-kept : (english : Bool) (t h : List ℕ) (k : ℕ) → spot (text english end) h (texted t) k ≡ none

@@ -143,7 +143,7 @@ module _ (english : Bool) (s row text : List ℕ) (a : Told) (row′ text′ : L
 pub expiry-leaves-count : (english : Bool) (s : List ℕ) (v : ℕ) (t : List ℕ) → Bytes s → Corrects (notices english) s 6 v 0 t → (fieldAt t 59 4 ≡ fieldAt s 59 4) × Differs false s 38 21 v t
 unfolding notices
 expiry-leaves-count english s v t fine e =
-    let c = accepted-correction (family english) (spotOf english) (spotted english) s fine 6 v 0 t e refl in
+    let c = accepted-correction (family english) spotOf (spotted english) s fine 6 v 0 t e refl in
     let offset : c .offset ≡ 38 = cc in
     let width : c .width ≡ 21 = cc in
     let alone = subst (λ p. Differs false s p 21 v t) offset (subst (λ w. Differs false s (c .offset) w v t) width (c .alone)) in

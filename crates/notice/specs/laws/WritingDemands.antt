@@ -94,16 +94,16 @@ same-code (refused c p) = refl
 -- Every correction of a notice, by any number and any value. Its own refusal is c; where that is 0, a, row′ and text′ are what reading it gave.
 pub corrected : (english : Bool) (s row text : List ℕ) (a : Told) (row′ text′ : List ℕ) → Bytes s → (c : ℕ) → c ≡ codeOf (readMessage (notices english) s) → (c ≡ 0 → Reads english s row text (Good a) row′ text′)
     → (i v code : ℕ) (t : List ℕ) → Corrects (notices english) s i v code t
-    → SettledBy (λ x u d y. let z = changed i v x in NoticeWrites english u (z .0) (z .1 .0) (z .1 .1) d y) (λ x. spotOf english x i) false s (check (fault c) 0 (accepted (wholeOf a row′ text′))) v code t
+    → SettledBy (λ x u d y. let z = changed i v x in NoticeWrites english u (z .0) (z .1 .0) (z .1 .1) d y) (λ x. spotOf x i) false s (check (fault c) 0 (accepted (wholeOf a row′ text′))) v code t
 unfolding notices
 corrected english s row text a row′ text′ fine c own reads i v code t corrects =
     let q = readRecord (notices english) recordOf s in
     let o = check (fault c) 0 (accepted (wholeOf a row′ text′)) in
     let told : o ≡ plain q = code-plain q c (wholeOf a row′ text′) (own ∙ same-code (readMessage (notices english) s)) (never-read (family english) s) (λ z. good english s row text a row′ text′ (reads z)) in
-    settled-with (λ x. spotOf english x i) false s v (λ x u d y. Writes (notices english) u d y (valuesOf (changed i v x))) _ o code t
+    settled-with (λ x. spotOf x i) false s v (λ x u d y. Writes (notices english) u d y (valuesOf (changed i v x))) _ o code t
     (λ x p w is there u d y wrote.
     let lent = read-values (family english) s x fine (plain-good q (sym told ∙ is)) .1 in
     let z = changed i v x in
     let (exact, fine′) = changes english x i v p w lent (spotted english x i ∙ there) .1 in
     enough-writes english u (z .0) (z .1 .0) (z .1 .1) d y (le-leb (areasLong (z .0 .count) (z .1 .0)) (length (z .1 .0)) (omega (arith, exact))) wrote)
-    (settled (family english) (spotOf english) (spotted english) s fine i v code t corrects o told)
+    (settled (family english) spotOf (spotted english) s fine i v code t corrects o told)
