@@ -21,8 +21,8 @@ abbrev pub totalBehind : ℕ → ℕ → ℕ
 totalBehind mark total = cond (leb mark 1) total 0
 
 -- the place that 67 bytes say
-abbrev pub spotOf : List ℕ → Place
-spotOf xs = record {
+abbrev pub placeOf : List ℕ → Place
+placeOf xs = record {
   «open» = not (eqb (getD xs 0 0) 0);
   number = getD xs 1 0;
   language = getD xs 2 0;
@@ -32,7 +32,7 @@ spotOf xs = record {
 
 -- place i of the bytes bs
 abbrev pub placeIn : List ℕ → ℕ → Place
-placeIn bs i = spotOf (take placeBytes (drop (begins i) bs))
+placeIn bs i = placeOf (take placeBytes (drop (begins i) bs))
 
 -- the row of places; bytes too few for four are a row too short
 abbrev pub rowIn : List ℕ → List Place

@@ -13,7 +13,7 @@ use Rattle.places.specs.Desk.{Change, applied, laid, accepting, asking, droppin
 use Rattle.places.specs.Places.{fourPlaces}
 use Rattle.places.specs.laws.Laid.{length-laid, laid-there, laid-elsewhere}
 use Rattle.places.specs.declared.Place.{Place}
-use Rattle.desk_bytes.specs.Bytes.{placeBytes, begins, totalBehind, spotOf, placeIn, rowIn, bytesOf, changedBytes}
+use Rattle.desk_bytes.specs.Bytes.{placeBytes, begins, totalBehind, placeOf, placeIn, rowIn, bytesOf, changedBytes}
 use Rattle.desk_bytes.specs.laws.Fits.{Fits, none, one, accepting-fits, asking-fits, dropping-fits}
 use Rattle.desk_bytes.specs.laws.Changes.{fourIn, row-long, sized}
 use Rattle.places.specs.declared.Reply.{Reply}
@@ -21,7 +21,7 @@ use Rattle.places.specs.declared.Reply.{Reply}
 -- ---- one place
 
 -- a place with a size for each packet is what its bytes say
-same-place : (p : Place) → spotOf (bytesOf p) ≡ p
+same-place : (p : Place) → placeOf (bytesOf p) ≡ p
 same-place p = λ i. record { «open» = mark (p .«open») i; number = p .number; language = p .language; total = behind (p .«open») (p .total) i; sizes = p .sizes }
   where
     mark : (x : Bool) → not (eqb (cond x 1 0) 0) ≡ x
@@ -43,10 +43,10 @@ module _ (bs : List ℕ) (long : begins fourPlaces ≤ length bs) (i : ℕ) (low
   fits = omega (arith, whole, low, long)
 
   there : placeIn left i ≡ p
-  there = ap (λ n. spotOf (take n (drop (begins i) left))) (sym whole) ∙ ap spotOf (laid-there bs (begins i) (bytesOf p) fits) ∙ same-place p
+  there = ap (λ n. placeOf (take n (drop (begins i) left))) (sym whole) ∙ ap placeOf (laid-there bs (begins i) (bytesOf p) fits) ∙ same-place p
 
   elsewhere : (j : ℕ) → (begins j + placeBytes ≤ begins i) ⊎ (begins i + length (bytesOf p) ≤ begins j) → placeIn left j ≡ placeIn bs j
-  elsewhere j a = ap spotOf (laid-elsewhere bs (begins i) (bytesOf p) fits (begins j) placeBytes a)
+  elsewhere j a = ap placeOf (laid-elsewhere bs (begins i) (bytesOf p) fits (begins j) placeBytes a)
 
   below : (j : ℕ) → j < i → placeIn left j ≡ placeIn bs j
   below j l = elsewhere j (inl (omega (arith, l)))
