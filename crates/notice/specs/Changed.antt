@@ -22,8 +22,8 @@ spots =
     ∷ []
 
 -- Where the field of number i stands, if it may be corrected: one of the head's, or a number of its areas, the first of which is at bit 63. The text stays.
-abbrev pub placeOf : Whole → ℕ → Spot
-placeOf x i = getD (spots ++ areaSpots (x .0 .count) (x .1 .0) 63) i none
+abbrev pub spotOf : Whole → ℕ → Spot
+spotOf x i = getD (spots ++ areaSpots (x .0 .count) (x .1 .0) 63) i none
 
 -- how many areas there are, and the text, stay
 unfoldable pub changed : ℕ → ℕ → Whole → Whole

@@ -18,7 +18,7 @@ use Rattle.notice_fields.specs.Spots.{areaSpots}
 use Rattle.notice_fields.specs.laws.Past.{areas-past, areas-filled}
 use Rattle.notice_fields.specs.laws.Row.{first-take, told-exact, exact-told}
 use Rattle.notice_fields.specs.laws.Spots.{areas-spots}
-use Rattle.notice.specs.Changed.{spots, placeOf, changed}
+use Rattle.notice.specs.Changed.{spots, spotOf, changed}
 use Rattle.notice.specs.Notice.{text, rest, notice}
 use Rattle.notice.specs.Record.{Whole, headed, texted, valuesOf}
 use Rattle.notice.specs.laws.Listed.{two}
@@ -38,7 +38,7 @@ unplaced (x ∷ l) zero = refl
 unplaced (x ∷ l) (suc i) = unplaced l i
 
 -- Which fields of a notice may be corrected, and where they stand: those of the paper's table, whatever the notice.
-pub spotted : (english : Bool) (x : Whole) (i : ℕ) → spot (notice english) [] (valuesOf x) i ≡ placeOf x i
+pub spotted : (english : Bool) (x : Whole) (i : ℕ) → spot (notice english) [] (valuesOf x) i ≡ spotOf x i
 unfolding notice valuesOf spotsAlong
 spotted english x i =
     let r = x .0 in
