@@ -15,7 +15,7 @@ use Rattle.distress.specs.Changed.{changed}
 use Rattle.distress.specs.declared.reading.Report.{Report}
 use Rattle.notice.specs.Notice.{notices}
 use Rattle.notice.specs.Record.{Whole, headed, recordOf as noticeOf, valuesOf as noticeValues}
-use Rattle.packet.specs.Packet.{packets, valuesOf as packetValues}
+use Rattle.packet.specs.Packet.{packets, valuesOf as packetValues, recordOf as packetRecord}
 use Rattle.places.specs.Desk.{numberOf}
 use Rattle.places.specs.declared.Reply.{Reply}
 use Rattle.places.specs.declared.Reply.the-variants.{Done, Again, Joined, Missing, Refused}
@@ -113,6 +113,10 @@ packetOf total own = writeMessage packets (packetValues (record { language = 0; 
 
 abbrev pub packetHead : List ℕ
 packetHead = told (take 4) (packetOf 1 0)
+
+-- the paper's head before that byte, read: the language, the message's number, how many packets, which of them, the content
+abbrev pub packetRead : List ℕ
+packetRead = told (λ x. x .0 .language ∷ x .0 .number ∷ x .0 .total ∷ x .0 .own ∷ x .1) (readRecord packets packetRecord (0xE1 ∷ 0x20 ∷ 0x70 ∷ 0x40 ∷ 0x41 ∷ []))
 
 -- packets 2 and 0 of three come to an empty desk
 abbrev pub held : List Call

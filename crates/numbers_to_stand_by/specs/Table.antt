@@ -1,10 +1,11 @@
--- Paper 01, "Numbers to stand by", as one table: of each line what the definitions answer and what the paper says, and one test over all of it. Assumes nothing.
-use Prim.Native.Nat.{ℕ}
-use mathlib.Core.Bool.{Bool, true, false, _&&_}
+-- Paper 01, "Numbers to stand by", as one table: of each line what the definitions answer and what the paper says; one test over all of it, and how many rows each letter has. Assumes nothing.
+use Prim.Native.Nat.{ℕ, suc}
+use mathlib.Core.Bool.{Bool, true, false, _&&_, cond}
 use mathlib.Core.List.{List, [], _∷_}
+use lib.Dec.{eqb}
 use Rattle.outline.specs.Angles.{northing, easting}
 use Rattle.places.specs.Desk.{alike}
-use Rattle.numbers_to_stand_by.specs.Cases.{plus, minus, signs, sender, checked, position, longitudeRead, longitudeWritten, noticeBytes, noticeWritten, noticeRead, yearCorrected, packetHead, heldReplies, missing, slots, south, west, outlined}
+use Rattle.numbers_to_stand_by.specs.Cases.{plus, minus, signs, sender, checked, position, longitudeRead, longitudeWritten, noticeBytes, noticeWritten, noticeRead, yearCorrected, packetHead, packetRead, heldReplies, missing, slots, south, west, outlined}
 
 -- a line's letter
 pub data Letter : Type 0 where
@@ -61,6 +62,7 @@ table =
     ∷ says H (noticeWritten false 25) (0 ∷ noticeBytes 0x65)
     -- packet head, Chinese, number 7, 1 of 1: `E1 20 70 40`
     ∷ says I packetHead (0 ∷ 0xE1 ∷ 0x20 ∷ 0x70 ∷ 0x40 ∷ [])
+    ∷ says I packetRead (0 ∷ 0 ∷ 7 ∷ 1 ∷ 0 ∷ 0x41 ∷ [])
     -- total 3, packets 2 and 0 held: missing 1
     ∷ says J heldReplies (0 ∷ 0 ∷ [])
     ∷ says J missing (9 ∷ 1 ∷ 1 ∷ [])
@@ -79,3 +81,28 @@ table =
 unfoldable pub standing : List Row → Bool
 standing [] = true
 standing (r ∷ rs) = alike (r .answer) (r .paper) && standing rs
+
+-- a letter's place in the alphabet
+unfoldable pub rank : Letter → ℕ
+rank A = 1
+rank B = 2
+rank C = 3
+rank D = 4
+rank E = 5
+rank F = 6
+rank G = 7
+rank H = 8
+rank I = 9
+rank J = 10
+rank K = 11
+rank L = 12
+
+-- one row more of a letter, before those that were counted
+unfoldable pub oneMore : Letter → List (Letter × ℕ) → List (Letter × ℕ)
+oneMore l [] = (l, 1) ∷ []
+oneMore l (t ∷ ts) = cond (eqb (rank l) (rank (t .0))) ((l, suc (t .1)) ∷ ts) ((l, 1) ∷ t ∷ ts)
+
+-- the letters in the order of their rows, each with how many it has
+unfoldable pub tally : List Row → List (Letter × ℕ)
+tally [] = []
+tally (r ∷ rs) = oneMore (r .letter) (tally rs)

@@ -1,4 +1,4 @@
--- A to L: one test that is computed over the whole table, and one law that turns it into the equation of each row. Assumes nothing.
+-- A to L: every letter has its rows; one test that is computed over the whole table, and one law that turns it into the equation of each row. Assumes nothing.
 use Prim.Native.Nat.{ℕ, zero, suc, _<_}
 use native.Mathlib.Nat.{le-of-suc-le-suc, not-suc-le-zero}
 use mathlib.Core.Bool.{true, and-eq-true-iff}
@@ -30,7 +30,12 @@ use Rattle.desk_runs.specs.Runs.{run, log}
 use Rattle.ais.specs.Slots.{firstOf, slotsIn, slotsFor}
 use Rattle.outline.specs.Outline.{pointsOf, outlineOf}
 use Rattle.numbers_to_stand_by.specs.Cases.{signs, replies}
-use Rattle.numbers_to_stand_by.specs.Table.{A, Row, says, table, standing}
+use Rattle.numbers_to_stand_by.specs.Table.{A, B, C, D, E, F, G, H, I, J, K, L, Row, says, table, standing, rank, oneMore, tally}
+
+-- no letter is left out, and none of its rows
+pub all-letters : tally table ≡ (A, 1) ∷ (B, 2) ∷ (C, 1) ∷ (D, 2) ∷ (E, 2) ∷ (F, 2) ∷ (G, 4) ∷ (H, 4) ∷ (I, 2) ∷ (J, 2) ∷ (K, 4) ∷ (L, 3) ∷ []
+unfolding tally oneMore rank
+all-letters = refl
 
 pub all-stand : standing table ≡ true
 unfolding standing signs replies alike readMessage writeMessage correctMessage read readField write writeField sized spot walk wide orZero valueOf bit digits bitsOf bytesOf fieldAt putAt xorOf intOf spellOf inLanguage english chinese leads txsq txsqs txsqOf gljc gljcs report reports reportOf reportValues changed subtypes subtype points areas first areasLong notice notices headOf textOf noticeOf noticeValues packet packets packetOf packetValues everyBelow firstFrom goodPlace allApart goodPlaces openAt freeAt firstTests joins received accepting missingBelow answers asking run log firstOf slotsIn slotsFor pointsOf outlineOf
