@@ -16,6 +16,8 @@ use packet::PART;
 
 pub mod four;
 
+// Rows of places are lent across the boundary to C and Rust too.
+#[repr(C)]
 pub struct Place {
     pub open: bool,
     // The message number of its notice.
