@@ -20,8 +20,8 @@ pub extern "C" fn trial_desk_accept(
 ) -> u8
     ensures { λ code. ⌜ AcceptsRow (now (said .entry)) (now (places .entry)) (now (store .entry)) (now (packet .entry)) code (now (said .exit)) (now (places .exit)) (now (store .exit)) ⌝ }
 {
-    let reply = desk::accept(places, store, packet);
-    tell(said, reply)
+    let accepted = desk::accept(places, store, packet);
+    tell(said, accepted)
 }
 
 // A notice is asked for.
@@ -36,8 +36,8 @@ pub extern "C" fn trial_desk_ask(
 ) -> u8
     ensures { λ code. ⌜ AsksRow (now (said .entry)) (now (places .entry)) (now (store .entry)) number (now (notice .entry)) (now (missing .entry)) code (now (said .exit)) (now (places .exit)) (now (notice .exit)) (now (missing .exit)) ⌝ }
 {
-    let reply = desk::ask(places, store, number, notice, missing);
-    tell(said, reply)
+    let asked = desk::ask(places, store, number, notice, missing);
+    tell(said, asked)
 }
 
 // A notice is dropped.
@@ -50,8 +50,8 @@ pub extern "C" fn trial_desk_drop(
 ) -> u8
     ensures { λ code. ⌜ DropsRow (now (said .entry)) (now (places .entry)) (now (store .entry)) number code (now (said .exit)) (now (places .exit)) ⌝ }
 {
-    let reply = desk::drop(places, store, number);
-    tell(said, reply)
+    let dropped = desk::drop(places, store, number);
+    tell(said, dropped)
 }
 
 // The reply's number. What else it says goes to the numbers, where there are three.

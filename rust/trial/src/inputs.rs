@@ -101,9 +101,9 @@ const FAR: usize = 500;
 fn far(random: &mut Random, meant: usize) -> usize {
     match random.below(4) {
         // As many bits but for 2^16 and more, which are 8,192 bytes.
-        0 => meant + (1 + random.below(8) << 13),
+        0 => meant + ((1 + random.below(8)) << 13),
         // As many bytes but for 2^16 and more.
-        1 => meant + (1 + random.below(2) << 16),
+        1 => meant + ((1 + random.below(2)) << 16),
         2 => (1 << 13) - 2 + random.below(4),
         _ => (1 << 16) - LONGEST_TAIL + random.below(2 * LONGEST_TAIL),
     }
