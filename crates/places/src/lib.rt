@@ -16,7 +16,7 @@ use packet::PART;
 
 pub mod four;
 
-// Rows of places are lent across the boundary to C and Rust too.
+// Laid out as in C, since rust/trial lends rows of places (`c_trial`).
 #[repr(C)]
 pub struct Place {
     pub open: bool,

@@ -1,5 +1,6 @@
 //! The packet desk: the calls of both programs, and how they are compared over sequences of calls. Each call of a
-//! sequence is lent the places and the store as the one before left them.
+//! sequence is lent the places and the store as the one before left them. The proved desk is run over bytes, as C lends
+//! them, and over a row of places.
 
 mod rows;
 mod sequence;

@@ -3,19 +3,13 @@
 use super::{Calls, Paper};
 use crate::harness::Cell;
 use crate::inputs::Random;
-use direct::{Place, Said};
+use direct::Place;
 
 /// The answers of the compiled, proved code over a row of places.
 pub struct Rows;
 
-/// What is lent where a reply is not to say anything.
+/// What is lent for a number of which the reply says nothing.
 const UNSAID: usize = usize::MAX;
-
-/// Takes what a reply has said into `again`. Of the rest it says nothing.
-fn hear(said: Said, again: &mut u8) {
-    assert_eq!(said[1..], [UNSAID; 2], "such a reply has no count and no language");
-    *again = said[0] as u8;
-}
 
 impl Cell for Place {
     fn any(random: &mut Random) -> Place {
@@ -44,7 +38,8 @@ impl Calls for Rows {
     fn accept(places: &mut [Place], store: &mut [u8], packet: &[u8], again: &mut u8) -> u8 {
         let mut said = [usize::from(*again), UNSAID, UNSAID];
         let code = direct::accept(&mut said, places, store, packet);
-        hear(said, again);
+        assert_eq!(said[1..], [UNSAID; 2], "accepting says no count and no language");
+        *again = said[0] as u8;
         code
     }
 
@@ -59,15 +54,15 @@ impl Calls for Rows {
     ) -> u8 {
         let mut said = [UNSAID, *count, usize::from(*language)];
         let code = direct::ask(&mut said, places, store, number, notice, missing);
-        assert_eq!(said[0], UNSAID, "asking takes no packet");
+        assert_eq!(said[0], UNSAID, "asking says nothing of a packet");
         (*count, *language) = (said[1], said[2] as u8);
         code
     }
 
     fn drop(places: &mut [Place], store: &[u8], number: u8) -> u8 {
-        let (mut said, mut again) = ([0, UNSAID, UNSAID], 0);
+        let mut said = [0, UNSAID, UNSAID];
         let code = direct::drop(&mut said, places, store, number);
-        hear(said, &mut again);
+        assert_eq!(said, [0, UNSAID, UNSAID], "dropping says no more than done");
         code
     }
 }
