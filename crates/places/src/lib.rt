@@ -16,6 +16,8 @@ use packet::PART;
 
 pub mod four;
 
+// Laid out as in C, since rust/trial lends rows of places (`c_trial`).
+#[repr(C)]
 pub struct Place {
     pub open: bool,
     // The message number of its notice.

@@ -94,6 +94,21 @@ pub fn damage(random: &mut Random, message: &mut Vec<u8>) {
     }
 }
 
+/// How often a run of bytes is far longer than any that is good, once in so many.
+const FAR: usize = 500;
+
+/// A size that a count of 16 bits can't tell from the one that is meant, or one near the most that it holds.
+fn far(random: &mut Random, meant: usize) -> usize {
+    match random.below(4) {
+        // As many bits but for 2^16 and more, which are 8,192 bytes.
+        0 => meant + ((1 + random.below(8)) << 13),
+        // As many bytes but for 2^16 and more.
+        1 => meant + ((1 + random.below(2)) << 16),
+        2 => (1 << 13) - 2 + random.below(4),
+        _ => (1 << 16) - LONGEST_TAIL + random.below(2 * LONGEST_TAIL),
+    }
+}
+
 /// A language: mostly the one that is meant, else the other, or a number that is none.
 fn language(random: &mut Random, meant: u8) -> u8 {
     match random.below(24) {

@@ -1,18 +1,23 @@
 //! The packet desk: the calls of both programs, and how they are compared over sequences of calls. Each call of a
-//! sequence is lent the places and the store as the one before left them.
+//! sequence is lent the places and the store as the one before left them. The proved desk is run over bytes, as C lends
+//! them, and over a row of places.
 
+mod rows;
 mod sequence;
 
 use super::{Paper, Proved};
-use crate::harness::{self, Call, Counts, Options, Tally};
+use crate::harness::{self, Call, Cell, Counts, Options, Tally};
 use crate::inputs::Random;
 use paper::desk::Answer;
 use record::{code, Accepted, Place, Refusal};
+use rows::Rows;
 
 /// The desk's calls, each as in C but for slices, and for the places: the independent program has its own.
 pub trait Calls {
     /// What places are lent as: bytes, or structs.
     type Cell: Copy;
+    /// How many bytes of a row a cell spells.
+    const CELL: usize;
 
     /// The places that a row of bytes spells, and the row that places are spelled by.
     fn places(row: &[u8]) -> Vec<Self::Cell>;
@@ -33,6 +38,7 @@ pub trait Calls {
 
 impl Calls for Proved {
     type Cell = u8;
+    const CELL: usize = 1;
 
     #[inline]
     fn places(row: &[u8]) -> Vec<u8> {
@@ -70,6 +76,7 @@ impl Calls for Proved {
 
 impl Calls for Paper {
     type Cell = Place;
+    const CELL: usize = Place::BYTES;
 
     fn places(row: &[u8]) -> Vec<Place> {
         row.as_chunks().0.iter().map(Place::of_bytes).collect()
@@ -113,7 +120,6 @@ impl Calls for Paper {
     }
 }
 
-const NAME: &str = "desk";
 /// Accepting a packet that is held already is counted by itself.
 const ACCEPT: usize = 0;
 const ACCEPT_AGAIN: usize = 1;
@@ -129,16 +135,22 @@ const CALLS: [Call; 4] = [
 /// The most calls of a sequence; the least are a tenth of them.
 const LONGEST: u64 = 5_000;
 
+/// Runs the desk over bytes, and over a row of places.
+pub fn run(options: &Options, tally: &mut Tally) {
+    run_as::<Proved>("desk", options, tally);
+    run_as::<Rows>("desk row", options, tally);
+}
+
 /// Runs sequences of about as many calls in all as other families are given inputs. A short run has short ones, so that
 /// there are many in any case.
-pub fn run(options: &Options, tally: &mut Tally) {
+fn run_as<C: Calls<Cell: Cell + PartialEq>>(name: &'static str, options: &Options, tally: &mut Tally) {
     let longest = (options.inputs / 20).clamp(10, LONGEST);
     let shortest = longest / 10;
     let sequences = options.inputs.div_ceil((shortest + longest) / 2);
     let compare = |index: u64, counts: &mut Counts| {
-        let random = &mut Random::new(options.seed, NAME, index);
+        let random = &mut Random::new(options.seed, name, index);
         let calls = random.between(shortest as i64, longest as i64);
-        sequence::compare(random, calls, &format!("{NAME}, seed {}, sequence {index}", options.seed), counts);
+        sequence::compare::<C>(random, calls, &format!("{name}, seed {}, sequence {index}", options.seed), counts);
     };
-    harness::run_pieces(NAME, &CALLS, sequences, compare, options.floor(), tally);
+    harness::run_pieces(name, &CALLS, sequences, compare, options.floor(), tally);
 }

@@ -1,6 +1,6 @@
 //! The packet and the splitter: the calls of both programs, and how they are compared.
 
-use super::{Paper, Proved};
+use super::{show, Paper, Proved};
 use crate::harness::{Call, Family, Guarded};
 use crate::inputs::{packet as inputs, room, spare, Random};
 use record::{code, Packet};
@@ -13,6 +13,8 @@ pub trait Calls {
     fn correct(packet: &mut [u8], field: usize, value: u64) -> u8;
     fn split(buf: &mut [u8], content: &[u8], language: u8, number: u8, packet: usize) -> u8;
     fn next_number(number: u8) -> u8;
+    /// The content in the front of `bytes`, where it fits, and how many bytes it has in `shown`; the number is reading's.
+    fn content(packet: &[u8], bytes: &mut [u8], shown: &mut usize) -> u8;
 }
 
 impl Calls for Proved {
@@ -39,6 +41,11 @@ impl Calls for Proved {
     #[inline]
     fn next_number(number: u8) -> u8 {
         bellnewt::packet::next_number(number)
+    }
+
+    fn content(packet: &[u8], bytes: &mut [u8], shown: &mut usize) -> u8 {
+        *shown = direct::packet_content(packet, bytes);
+        code(bellnewt::packet::read(packet).map(drop))
     }
 }
 
@@ -67,6 +74,10 @@ impl Calls for Paper {
     fn next_number(number: u8) -> u8 {
         paper::packet::next_number(number)
     }
+
+    fn content(packet: &[u8], bytes: &mut [u8], shown: &mut usize) -> u8 {
+        code(paper::packet::read(packet).map(|(_, content)| *shown = show(content, bytes)))
+    }
 }
 
 /// One call and its numbers; the packet or buffer, the content and the row stand in `Lent`.
@@ -76,6 +87,7 @@ pub enum Input {
     Write(Packet),
     Correct { field: usize, value: u64 },
     Split { language: u8, number: u8, packet: usize },
+    Content,
 }
 
 #[derive(Clone, PartialEq, Debug)]
@@ -83,6 +95,7 @@ pub struct Lent {
     bytes: Guarded<u8>,
     content: Guarded<u8>,
     row: Guarded<i64>,
+    shown: usize,
 }
 
 impl Input {
@@ -93,6 +106,7 @@ impl Input {
             Input::Write(record) => C::write(bytes, record, content),
             Input::Correct { field, value } => C::correct(bytes, *field, *value),
             Input::Split { language, number, packet } => C::split(bytes, content, *language, *number, *packet),
+            Input::Content => C::content(bytes, content, &mut lent.shown),
         }
     }
 }
@@ -106,6 +120,7 @@ impl Family for Packets {
         Call { name: "write", numbers: &[0, 1, 4, 6] },
         Call { name: "correct", numbers: &[0, 1, 2, 4, 10] },
         Call { name: "split", numbers: &[0, 1, 4, 6] },
+        Call { name: "content", numbers: &[0, 1, 2, 4] },
     ];
     type Input = Input;
     type Lent = Lent;
@@ -121,17 +136,23 @@ impl Family for Packets {
                 let (field, value) = inputs::correction(random);
                 (Input::Correct { field, value }, inputs::packet_to_correct(random), Vec::new(), 0)
             }
-            _ => {
+            3 => {
                 let split = inputs::split(random);
                 let bytes = spare(random, split.bytes());
                 let inputs::Split { language, number, packet, content } = split;
                 (Input::Split { language, number, packet }, bytes, content, 0)
+            }
+            _ => {
+                let packet = inputs::packet(random);
+                let room = spare(random, packet.len().saturating_sub(Packet::HEAD).max(1));
+                (Input::Content, packet, room, 0)
             }
         };
         let lent = Lent {
             bytes: Guarded::new(random, bytes),
             content: Guarded::new(random, content),
             row: Guarded::any(random, row),
+            shown: 0,
         };
         (input, lent)
     }

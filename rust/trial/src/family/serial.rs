@@ -1,6 +1,6 @@
 //! The serial frames: the calls of both programs, and how they are compared. Each kind is run as a family.
 
-use super::{Paper, Proved};
+use super::{show, Paper, Proved};
 use crate::harness::{self, Call, Family, Guarded, Options, Tally};
 use crate::inputs::{room, serial as inputs, spare, Random};
 use record::{code, Frame, Gljc, Txhz, Txsq, Txxx};
@@ -11,9 +11,11 @@ pub trait Calls<F: Frame> {
     fn read(frame: &[u8], row: &mut [i64]) -> u8;
     fn write(buf: &mut [u8], record: &F, run: &[u8]) -> u8;
     fn correct(frame: &mut [u8], field: usize, value: u64) -> u8;
+    /// The content in the front of `bytes`, where it fits, and how many bytes it has in `shown`; the number is reading's.
+    fn content(frame: &[u8], bytes: &mut [u8], shown: &mut usize) -> u8;
 }
 
-impl<F: bellnewt::serial::Kind> Calls<F> for Proved {
+impl<F: Kind> Calls<F> for Proved {
     #[inline]
     fn read(frame: &[u8], row: &mut [i64]) -> u8 {
         code(bellnewt::serial::read_row::<F>(frame, row))
@@ -28,9 +30,14 @@ impl<F: bellnewt::serial::Kind> Calls<F> for Proved {
     fn correct(frame: &mut [u8], field: usize, value: u64) -> u8 {
         code(bellnewt::serial::correct::<F>(frame, field, value))
     }
+
+    fn content(frame: &[u8], bytes: &mut [u8], shown: &mut usize) -> u8 {
+        *shown = F::CONTENT(frame, bytes);
+        code(bellnewt::serial::read::<F>(frame).map(drop))
+    }
 }
 
-impl<F: paper::serial::Kind> Calls<F> for Paper {
+impl<F: Kind> Calls<F> for Paper {
     #[inline(never)]
     fn read(frame: &[u8], row: &mut [i64]) -> u8 {
         code(paper::serial::read_row::<F>(frame, row))
@@ -45,17 +52,24 @@ impl<F: paper::serial::Kind> Calls<F> for Paper {
     fn correct(frame: &mut [u8], field: usize, value: u64) -> u8 {
         code(paper::serial::correct::<F>(frame, field, value))
     }
+
+    fn content(frame: &[u8], bytes: &mut [u8], shown: &mut usize) -> u8 {
+        code(paper::serial::read::<F>(frame).map(|(_, content)| *shown = show(content, bytes)))
+    }
 }
 
 /// A kind of frame that both programs know.
 pub trait Kind: inputs::Kind + bellnewt::serial::Kind + paper::serial::Kind {
-    /// Of reading, writing and correcting.
-    const CALLS: &'static [Call] = &[
-        Call { name: "read", numbers: &[0, 1, 2, 3, 4, 5, 6] },
-        Call { name: "write", numbers: &[0, 1, 4, 5, 6] },
-        Call { name: "correct", numbers: &[0, 1, 2, 3, 4, 5, 10] },
-    ];
+    /// Of reading, writing and correcting; and of showing the content, where there is one.
+    const CALLS: &'static [Call] = &[READ, WRITE, CORRECT, CONTENT];
+    /// The proved function that shows the content.
+    const CONTENT: fn(&[u8], &mut [u8]) -> usize = |_, _| unreachable!("a frame without a content");
 }
+
+const READ: Call = Call { name: "read", numbers: &[0, 1, 2, 3, 4, 5, 6] };
+const WRITE: Call = Call { name: "write", numbers: &[0, 1, 4, 5, 6] };
+const CORRECT: Call = Call { name: "correct", numbers: &[0, 1, 2, 3, 4, 5, 10] };
+const CONTENT: Call = Call { name: "content", numbers: &[0, 1, 2, 3, 4, 5] };
 
 /// GLJC has neither a run nor a fill.
 impl Kind for Gljc {
@@ -66,9 +80,17 @@ impl Kind for Gljc {
     ];
 }
 
-impl Kind for Txsq {}
-impl Kind for Txxx {}
-impl Kind for Txhz {}
+impl Kind for Txsq {
+    const CONTENT: fn(&[u8], &mut [u8]) -> usize = direct::txsq_content;
+}
+
+impl Kind for Txxx {
+    const CONTENT: fn(&[u8], &mut [u8]) -> usize = direct::txxx_content;
+}
+
+impl Kind for Txhz {
+    const CALLS: &'static [Call] = &[READ, WRITE, CORRECT];
+}
 
 /// One call and its numbers; the frame or buffer, the run and the row stand in `Lent`.
 #[derive(Debug)]
@@ -76,6 +98,7 @@ pub enum Input<F> {
     Read,
     Write(F),
     Correct { field: usize, value: u64 },
+    Content,
 }
 
 #[derive(Clone, PartialEq, Debug)]
@@ -83,6 +106,7 @@ pub struct Lent {
     bytes: Guarded<u8>,
     run: Guarded<u8>,
     row: Guarded<i64>,
+    shown: usize,
 }
 
 impl<F: Kind> Input<F> {
@@ -92,6 +116,7 @@ impl<F: Kind> Input<F> {
             Input::Read => C::read(bytes, lent.row.part()),
             Input::Write(record) => C::write(bytes, record, lent.run.part()),
             Input::Correct { field, value } => C::correct(bytes, *field, *value),
+            Input::Content => C::content(bytes, lent.run.part(), &mut lent.shown),
         }
     }
 }
@@ -111,13 +136,22 @@ impl<F: Kind> Family for Serial<F> {
                 let (record, run) = inputs::record::<F>(random);
                 (Input::Write(record), spare(random, F::BARE + run.len()), run, 0)
             }
-            _ => {
+            2 => {
                 let (field, value) = inputs::correction::<F>(random);
                 (Input::Correct { field, value }, inputs::frame_to_correct::<F>(random), Vec::new(), 0)
             }
+            _ => {
+                let frame = inputs::frame::<F>(random);
+                let room = spare(random, frame.len().saturating_sub(F::BARE).max(1));
+                (Input::Content, frame, room, 0)
+            }
         };
-        let lent =
-            Lent { bytes: Guarded::new(random, bytes), run: Guarded::new(random, run), row: Guarded::any(random, row) };
+        let lent = Lent {
+            bytes: Guarded::new(random, bytes),
+            run: Guarded::new(random, run),
+            row: Guarded::any(random, row),
+            shown: 0,
+        };
         (input, lent)
     }
 

@@ -1,7 +1,7 @@
 //! Packets, good and damaged, and contents to split.
 
 use super::field::{field, field_number, pack, put_anywhere, put_at_edges, Field};
-use super::{damage, language, Random};
+use super::{damage, far, language, Random, FAR};
 use bellnewt::notice::Notice;
 use record::Packet;
 
@@ -52,6 +52,11 @@ fn good_content(random: &mut Random) -> Vec<u8> {
 
 /// A content, of a size that no packet has at times.
 fn content(random: &mut Random) -> Vec<u8> {
+    if random.one_in(FAR) {
+        let meant = 1 + random.below(Packet::CONTENT);
+        let size = far(random, meant);
+        return random.bytes(size);
+    }
     match random.below(16) {
         0 => Vec::new(),
         1 => random.bytes(Packet::CONTENT + 1),
@@ -135,16 +140,31 @@ pub fn good_split(random: &mut Random, size: usize) -> Split {
     }
 }
 
+/// A size far past the greatest notice's: any, or one that a count of packets in 6 or 8 bits can't tell from the one that is
+/// meant.
+fn far_size(random: &mut Random, meant: usize) -> usize {
+    match random.below(8) {
+        0 => meant + (Packet::CONTENT << 6),
+        1 => meant + (Packet::CONTENT << 8),
+        2 => 300_000 + random.below(Packet::CONTENT),
+        3 | 4 => Notice::GREATEST + random.below(70_000 - Notice::GREATEST),
+        _ => far(random, meant),
+    }
+}
+
 /// A content, mostly good and of few packets, and a packet number at the last, past it or anywhere.
 pub fn split(random: &mut Random) -> Split {
     let few = random.below(6);
-    let size = match random.below(32) {
+    let mut size = match random.below(32) {
         0 => 0,
         1 => Notice::GREATEST - 1 + random.below(4),
         2 => random.below(Notice::GREATEST),
         3..=12 => (Packet::CONTENT * (1 + few)).saturating_add_signed(random.between(-1, 1) as isize),
         _ => 1 + random.below(Packet::CONTENT * (1 + few)),
     };
+    if random.one_in(FAR) {
+        size = far_size(random, size);
+    }
     let mut split = good_split(random, size);
     let total = size.div_ceil(Packet::CONTENT);
     split.language = language(random, split.language);

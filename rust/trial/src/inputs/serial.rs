@@ -3,7 +3,7 @@
 mod kinds;
 
 use super::field::{field_number, pack, put_anywhere, put_at_edges, Field};
-use super::{damage, Random};
+use super::{damage, far, Random, FAR};
 use record::{Frame, Gljc, Txhz, Txsq, Txxx};
 
 /// What the inputs of a kind of frame are made by.
@@ -47,6 +47,12 @@ fn resize(random: &mut Random, run: &mut Vec<u8>) {
         }
         _ => run.push(random.pick(&[0, 1])),
     }
+}
+
+/// Makes a run far longer than any that is good.
+fn lengthen(random: &mut Random, run: &mut Vec<u8>) {
+    let size = far(random, run.len());
+    run.resize_with(size, || random.byte());
 }
 
 /// So many bits in whole bytes, the unused low bits zero.
@@ -100,13 +106,16 @@ pub fn good_record<F: Kind>(random: &mut Random) -> (F, Vec<u8>) {
     F::record(good_parts::<F>(random))
 }
 
-/// A record to write and its run. An empty run stays: GLJC has no other.
+/// A record to write and its run. The empty run of GLJC stays.
 pub fn record<F: Kind>(random: &mut Random) -> (F, Vec<u8>) {
     let mut parts = parts::<F>(random);
     put_anywhere(random, &mut parts.numbers);
     let (record, mut run) = F::record(parts);
     if !run.is_empty() && random.one_in(12) {
         resize(random, &mut run);
+    }
+    if (F::BITS.is_some() || !run.is_empty()) && random.one_in(FAR) {
+        lengthen(random, &mut run);
     }
     (record, run)
 }
@@ -142,7 +151,14 @@ pub fn frame<F: Kind>(random: &mut Random) -> Vec<u8> {
     if random.one_in(16) {
         return any_frame(random);
     }
-    let mut frame = open::<F>(&parts::<F>(random));
+    let mut parts = parts::<F>(random);
+    if random.one_in(FAR) {
+        lengthen(random, &mut parts.content);
+        if let (Some(at), true) = (F::BITS, random.one_in(2)) {
+            parts.numbers[at] = (8 * parts.content.len()) as u16 as i64;
+        }
+    }
+    let mut frame = open::<F>(&parts);
     if random.one_in(16) {
         frame[random.below(5)] ^= 1 << random.below(8);
     }

@@ -1,7 +1,7 @@
 //! A sequence of calls of the desk, made by both programs.
 
-use super::{Calls, Paper, Proved, ACCEPT, ACCEPT_AGAIN, ASK, DROP};
-use crate::harness::{Counts, Guarded};
+use super::{Calls, Paper, ACCEPT, ACCEPT_AGAIN, ASK, DROP};
+use crate::harness::{Cell, Counts, Guarded};
 use crate::inputs::desk::{self as inputs, Request, Traffic};
 use crate::inputs::Random;
 use bellnewt::notice::Notice;
@@ -89,9 +89,9 @@ impl Step {
 }
 
 /// The memory of both programs' desks, and what it was before the call.
-struct Desks {
-    row: Guarded<u8>,
-    row_before: Guarded<u8>,
+struct Desks<C: Calls> {
+    row: Guarded<C::Cell>,
+    row_before: Guarded<C::Cell>,
     /// The independent program's row.
     places: Vec<Place>,
     proved: Lent,
@@ -99,20 +99,26 @@ struct Desks {
     before: Lent,
 }
 
-impl Desks {
-    fn new(random: &mut Random) -> Desks {
+impl<C: Calls<Cell: Cell + PartialEq>> Desks<C> {
+    fn new(random: &mut Random) -> Desks<C> {
         let row = inputs::empty_row(random);
         let places = Paper::places(&row);
-        let row = Guarded::new(random, row);
+        let row = Guarded::new(random, C::places(&row));
         let lent = Lent::new(random);
         Desks { row_before: row.clone(), row, places, proved: lent.clone(), paper: lent.clone(), before: lent }
     }
 
-    /// Lends both programs another row of the same size.
+    /// The bytes that spell the row.
+    fn bytes(&mut self) -> Vec<u8> {
+        C::row(self.row.part())
+    }
+
+    /// Lends both programs another row of the same size, as far as the proved program's cells can say it.
     fn lend_row(&mut self, row: &[u8]) {
-        self.row.part().copy_from_slice(row);
-        self.row_before.part().copy_from_slice(row);
-        self.places = Paper::places(row);
+        let cells = C::places(row);
+        self.row.part().copy_from_slice(&cells);
+        self.row_before.part().copy_from_slice(&cells);
+        self.places = Paper::places(&C::row(&cells));
     }
 
     fn lend_packet(&mut self, packet: &Guarded<u8>) {
@@ -122,16 +128,16 @@ impl Desks {
     }
 
     /// The row as it is due: what it was before, and in it the independent program's places.
-    fn row_due(&self) -> Guarded<u8> {
+    fn row_due(&self) -> Guarded<C::Cell> {
         let mut due = self.row_before.clone();
-        let row = Paper::row(&self.places);
-        due.part()[..row.len()].copy_from_slice(&row);
+        let cells = C::places(&Paper::row(&self.places));
+        due.part()[..cells.len()].copy_from_slice(&cells);
         due
     }
 
     /// Makes a call by both programs and compares the number, and every lent cell with its guards. Answers the number.
     fn step(&mut self, step: &Step, counts: &mut Counts, shown: impl FnOnce() -> String) -> Option<u8> {
-        let code = step.answer::<Proved>(&mut self.row.part()[..step.row], &mut self.proved);
+        let code = step.answer::<C>(&mut self.row.part()[..step.row / C::CELL], &mut self.proved);
         let due = step.answer::<Paper>(&mut self.places[..step.row / Place::BYTES], &mut self.paper);
         let row_due = self.row_due();
         let again = matches!(step.request, Request::Accept(_)) && due == 0 && self.paper.again.part()[0] == 1;
@@ -163,11 +169,11 @@ const SCRIBBLED: usize = 50;
 const SHORT: usize = 24;
 
 /// Runs a sequence of so many calls from an empty desk. The first call on which the programs differ ends it.
-pub fn compare(random: &mut Random, calls: i64, name: &str, counts: &mut Counts) {
-    let mut desks = Desks::new(random);
+pub fn compare<C: Calls<Cell: Cell + PartialEq>>(random: &mut Random, calls: i64, name: &str, counts: &mut Counts) {
+    let mut desks = Desks::<C>::new(random);
     let mut traffic = Traffic::new(random);
     for call in 0..calls {
-        let good = desks.row.part().to_vec();
+        let good = desks.bytes();
         let step = next_step(random, &mut traffic, &mut desks);
         let Some(due) = desks.step(&step, counts, || format!("{name}, call {call}")) else {
             return;
@@ -182,12 +188,16 @@ pub fn compare(random: &mut Random, calls: i64, name: &str, counts: &mut Counts)
 }
 
 /// The next call. Lends its packet, and at times a row of damaged places.
-fn next_step(random: &mut Random, traffic: &mut Traffic, desks: &mut Desks) -> Step {
+fn next_step<C: Calls<Cell: Cell + PartialEq>>(
+    random: &mut Random,
+    traffic: &mut Traffic,
+    desks: &mut Desks<C>,
+) -> Step {
     let request = traffic.request(random, &desks.places[..Place::COUNT]);
     if let Request::Accept(packet) = &request {
         desks.lend_packet(&Guarded::new(random, packet.clone()));
     }
-    let mut row = desks.row.part().to_vec();
+    let mut row = desks.bytes();
     if random.one_in(DAMAGED) {
         inputs::damage_row(random, &mut row);
         desks.lend_row(&row);

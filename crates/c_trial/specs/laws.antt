@@ -1,0 +1,2 @@
+-- Laws on what the calls promise.
+pub mod Same
