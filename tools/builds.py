@@ -37,7 +37,8 @@ class Build:
             return None
         for path, text in texts.items():
             before, after = parts(path, read(path)), parts(path, text)
-            found |= {part for part in before.keys() | after.keys() if before.get(part) != after.get(part)}
+            differing = {part for part in before.keys() | after.keys() if before.get(part) != after.get(part)}
+            found |= {user(path, before, part) if len(part) == 2 else part for part in differing}
         return found.pop() if len(found) == 1 and "" not in found else None
 
     def reshapes(self):
@@ -89,7 +90,21 @@ def parts(path, text):
         if len(users) == 1 and len(re.findall(rf"\b{one[1]}\b", found[""])) == 1:
             found[""] = found[""].replace(one[0], "")
             found[users[0]] += one[0]
+    # A type's constant is a part of its own, under its type and name.
+    for block in re.finditer(r"\bimpl (\w+) \{", text):
+        for one in re.finditer(r"(?m)^    (?:pub )?const (\w+): [^=]*= [^;]*;", text[block.end() : closing(text, block.end() - 1)]):
+            found[""] = found[""].replace(one[0], "")
+            found[(block[1], one[1])] = one[0]
     return {part: re.sub(r"\s+", " ", body).strip() for part, body in found.items()}
+
+
+def user(path, before, constant):
+    """The function that alone in its crate names a type's constant, as a name of a field: the constant is a part of its body. Else ''."""
+    name = re.compile(r"\b(?:%s|Self)::%s\b" % constant)
+    users = [part for part, body in before.items() if name.search(body)]
+    sources = glob.glob(path.split("/src/")[0] + "/src/**/*.rt", recursive=True)
+    alone = len(users) == 1 and len(users[0]) == 3 and not any(name.search(read(other)) for other in sources if other != path)
+    return users[0] if alone else ""
 
 
 def operations(path, text):

@@ -4,7 +4,7 @@ use mathlib.Core.Bool.{cond}
 use mathlib.Core.List.{List, [], _∷_}
 use lib.Dec.{eqb}
 use lib.ListN.{getD}
-use Rattle.format.specs.Correcting.{entryOf}
+use Rattle.format.specs.Correcting.{entryFrom, entryOf}
 use Rattle.format.specs.Fmt.{Spot, none, found}
 use Rattle.ais_common.specs.Time.{timeOf, shortOf}
 use Rattle.area.specs.Shapes.{Kind, circle, rectangle, kindOf, typeOf, shapeKind, eastOf, northOf}
@@ -67,6 +67,10 @@ own rectangle = 13 ∷ 14 ∷ []
 abbrev pub first : Kind → ℕ
 first circle = 12
 first rectangle = 13
+
+-- where the field of its shape stands that has the number n
+abbrev pub ownSpot : Kind → ℕ → Spot
+ownSpot t n = spotOf t (entryFrom (first t) (own t) n)
 
 -- the field of number n in an area whose shape has the number t
 abbrev pub fieldOf : ℕ → ℕ → ℕ

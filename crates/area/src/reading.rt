@@ -61,37 +61,6 @@ impl Area {
     pub const LEAST: usize = Area::BITS / 8;
 
     pub const GREATEST: usize = Area::BITS / 8;
-
-    // The fields that may be corrected. One of a shape may be where the area has that shape, else it is no field of it.
-    pub const REPEAT: usize = 1;
-
-    pub const SOURCE: usize = 2;
-
-    pub const SEQUENCE: usize = 3;
-
-    pub const DESTINATION: usize = 4;
-
-    pub const RESENT: usize = 5;
-
-    pub const KIND: usize = 6;
-
-    pub const LONGITUDE: usize = 7;
-
-    pub const LATITUDE: usize = 8;
-
-    pub const TIME: usize = 9;
-
-    pub const SECOND_TIME: usize = 10;
-
-    pub const ADVICE: usize = 11;
-
-    // Of a circle.
-    pub const RADIUS: usize = 12;
-
-    // Of a rectangle.
-    pub const SECOND_LONGITUDE: usize = 13;
-
-    pub const SECOND_LATITUDE: usize = 14;
 }
 
 pub const MESSAGE: u64 = 6;

@@ -1,39 +1,12 @@
 // Correcting a field in the message itself.
 ghost use mathlib.Core.Bool.{true, false};
 ghost use mathlib.Core.Path.{_≡_};
-ghost use lib.ListN.{getD};
-ghost use Rattle.format.specs.Correcting.{entryFrom, admitted, Begins, Finishes};
+ghost use Rattle.format.specs.Correcting.{admitted, Begins, Finishes};
 
 // Where a field stands, and its width: 0 for none that may be corrected.
 pub struct Spot {
     pub at: usize,
     pub width: usize,
-}
-
-// The spot of field number `field`, where a layout's fields stand at the same offsets in every message.
-pub fn look_up(offsets: &[usize], widths: &[usize], field: usize) -> Spot
-    ensures { λ r. ⌜ (r .at ≡ getD (now (offsets .entry)) field 0) × (r .width ≡ getD (now (widths .entry)) field 0) ⌝ }
-{
-    let at = entry(offsets, field);
-    let width = entry(widths, field);
-    Spot { at, width }
-}
-
-// The same where the table's numbers begin with `first`.
-pub fn look_up_from(first: usize, offsets: &[usize], widths: &[usize], field: usize) -> Spot
-    ensures { λ r. ⌜ (r .at ≡ entryFrom first (now (offsets .entry)) field) × (r .width ≡ entryFrom first (now (widths .entry)) field) ⌝ }
-{
-    if field < first {
-        return Spot { at: 0, width: 0 };
-    }
-    look_up(offsets, widths, field - first)
-}
-
-// The entry of a table, 0 past its end.
-fn entry(table: &[usize], i: usize) -> usize
-    ensures { λ r. ⌜ r ≡ getD (now (table .entry)) i 0 ⌝ }
-{
-    if i < table.len() { table[i] } else { 0 }
 }
 
 // What a correction to v answers before a bit is changed: the message's own refusal, 10, too wide; 0 to go on.

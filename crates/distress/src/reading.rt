@@ -59,25 +59,6 @@ impl Report {
     pub const LEAST: usize = Report::BITS / 8;
 
     pub const GREATEST: usize = Report::BITS / 8;
-
-    // A field to be corrected is named by its position among the paper's fields; the code before them and the fill behind may not be.
-    pub const MMSI: usize = 1;
-
-    pub const LONGITUDE: usize = 2;
-
-    pub const LATITUDE: usize = 3;
-
-    pub const DAY: usize = 4;
-
-    pub const HOUR: usize = 5;
-
-    pub const MINUTE: usize = 6;
-
-    pub const SPEED: usize = 7;
-
-    pub const COURSE: usize = 8;
-
-    pub const KIND: usize = 9;
 }
 
 pub const CODE: u64 = 0xBDC1;

@@ -2,7 +2,7 @@
 use mathlib.Core.Path.{_≡_, ap, _∙_}
 use mathlib.Core.Bool.{Bool, cond}
 use mathlib.Core.List.{List}
-use Prim.Native.Nat.{ℕ, _-_, _^_}
+use Prim.Native.Nat.{ℕ, _-_, _^_, _≤_}
 use lib.Dec.{ltb, eqb}
 use lib.ListN.{getD}
 use Rattle.bits.specs.Answers.{got, puttable}
@@ -14,7 +14,11 @@ use Rattle.format.specs.Sealing.{reclosed}
 abbrev pub standing : ℕ → ℕ → Spot
 standing at width = cond (eqb width 0) none (found at width)
 
--- entry n of a table whose numbers begin with `first`
+-- what the code finds of a field: its offset, and its width of at most 32 bits
+abbrev pub StandsAt : Spot → ℕ → ℕ → Type 0
+StandsAt x at width = (x ≡ standing at width) × (width ≤ 32)
+
+-- entry n of a list whose numbers begin with `first`
 abbrev pub entryFrom : ℕ → List ℕ → ℕ → ℕ
 entryFrom first l n = cond (ltb n first) 0 (getD l (n - first) 0)
 

@@ -1,21 +1,38 @@
 // A frame GLJC corrected in place, and sealed anew (paper 01, "Correcting a field").
+ghost use Rattle.format.specs.Correcting.{StandsAt};
 ghost use Rattle.format.specs.Promises.{Corrects};
+ghost use Rattle.gljc.specs.Changed.{spotOf};
 ghost use Rattle.gljc.specs.Gljc.{gljcs};
+use crate::reading::Gljc;
 use crate::reading::fields;
 use crate::reading::read;
+use change::correcting::Spot;
 
-// Where the fields stand in every frame, and the widths of those that may be corrected.
-const OFFSETS: [usize; 5] = [0, 8, 40, 56, 80];
+impl Gljc {
+    // The fields that may be corrected, by their position among the frame's.
+    pub const ADDRESS: usize = 3;
 
-const WIDTHS: [usize; 5] = [0, 0, 0, 24, 8];
+    pub const MINUTES: usize = 4;
+}
 
 // Makes field number `field` of the frame be `value`, and its seal anew, or leaves every byte.
 pub fn correct(buf: &mut [u8], field: usize, value: u64) -> u8
     ensures { λ code. ⌜ Corrects gljcs (now (buf .entry)) field value code (now (buf .exit)) ⌝ }
 {
     let was = read(buf);
-    let spot = change::correcting::look_up(&OFFSETS, &WIDTHS, field);
+    let spot = stands(field);
     let begun = change::correcting::begin(buf, was.refusal(), spot, value);
     let again = fields(change::sealing::inner(buf), 0);
     change::correcting::finish_sealed(buf, begun, again.refusal())
+}
+
+// Where each field that may be corrected stands in every frame, and its width.
+fn stands(field: usize) -> Spot
+    ensures { λ r. ⌜ StandsAt (spotOf field) (r .at) (r .width) ⌝ }
+{
+    match field {
+        Gljc::ADDRESS => Spot { at: 56, width: 24 },
+        Gljc::MINUTES => Spot { at: 80, width: 8 },
+        _ => Spot { at: 0, width: 0 },
+    }
 }

@@ -48,11 +48,6 @@ impl Gljc {
     pub const LEAST: usize = Gljc::BITS / 8;
 
     pub const GREATEST: usize = Gljc::BITS / 8;
-
-    // The fields that may be corrected, by their position among the frame's.
-    pub const ADDRESS: usize = 3;
-
-    pub const MINUTES: usize = 4;
 }
 
 // `GLJC`.

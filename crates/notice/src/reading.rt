@@ -59,24 +59,6 @@ impl Notice {
 
     // What the packets of a notice can carry.
     pub const GREATEST: usize = packet::JOINED;
-
-    // The fields that may be corrected, by their position among the notice's: those of the head, and from AREAS on the numbers of its
-    // areas as they stand in the row (codes, latitudes, longitudes, radii and units).
-    pub const SOURCE: usize = 0;
-
-    pub const STATION: usize = 1;
-
-    pub const SERIAL: usize = 2;
-
-    pub const YEAR: usize = 3;
-
-    pub const KIND: usize = 4;
-
-    pub const SUBTYPE: usize = 5;
-
-    pub const EXPIRY: usize = 6;
-
-    pub const AREAS: usize = 8;
 }
 
 // The walk in front of the areas, and what stands there.

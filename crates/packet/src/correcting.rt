@@ -1,21 +1,44 @@
 // A packet corrected in place (paper 01, "Correcting a field").
+ghost use Rattle.format.specs.Correcting.{StandsAt};
 ghost use Rattle.format.specs.Promises.{Corrects};
+ghost use Rattle.packet.specs.Changed.{spotOf};
 ghost use Rattle.packet.specs.Packet.{packets};
+use crate::reading::Packet;
 use crate::reading::fields;
 use crate::reading::read;
+use change::correcting::Spot;
 
-// Where the fields stand in every packet, and the widths of those that may be corrected: neither code, version nor content.
-const OFFSETS: [usize; 8] = [0, 8, 11, 12, 20, 26, 32, 32];
+impl Packet {
+    // The fields that may be corrected, by their position among the packet's.
+    pub const LANGUAGE: usize = 2;
 
-const WIDTHS: [usize; 8] = [0, 0, 1, 8, 6, 6, 0, 0];
+    pub const NUMBER: usize = 3;
+
+    pub const TOTAL: usize = 4;
+
+    pub const OWN: usize = 5;
+}
 
 // Makes field number `field` of the packet be `value`, or leaves every byte.
 pub fn correct(buf: &mut [u8], field: usize, value: u64) -> u8
     ensures { λ code. ⌜ Corrects packets (now (buf .entry)) field value code (now (buf .exit)) ⌝ }
 {
     let was = read(buf);
-    let spot = change::correcting::look_up(&OFFSETS, &WIDTHS, field);
+    let spot = stands(field);
     let begun = change::correcting::begin(buf, was.refusal(), spot, value);
     let again = fields(buf, 0);
     change::correcting::finish(buf, begun, again.refusal())
+}
+
+// Where each field that may be corrected stands in every packet, and its width. Code, version and content may not be.
+fn stands(field: usize) -> Spot
+    ensures { λ r. ⌜ StandsAt (spotOf field) (r .at) (r .width) ⌝ }
+{
+    match field {
+        Packet::LANGUAGE => Spot { at: 11, width: 1 },
+        Packet::NUMBER => Spot { at: 12, width: 8 },
+        Packet::TOTAL => Spot { at: 20, width: 6 },
+        Packet::OWN => Spot { at: 26, width: 6 },
+        _ => Spot { at: 0, width: 0 },
+    }
 }

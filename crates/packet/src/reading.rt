@@ -60,15 +60,6 @@ impl Packet {
     pub const LEAST: usize = Packet::CONTENT + 1;
 
     pub const GREATEST: usize = Packet::CONTENT + PART;
-
-    // The fields that may be corrected, by their position among the packet's.
-    pub const LANGUAGE: usize = 2;
-
-    pub const NUMBER: usize = 3;
-
-    pub const TOTAL: usize = 4;
-
-    pub const OWN: usize = 5;
 }
 
 pub const CODE: u64 = 0xE1;

@@ -1,8 +1,8 @@
 // A frame TXHZ corrected in place, and sealed anew (paper 01, "Correcting a field").
-ghost use mathlib.Core.Path.{_≡_};
-ghost use Prim.Native.Nat.{_≤_};
+ghost use mathlib.Core.Bool.{cond};
+ghost use lib.Dec.{ltb};
 ghost use lib.ListN.{getD};
-ghost use Rattle.format.specs.Correcting.{standing};
+ghost use Rattle.format.specs.Correcting.{StandsAt};
 ghost use Rattle.format.specs.Fmt.{none};
 ghost use Rattle.format.specs.Promises.{Corrects};
 ghost use Rattle.txhz.specs.Changed.{spots};
@@ -12,10 +12,17 @@ use crate::reading::fields;
 use crate::reading::read;
 use change::correcting::Spot;
 
-// Where the fields in front of the receipts stand, and the widths of those that may be corrected.
-const OFFSETS: [usize; 6] = [0, 8, 40, 56, 80, 104];
+impl Txhz {
+    // The fields that may be corrected, by their position among the frame's.
+    pub const ADDRESS: usize = 3;
 
-const WIDTHS: [usize; 6] = [0, 0, 0, 24, 24, 8];
+    pub const RECEIVER: usize = 4;
+
+    pub const COUNT: usize = 5;
+
+    // The first of the first receipt's four; the next receipt's follow, and may be corrected as far as the count goes.
+    pub const FIRST_RECEIPT: usize = 6;
+}
 
 // Makes field number `field` of the frame be `value`, and its seal anew, or leaves every byte.
 pub fn correct(buf: &mut [u8], field: usize, value: u64) -> u8
@@ -28,15 +35,27 @@ pub fn correct(buf: &mut [u8], field: usize, value: u64) -> u8
     change::correcting::finish_sealed(buf, begun, again.refusal())
 }
 
-// Where field number `field` stands in a frame that counts `count` receipts. A receipt has four fields of a byte each, and past the count they are fill.
+// Where each field that may be corrected stands in a frame that counts `count` receipts, and its width.
 fn stands(count: u8, field: usize) -> Spot
-    ensures { λ r. ⌜ (standing (r .at) (r .width) ≡ getD (spots count) field none) × (r .width ≤ 32) ⌝ }
+    ensures { λ r. ⌜ StandsAt (getD (spots count) field none) (r .at) (r .width) ⌝ }
 {
-    if field < Txhz::RECEIPTS {
-        return change::correcting::look_up(&OFFSETS, &WIDTHS, field);
+    match field {
+        Txhz::ADDRESS => Spot { at: 56, width: 24 },
+        Txhz::RECEIVER => Spot { at: 80, width: 24 },
+        Txhz::COUNT => Spot { at: 104, width: 8 },
+        _ => receipt(count, field),
     }
-    if field < Txhz::RECEIPTS + 20 {
-        if (field - Txhz::RECEIPTS) / 4 < count as usize {
+}
+
+// The same of a receipt's field. A receipt has four, of a byte each, and past the count they are fill.
+fn receipt(count: u8, field: usize) -> Spot
+    ensures { λ r. ⌜ StandsAt (cond (ltb field 6) none (getD (spots count) field none)) (r .at) (r .width) ⌝ }
+{
+    if field < Txhz::FIRST_RECEIPT {
+        return Spot { at: 0, width: 0 };
+    }
+    if field < Txhz::FIRST_RECEIPT + 20 {
+        if (field - Txhz::FIRST_RECEIPT) / 4 < count as usize {
             return Spot {
                 at: 64 + field * 8,
                 width: 8,

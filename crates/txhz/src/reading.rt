@@ -75,16 +75,6 @@ impl Txhz {
     pub const LEAST: usize = Txhz::BITS / 8;
 
     pub const GREATEST: usize = Txhz::BITS / 8;
-
-    // The fields that may be corrected, by their position among the frame's.
-    pub const ADDRESS: usize = 3;
-
-    pub const RECEIVER: usize = 4;
-
-    pub const COUNT: usize = 5;
-
-    // The first of the first receipt's four; the next receipt's follow, and may be corrected as far as the count goes.
-    pub const RECEIPTS: usize = 6;
 }
 
 // `TXHZ`.

@@ -64,19 +64,6 @@ impl Txsq {
 
     // Where the content begins.
     pub const CONTENT: usize = 17;
-
-    // The fields that may be corrected, by their position among the frame's.
-    pub const ADDRESS: usize = 3;
-
-    pub const CATEGORY: usize = 5;
-
-    pub const MODE: usize = 6;
-
-    pub const PASSWORD: usize = 7;
-
-    pub const RECEIVER: usize = 8;
-
-    pub const ANSWER: usize = 10;
 }
 
 // `TXSQ`.

@@ -8,9 +8,9 @@ use Rattle.frame.specs.Frame.{bytesFor}
 use Rattle.format.specs.Fmt.{Spot, none, found}
 use Rattle.txxx.specs.declared.reading.Txxx.{Txxx}
 
--- the fields in bit order, of a frame with l bits of content: where each that may be corrected stands, and its width
-abbrev pub spots : ℕ → List Spot
-spots l =
+-- the fields in bit order, where the mark stands at bit m: where each that may be corrected stands, and its width
+abbrev pub spotsBy : ℕ → List Spot
+spotsBy m =
     none  -- `$`
     ∷ none  -- letters
     ∷ none  -- length
@@ -22,8 +22,15 @@ spots l =
     ∷ none  -- bit length
     ∷ none  -- content
     ∷ none  -- fill
-    ∷ found (144 + bytesFor l * 8) 8  -- 11 CRC mark
+    ∷ found m 8  -- 11 CRC mark
     ∷ []
+
+abbrev pub spotBy : ℕ → ℕ → Spot
+spotBy m i = getD (spotsBy m) i none
+
+-- the same of a frame with l bits of content
+abbrev pub spots : ℕ → List Spot
+spots l = spotsBy (144 + bytesFor l * 8)
 
 abbrev pub spotOf : Txxx × List ℕ → ℕ → Spot
 spotOf r i = getD (spots (r .0 .size)) i none

@@ -2,29 +2,55 @@
 ghost use mathlib.Core.Path.{_≡_};
 ghost use mathlib.Core.Bool.{cond};
 ghost use Prim.Native.Nat.{_-_, _*_};
+ghost use Rattle.format.specs.Correcting.{StandsAt};
 ghost use Rattle.format.specs.Message.{between};
 ghost use Rattle.format.specs.Promises.{Corrects};
+ghost use Rattle.txxx.specs.Changed.{spotBy};
 ghost use Rattle.txxx.specs.Txxx.{txxxs};
 use crate::reading::Txxx;
 use crate::reading::fields;
 use crate::reading::read;
+use change::correcting::Spot;
 
-// Where the fields stand in every frame, but for the mark, and the widths of those that may be corrected: neither bit length, content nor fill.
-const OFFSETS: [usize; 12] = [0, 8, 40, 56, 80, 88, 112, 120, 128, 144, 144, 0];
+impl Txxx {
+    // The fields that may be corrected, by their position among the frame's.
+    pub const ADDRESS: usize = 3;
 
-const WIDTHS: [usize; 12] = [0, 0, 0, 24, 8, 24, 8, 8, 0, 0, 0, 8];
+    pub const CLASS: usize = 4;
+
+    pub const SENDER: usize = 5;
+
+    pub const HOUR: usize = 6;
+
+    pub const MINUTE: usize = 7;
+
+    pub const MARK: usize = 11;
+}
 
 // Makes field number `field` of the frame be `value`, and its seal anew, or leaves every byte.
 pub fn correct(buf: &mut [u8], field: usize, value: u64) -> u8
     ensures { λ code. ⌜ Corrects txxxs (now (buf .entry)) field value code (now (buf .exit)) ⌝ }
 {
     let was = read(buf);
-    let mut offsets = OFFSETS;
-    offsets[Txxx::MARK] = mark(buf.len());
-    let spot = change::correcting::look_up(&offsets, &WIDTHS, field);
+    let spot = stands(mark(buf.len()), field);
     let begun = change::correcting::begin(buf, was.refusal(), spot, value);
     let again = fields(change::sealing::inner(buf), 0);
     change::correcting::finish_sealed(buf, begun, again.refusal())
+}
+
+// Where each field that may be corrected stands in a frame whose mark stands at bit `mark`, and its width. Bit length, content and fill may not be.
+fn stands(mark: usize, field: usize) -> Spot
+    ensures { λ r. ⌜ StandsAt (spotBy mark field) (r .at) (r .width) ⌝ }
+{
+    match field {
+        Txxx::ADDRESS => Spot { at: 56, width: 24 },
+        Txxx::CLASS => Spot { at: 80, width: 8 },
+        Txxx::SENDER => Spot { at: 88, width: 24 },
+        Txxx::HOUR => Spot { at: 112, width: 8 },
+        Txxx::MINUTE => Spot { at: 120, width: 8 },
+        Txxx::MARK => Spot { at: mark, width: 8 },
+        _ => Spot { at: 0, width: 0 },
+    }
 }
 
 // Where the mark stands in a frame of `len` bytes.

@@ -63,19 +63,6 @@ impl Txxx {
     pub const CONTENT: usize = 18;
 
     pub const TAIL: usize = 2;
-
-    // The fields that may be corrected, by their position among the frame's.
-    pub const ADDRESS: usize = 3;
-
-    pub const CLASS: usize = 4;
-
-    pub const SENDER: usize = 5;
-
-    pub const HOUR: usize = 6;
-
-    pub const MINUTE: usize = 7;
-
-    pub const MARK: usize = 11;
 }
 
 // `TXXX`.

@@ -7,7 +7,7 @@ use lib.ListN.{getD}
 use Rattle.warning.specs.Bodies.{Kind, cyclone, gale, waves, fog, surge, kindOf, typeOf, bodyKind}
 use Rattle.warning.specs.declared.bodies.Body.{Body}
 use Rattle.warning.specs.declared.bodies.Body.the-variants.{Cyclone, Gale, Waves, Fog, Surge}
-use Rattle.format.specs.Correcting.{entryOf}
+use Rattle.format.specs.Correcting.{entryFrom, entryOf}
 use Rattle.format.specs.Fmt.{Spot, none, found}
 use Rattle.ais_common.specs.Time.{timeOf}
 use Rattle.warning.specs.Warning.{timeAt, hoursAt}
@@ -69,6 +69,10 @@ first gale = 14
 first waves = 18
 first fog = 21
 first surge = 23
+
+-- where the field of its body stands that has the number n
+abbrev pub ownSpot : Kind → ℕ → Spot
+ownSpot t n = spotOf t (entryFrom (first t) (own t) n)
 
 -- the field of number n in a warning of type t
 abbrev pub fieldOf : ℕ → ℕ → ℕ

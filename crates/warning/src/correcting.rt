@@ -1,41 +1,69 @@
 // A warning corrected in place (paper 01, "Correcting a field").
 ghost use Rattle.bits.specs.Bits.{fieldAt};
+ghost use Rattle.format.specs.Correcting.{StandsAt};
 ghost use Rattle.format.specs.Promises.{Corrects};
-ghost use Rattle.warning.specs.Bodies.{kindOf};
+ghost use Rattle.warning.specs.Bodies.{Kind, cyclone, gale, waves, fog, surge, kindOf};
 ghost use Rattle.warning.specs.Warning.{warnings};
-ghost use Rattle.warning.specs.Changed.{fieldOf};
-ghost use Rattle.warning.specs.laws.Correction.{Looked};
+ghost use Rattle.warning.specs.Changed.{spotOf, ownSpot, fieldOf};
 use crate::reading::Warning;
 use crate::reading::fields;
 use crate::reading::read;
 use change::correcting::Spot;
-use change::correcting::look_up;
-use change::correcting::look_up_from;
 
-// Where the fields of every warning stand, and their widths; then those of each body.
-const OFFSETS: [usize; 7] = [0, 6, 8, 60, 83, 156, 176];
+impl Warning {
+    // The numbers of the fields that may be corrected. Those of a body are fields of its type alone.
+    pub const REPEAT: usize = 1;
 
-const WIDTHS: [usize; 7] = [0, 2, 30, 23, 23, 20, 6];
+    pub const SOURCE: usize = 2;
 
-const CYCLONE_OFFSETS: [usize; 7] = [106, 109, 118, 127, 133, 142, 147];
+    pub const LONGITUDE: usize = 3;
 
-const CYCLONE_WIDTHS: [usize; 7] = [3, 9, 9, 6, 9, 5, 9];
+    pub const LATITUDE: usize = 4;
 
-const GALE_OFFSETS: [usize; 4] = [106, 114, 119, 124];
+    pub const TIME: usize = 5;
 
-const GALE_WIDTHS: [usize; 4] = [8, 5, 5, 4];
+    pub const HOURS: usize = 6;
 
-const WAVES_OFFSETS: [usize; 3] = [106, 114, 119];
+    pub const CYCLONE_KIND: usize = 7;
 
-const WAVES_WIDTHS: [usize; 3] = [8, 5, 13];
+    pub const CYCLONE_GALE_RADIUS: usize = 8;
 
-const FOG_OFFSETS: [usize; 2] = [106, 115];
+    pub const CYCLONE_STORM_RADIUS: usize = 9;
 
-const FOG_WIDTHS: [usize; 2] = [9, 8];
+    pub const CYCLONE_SPEED: usize = 10;
 
-const SURGE_OFFSETS: [usize; 4] = [106, 115, 124, 134];
+    pub const CYCLONE_DIRECTION: usize = 11;
 
-const SURGE_WIDTHS: [usize; 4] = [9, 9, 10, 13];
+    pub const CYCLONE_FORCE: usize = 12;
+
+    pub const CYCLONE_PRESSURE: usize = 13;
+
+    pub const GALE_RADIUS: usize = 14;
+
+    pub const GALE_LEAST: usize = 15;
+
+    pub const GALE_GREATEST: usize = 16;
+
+    pub const GALE_DIRECTION: usize = 17;
+
+    pub const WAVES_RADIUS: usize = 18;
+
+    pub const WAVES_HEIGHT: usize = 19;
+
+    pub const WAVES_PERIOD: usize = 20;
+
+    pub const FOG_RADIUS: usize = 21;
+
+    pub const FOG_VISIBILITY: usize = 22;
+
+    pub const SURGE_RADIUS: usize = 23;
+
+    pub const SURGE_RISE: usize = 24;
+
+    pub const SURGE_TIDE: usize = 25;
+
+    pub const SURGE_PERIOD: usize = 26;
+}
 
 // Makes field number `field` of the message be `value`, or leaves every byte.
 pub fn correct(buf: &mut [u8], field: usize, value: u64) -> u8
@@ -48,18 +76,90 @@ pub fn correct(buf: &mut [u8], field: usize, value: u64) -> u8
     change::correcting::finish(buf, begun, again.refusal())
 }
 
-// Where field number `field` stands in a warning of type `kind`.
+// Where each field that may be corrected stands in a warning of type `kind`, and its width.
 fn stands(kind: u64, field: usize) -> Spot
-    ensures { λ r. ⌜ Looked (kindOf kind) field (r .at) (r .width) ⌝ }
+    ensures { λ r. ⌜ StandsAt (spotOf (kindOf kind) (fieldOf kind field)) (r .at) (r .width) ⌝ }
 {
-    if field < Warning::CYCLONE {
-        return look_up(&OFFSETS, &WIDTHS, field);
+    match field {
+        Warning::REPEAT => Spot { at: 6, width: 2 },
+        Warning::SOURCE => Spot { at: 8, width: 30 },
+        Warning::LONGITUDE => Spot { at: 60, width: 23 },
+        Warning::LATITUDE => Spot { at: 83, width: 23 },
+        Warning::TIME => Spot { at: 156, width: 20 },
+        Warning::HOURS => Spot { at: 176, width: 6 },
+        _ => own(kind, field),
     }
+}
+
+// The same of a field of its body.
+fn own(kind: u64, field: usize) -> Spot
+    ensures { λ r. ⌜ StandsAt (ownSpot (kindOf kind) field) (r .at) (r .width) ⌝ }
+{
     match kind {
-        1 => look_up_from(Warning::CYCLONE, &CYCLONE_OFFSETS, &CYCLONE_WIDTHS, field),
-        2 => look_up_from(Warning::GALE, &GALE_OFFSETS, &GALE_WIDTHS, field),
-        3 => look_up_from(Warning::WAVES, &WAVES_OFFSETS, &WAVES_WIDTHS, field),
-        4 => look_up_from(Warning::FOG, &FOG_OFFSETS, &FOG_WIDTHS, field),
-        _ => look_up_from(Warning::SURGE, &SURGE_OFFSETS, &SURGE_WIDTHS, field),
+        1 => cyclone(field),
+        2 => gale(field),
+        3 => waves(field),
+        4 => fog(field),
+        _ => surge(field),
+    }
+}
+
+fn cyclone(field: usize) -> Spot
+    ensures { λ r. ⌜ StandsAt (ownSpot cyclone field) (r .at) (r .width) ⌝ }
+{
+    match field {
+        Warning::CYCLONE_KIND => Spot { at: 106, width: 3 },
+        Warning::CYCLONE_GALE_RADIUS => Spot { at: 109, width: 9 },
+        Warning::CYCLONE_STORM_RADIUS => Spot { at: 118, width: 9 },
+        Warning::CYCLONE_SPEED => Spot { at: 127, width: 6 },
+        Warning::CYCLONE_DIRECTION => Spot { at: 133, width: 9 },
+        Warning::CYCLONE_FORCE => Spot { at: 142, width: 5 },
+        Warning::CYCLONE_PRESSURE => Spot { at: 147, width: 9 },
+        _ => Spot { at: 0, width: 0 },
+    }
+}
+
+fn gale(field: usize) -> Spot
+    ensures { λ r. ⌜ StandsAt (ownSpot gale field) (r .at) (r .width) ⌝ }
+{
+    match field {
+        Warning::GALE_RADIUS => Spot { at: 106, width: 8 },
+        Warning::GALE_LEAST => Spot { at: 114, width: 5 },
+        Warning::GALE_GREATEST => Spot { at: 119, width: 5 },
+        Warning::GALE_DIRECTION => Spot { at: 124, width: 4 },
+        _ => Spot { at: 0, width: 0 },
+    }
+}
+
+fn waves(field: usize) -> Spot
+    ensures { λ r. ⌜ StandsAt (ownSpot waves field) (r .at) (r .width) ⌝ }
+{
+    match field {
+        Warning::WAVES_RADIUS => Spot { at: 106, width: 8 },
+        Warning::WAVES_HEIGHT => Spot { at: 114, width: 5 },
+        Warning::WAVES_PERIOD => Spot { at: 119, width: 13 },
+        _ => Spot { at: 0, width: 0 },
+    }
+}
+
+fn fog(field: usize) -> Spot
+    ensures { λ r. ⌜ StandsAt (ownSpot fog field) (r .at) (r .width) ⌝ }
+{
+    match field {
+        Warning::FOG_RADIUS => Spot { at: 106, width: 9 },
+        Warning::FOG_VISIBILITY => Spot { at: 115, width: 8 },
+        _ => Spot { at: 0, width: 0 },
+    }
+}
+
+fn surge(field: usize) -> Spot
+    ensures { λ r. ⌜ StandsAt (ownSpot surge field) (r .at) (r .width) ⌝ }
+{
+    match field {
+        Warning::SURGE_RADIUS => Spot { at: 106, width: 9 },
+        Warning::SURGE_RISE => Spot { at: 115, width: 9 },
+        Warning::SURGE_TIDE => Spot { at: 124, width: 10 },
+        Warning::SURGE_PERIOD => Spot { at: 134, width: 13 },
+        _ => Spot { at: 0, width: 0 },
     }
 }

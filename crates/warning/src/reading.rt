@@ -55,30 +55,6 @@ impl Warning {
     pub const LEAST: usize = Warning::BITS / 8;
 
     pub const GREATEST: usize = Warning::BITS / 8;
-
-    // The fields that may be corrected. One of a body may be where the warning has that body, else it is no field of it.
-    pub const REPEAT: usize = 1;
-
-    pub const SOURCE: usize = 2;
-
-    pub const LONGITUDE: usize = 3;
-
-    pub const LATITUDE: usize = 4;
-
-    pub const TIME: usize = 5;
-
-    pub const HOURS: usize = 6;
-
-    // The first number of each body; its others follow in the paper's order.
-    pub const CYCLONE: usize = 7;
-
-    pub const GALE: usize = 14;
-
-    pub const WAVES: usize = 18;
-
-    pub const FOG: usize = 21;
-
-    pub const SURGE: usize = 23;
 }
 
 pub const MESSAGE: u64 = 8;

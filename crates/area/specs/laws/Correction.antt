@@ -1,44 +1,24 @@
--- An area with one field changed has the values with that one changed, and where its fields stand is a table by their numbers. Assumes nothing.
-use mathlib.Core.Path.{_≡_, refl, sym, ap, _∙_}
+-- An area with one field changed has the values with that one changed, and its fields stand where `spots` says, whatever their numbers. Assumes nothing.
+use mathlib.Core.Path.{_≡_, refl, sym, ap, _∙_, subst⁻¹}
 use mathlib.Core.Bool.{true, cond}
 use mathlib.Core.List.{List, [], _∷_}
 use Prim.Native.Nat.{ℕ, _≤_, _<_, _^_}
-use lib.Dec.{eqb, lit≤}
+use lib.Dec.{eqb, ltb, lit≤}
 use lib.IntN.{ℤ}
-use lib.ListN.{length, getD, set}
+use lib.ListN.{getD, set}
 use Rattle.walk.specs.laws.Sign.{spell-int}
-use Rattle.format.specs.Correcting.{standing, entryOf}
-use Rattle.format.specs.Fmt.{none, found, spot}
+use Rattle.format.specs.Correcting.{entryOf}
+use Rattle.format.specs.Fmt.{Spot, none, found, spot}
 use Rattle.format.specs.Words.{wide}
-use Rattle.format.specs.laws.Spots.{spotsAlong, spot-along, rows, slim, eachAt, set-each, kept-entry, spelled-entry, picks, numbered-stands, numbered-slim}
+use Rattle.format.specs.laws.Spots.{spotsAlong, spot-along, eachAt, set-each, kept-entry, spelled-entry, Unnamed, picks, common-at, not-common, not-own}
 use Rattle.ais_common.specs.Time.{spellTime, timeOf, spellShort, shortOf}
 use Rattle.ais_common.specs.laws.Spelling.{spell-time, spell-short}
 use Rattle.area.specs.Area.{area, areas, headed, valuesAs, valuesOf}
-use Rattle.area.specs.Changed.{spots, spotOf, common, own, first, changedShape, changed}
+use Rattle.area.specs.Changed.{spots, spotOf, common, own, first, ownSpot, changedShape, changed}
 use Rattle.area.specs.Shapes.{Kind, circle, rectangle, typeOf, spellEast, spellNorth, eastOf, northOf, shapeKind, shapeValues}
 use Rattle.area.specs.declared.reading.Area.{Area}
 use Rattle.area.specs.declared.reading.shapes.Shape.{Shape}
 use Rattle.area.specs.declared.reading.shapes.Shape.the-variants.{Circle, Rectangle}
-
--- ---- the tables of the fields' numbers: every area's, and those of its shape
-
-abbrev offsets : List ℕ
-offsets = 0 ∷ 6 ∷ 8 ∷ 38 ∷ 40 ∷ 70 ∷ 88 ∷ 94 ∷ 122 ∷ 204 ∷ 224 ∷ 238 ∷ []
-
-abbrev widths : List ℕ
-widths = 0 ∷ 2 ∷ 30 ∷ 2 ∷ 30 ∷ 1 ∷ 4 ∷ 28 ∷ 27 ∷ 20 ∷ 14 ∷ 4 ∷ []
-
-abbrev pub ownOffsets : Kind → List ℕ
-ownOffsets circle = 149 ∷ []
-ownOffsets rectangle = 149 ∷ 177 ∷ []
-
-abbrev pub ownWidths : Kind → List ℕ
-ownWidths circle = 7 ∷ []
-ownWidths rectangle = 28 ∷ 27 ∷ []
-
--- what the tables have for the field of number n in an area of shape t
-abbrev pub Looked : Kind → ℕ → ℕ → ℕ → Type 0
-Looked t n p w = (p ≡ entryOf 12 offsets (first t) (ownOffsets t) n) × (w ≡ entryOf 12 widths (first t) (ownWidths t) n)
 
 -- where each field stands hangs on the kind of shape alone
 along : (r : Area) → spotsAlong (areas .fmt) [] (valuesOf r) 0 ≡ spots (shapeKind (r .shape))
@@ -49,25 +29,30 @@ along r = go (r .shape)
     go (Circle b) = refl
     go (Rectangle b) = refl
 
--- the tables have the fields of either shape
-tabled : (t : Kind) → (length (ownOffsets t) ≡ length (ownWidths t)) × (picks (spots t) common ≡ rows offsets widths) × (picks (spots t) (own t) ≡ rows (ownOffsets t) (ownWidths t)) × (slim (ownWidths t) ≡ true)
-unfolding picks rows slim
-tabled circle = (refl, refl, refl, refl)
-tabled rectangle = (refl, refl, refl, refl)
-
-module _ (t : Kind) (n : ℕ) {p w : ℕ} (looked-up : Looked t n p w) where
-  pub stands : (r : Area) → t ≡ shapeKind (r .shape) → spot (areas .fmt) [] (valuesOf r) (entryOf 12 common (first t) (own t) n) ≡ standing p w
-  stands r e =
-      let (long, every, shape, narrow) = tabled t in
-      let is = along r ∙ ap spots (sym e) in
-      numbered-stands 12 (first t) n offsets widths (ownOffsets t) (ownWidths t) looked-up (areas .fmt) (valuesOf r) common (own t) refl long (ap (λ l. getD l 0 none) is) (ap (λ l. picks l common) is ∙ every) (ap (λ l. picks l (own t)) is ∙ shape)
-
-  pub thin : w ≤ 32
-  unfolding slim
-  thin = numbered-slim 12 (first t) n {p = p} offsets widths (ownOffsets t) (ownWidths t) looked-up refl (tabled t .3)
-
 pub spotted : (r : Area) (i : ℕ) → spot (areas .fmt) [] (valuesOf r) i ≡ spotOf (shapeKind (r .shape)) i
 spotted r i = spot-along (areas .fmt) (valuesOf r) i ∙ ap (λ t. getD t i none) (along r)
+
+-- ---- by number
+
+-- the fields that every area has
+abbrev pub named : List Spot
+named =
+    none ∷ found 6 2 ∷ found 8 30 ∷ found 38 2 ∷ found 40 30 ∷ found 70 1 ∷ found 88 4 ∷ found 94 28 ∷ found 122 27 ∷ found 204 20 ∷ found 224 14 ∷ found 238 4 ∷ []
+
+every : (t : Kind) → (picks (spots t) common ≡ named) × (12 ≤ first t)
+unfolding picks
+every circle = (refl, lit≤ tt)
+every rectangle = (refl, lit≤ tt)
+
+module _ (t : Kind) (n : ℕ) where
+  pub common-found : (m : ℕ) → n ≡ m → ltb m 12 ≡ true → spotOf t (entryOf 12 common (first t) (own t) n) ≡ getD named m none
+  common-found m e below = common-at (spots t) 12 (first t) common (own t) refl n m e below ∙ ap (λ l. getD l m none) (every t .0)
+
+  pub not-every : Unnamed Unit named 0 n → spotOf t (entryOf 12 common (first t) (own t) n) ≡ ownSpot t n
+  not-every x = not-common (spots t) 12 (first t) common (own t) refl n (every t .1) (subst⁻¹ (λ l. Unnamed Unit l 0 n) (every t .0) x)
+
+  pub not-named : Unnamed Unit (picks (spots t) (own t)) (first t) n → ownSpot t n ≡ none
+  not-named x = not-own (spots t) 12 (first t) common (own t) refl n x
 
 -- ---- the changed record
 

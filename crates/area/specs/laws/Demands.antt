@@ -11,8 +11,7 @@ use Rattle.bits.specs.Answers.{got}
 use Rattle.bits.specs.Bits.{Bytes, fieldAt}
 use Rattle.bits.specs.laws.Answers.{got-fits}
 use Rattle.walk.specs.laws.Sign.{spell-int}
-use Rattle.format.specs.Correcting.{standing}
-use Rattle.format.specs.Fmt.{accepted, end, spot}
+use Rattle.format.specs.Fmt.{Spot, accepted, end, spot}
 use Rattle.format.specs.Settled.{Settled}
 use Rattle.format.specs.Promises.{readRecord, Writes, Corrects}
 use Rattle.format.specs.Words.{_‥_, num, fill, wide}
@@ -30,7 +29,7 @@ use Rattle.area.specs.Area.{tail, area, areas, valuesAs, valuesOf, recor
 use Rattle.area.specs.Changed.{spotOf, fieldOf, changed, namedBy, spotBy, changedBy}
 use Rattle.area.specs.Promises.{Reads}
 use Rattle.area.specs.Shapes.{Kind, circle, rectangle, kindOf, typeOf, shape, shapeKind, shapeValues, shapeOf}
-use Rattle.area.specs.laws.Correction.{Looked, stands, spotted, changed-values}
+use Rattle.area.specs.laws.Correction.{spotted, changed-values}
 use Rattle.area.specs.laws.Sound.{front, bytes, shape-at, sound}
 use Rattle.area.specs.laws.Told.{recorded, kind-type}
 use Rattle.area.specs.Steps.{Narrow}
@@ -183,14 +182,15 @@ shape-number : (s : List ℕ) (r : Area) → Bytes s → readRecord areas record
 unfolding areas valuesAs
 shape-number s r fine e = let m = read-values family s r fine e .0 in shape-at s (valuesOf r) (was areas s (valuesOf r) m .walked)
 
--- the field of number n, looked up by the shape's number k that the code found there, stands where the tables say
-pub looked-stands : (s : List ℕ) (n k : ℕ) {p w : ℕ} → Bytes s → k ≡ got s 92 2 → Looked (kindOf k) n p w
-    → (r : Area) → readRecord areas recordOf s ≡ accepted r → spot (areas .fmt) [] (valuesOf r) (fieldOf (fieldAt s 92 2) n) ≡ standing p w
+-- the field of number n, found by the shape's number k that the code read there, stands where it was found
+pub looked-stands : (s : List ℕ) (n k : ℕ) {x : Spot} → Bytes s → k ≡ got s 92 2 → spotOf (kindOf k) (fieldOf k n) ≡ x
+    → (r : Area) → readRecord areas recordOf s ≡ accepted r → spot (areas .fmt) [] (valuesOf r) (fieldOf (fieldAt s 92 2) n) ≡ x
 unfolding areas
-looked-stands s n k fine is l r e =
+looked-stands s n k fine is there r e =
     let m = was areas s (valuesOf r) (read-values family s r fine e .0) .walked in
-    let found-so = is ∙ got-fits s 92 2 (lit≤ tt) (omega (arith, bytes s (valuesOf r) m)) in
-    ap (λ t. spot (areas .fmt) [] (valuesOf r) (fieldOf t n)) (sym found-so) ∙ stands (kindOf k) n l r (ap kindOf (found-so ∙ shape-number s r fine e) ∙ kind-type (shapeKind (r .shape)))
+    let shape = is ∙ got-fits s 92 2 (lit≤ tt) (omega (arith, bytes s (valuesOf r) m)) in
+    let kind = ap kindOf (shape ∙ shape-number s r fine e) ∙ kind-type (shapeKind (r .shape)) in
+    ap (λ t. spot (areas .fmt) [] (valuesOf r) (fieldOf t n)) (sym shape) ∙ spotted r (fieldOf k n) ∙ ap (λ t. spotOf t (fieldOf k n)) (sym kind) ∙ there
 
 -- Demand 3: every correction of an area, by any number and any value.
 pub corrected : (s : List ℕ) (a : Answer) → Bytes s → Reads s a → (n v code : ℕ) (t : List ℕ) → Corrects areas s (fieldOf (fieldAt s 92 2) n) v code t

@@ -1,14 +1,14 @@
--- Where the fields of a message stand, as a list and as a table in which code looks one up; and a list with one value changed is the list changed entry by entry: for a family's changed record. Assumes nothing.
-use mathlib.Core.Path.{_≡_, refl, sym, ap, _∙_}
-use mathlib.Core.Bool.{Bool, true, false, cond, _&&_, false≢true}
+-- Where the fields of a message stand, and that a number which names none finds nothing; and a list with one value changed is the list changed entry by entry: for a family's changed record. Assumes nothing.
+use mathlib.Core.Path.{_≡_, refl, sym, ap, _∙_, subst}
+use mathlib.Core.Bool.{Bool, true, false, cond}
 use mathlib.Core.List.{List, [], _∷_}
 use Prim.Native.Nat.{ℕ, zero, suc, _+_, _-_, _^_, _≤_, _<_}
 use native.Mathlib.Nat.{add-zero, zero-add, add-assoc}
 use native.Mathlib.Omega.{arith}
-use borrow.Author.Tests.{eq-eqb, ne-eqb, eqb-true, leb-true}
-use lib.Dec.{eqb, leb, ltb}
-use lib.ListN.{length, getD, set}
-use Rattle.format.specs.Correcting.{standing, entryOf}
+use borrow.Author.Tests.{eq-eqb, ne-eqb, eqb-true, lt-ltb, ltb-true, ltb-false}
+use lib.Dec.{eqb, ltb}
+use lib.ListN.{getD, set}
+use Rattle.format.specs.Correcting.{entryFrom, entryOf}
 use Rattle.format.specs.laws.Correct.{none-clash}
 use Rattle.format.specs.Fmt.{Fmt, end, field, choice, bytes, Spot, none, found, later, where?, spot}
 
@@ -79,45 +79,31 @@ spelled-entry spell of spotOf i v {p} {w} e l k q u s back old = go (eqb i k) re
         back (rw n at l)
     go false z = refl
 
--- ---- a table of offsets and widths, in which code looks a field up
+-- ---- fields that code finds by their names
 
--- the spots of the table's rows
-unfoldable pub rows : List ℕ → List ℕ → List Spot
-rows [] ws = []
-rows (p ∷ ps) [] = []
-rows (p ∷ ps) (w ∷ ws) = standing p w ∷ rows ps ws
+-- that the number i is none of those that name a field of l, of which the first has the number k; and A
+unfoldable pub Unnamed : Type 0 → List Spot → ℕ → ℕ → Type 0
+Unnamed A [] k i = A
+Unnamed A (none ∷ l) k i = Unnamed A l (suc k) i
+Unnamed A (found p w ∷ l) k i = Unnamed (A × (i ≡ k → ⊥)) l (suc k) i
 
-pub row-at : (ps ws : List ℕ) (i : ℕ) → length ps ≡ length ws → standing (getD ps i 0) (getD ws i 0) ≡ getD (rows ps ws) i none
-unfolding rows
-row-at [] [] i e = refl
-row-at [] (w ∷ ws) i e = absurd (omega arith)
-row-at (p ∷ ps) [] i e = absurd (omega arith)
-row-at (p ∷ ps) (w ∷ ws) zero e = refl
-row-at (p ∷ ps) (w ∷ ws) (suc i) e = row-at ps ws i (omega arith)
+besides : (A : Type 0) (l : List Spot) (k i : ℕ) → Unnamed A l k i → A
+unfolding Unnamed
+besides A [] k i x = x
+besides A (none ∷ l) k i x = besides A l (suc k) i x
+besides A (found p w ∷ l) k i x = besides (A × (i ≡ k → ⊥)) l (suc k) i x .0
 
-unfoldable pub slim : List ℕ → Bool
-slim [] = true
-slim (w ∷ ws) = leb w 32 && slim ws
+unnamed-from : (A : Type 0) (l : List Spot) (k j : ℕ) → Unnamed A l k (j + k) → getD l j none ≡ none
+unfolding Unnamed
+unnamed-from A [] k j x = refl
+unnamed-from A (none ∷ l) k zero x = refl
+unnamed-from A (none ∷ l) k (suc j) x = unnamed-from A l (suc k) j (subst (Unnamed A l (suc k)) (omega arith) x)
+unnamed-from A (found p w ∷ l) k zero x = absurd (besides (A × (0 + k ≡ k → ⊥)) l (suc k) (0 + k) x .1 (zero-add k))
+unnamed-from A (found p w ∷ l) k (suc j) x = let B = A × (suc j + k ≡ k → ⊥) in unnamed-from B l (suc k) j (subst (Unnamed B l (suc k)) (omega arith) x)
 
-slim-at : (ws : List ℕ) (i : ℕ) → slim ws ≡ true → getD ws i 0 ≤ 32
-unfolding slim
-slim-at [] i e = omega arith
-slim-at (w ∷ ws) i e = each (leb w 32) refl i e (λ i e. slim-at ws i e)
-  where
-    each : (x : Bool) → leb w 32 ≡ x → (i : ℕ) → (x && slim ws) ≡ true → ((i : ℕ) → slim ws ≡ true → getD ws i 0 ≤ 32) → getD (w ∷ ws) i 0 ≤ 32
-    each true f zero e rest = leb-true w 32 f
-    each true f (suc i) e rest = rest i e
-    each false f i e rest = absurd (false≢true e)
-
--- The field i looked up in the table of ps and ws.
-module _ (ps ws : List ℕ) (i : ℕ) {p w : ℕ} (looked-up : (p ≡ getD ps i 0) × (w ≡ getD ws i 0)) where
-  -- It stands where the table says, if that is where the fields of vs stand.
-  pub table-stands : (f : Fmt) (vs : List ℕ) → length ps ≡ length ws → spotsAlong f [] vs 0 ≡ rows ps ws → spot f [] vs i ≡ standing p w
-  table-stands f vs n e =
-      spot-along f vs i ∙ ap (λ t. getD t i none) e ∙ sym (row-at ps ws i n) ∙ rw (← looked-up .0, ← looked-up .1) refl
-
-  pub table-slim : slim ws ≡ true → w ≤ 32
-  table-slim e = rw (looked-up .1) (slim-at ws i e)
+-- Such a number finds nothing.
+pub unnamed : (l : List Spot) (i : ℕ) → Unnamed Unit l 0 i → getD l i none ≡ none
+unnamed l i x = unnamed-from Unit l 0 i (subst (Unnamed Unit l 0) (sym (add-zero i)) x)
 
 -- ---- fields that have numbers of their own, which name them in every kind of message
 
@@ -133,29 +119,23 @@ pick-at l [] n e = sym e
 pick-at l (i ∷ is) zero e = refl
 pick-at l (i ∷ is) (suc n) e = pick-at l is n e
 
--- The field of number n looked up in two tables: below k in that of every message, of ps and ws, and else in that of one kind of message, whose numbers begin with `first`. The fields that
--- the numbers name in the layout are `is` and `is′`.
-module _ (k first n : ℕ) {p w : ℕ} (ps ws ps′ ws′ : List ℕ) (looked-up : (p ≡ entryOf k ps first ps′ n) × (w ≡ entryOf k ws first ws′ n)) where
-  pub numbered-stands : (f : Fmt) (vs is is′ : List ℕ) → length ps ≡ length ws → length ps′ ≡ length ws′ → let l = spotsAlong f [] vs 0 in
-      getD l 0 none ≡ none → picks l is ≡ rows ps ws → picks l is′ ≡ rows ps′ ws′ → spot f [] vs (entryOf k is first is′ n) ≡ standing p w
-  numbered-stands f vs is is′ long long′ blank e e′ = spot-along f vs (entryOf k is first is′ n) ∙ rw (looked-up .0, looked-up .1) (go (ltb n k) (ltb n first))
+-- The numbers below k name the fields `is` of every message, and those from `first` on the fields `is′` of one kind of message.
+module _ (l : List Spot) (k first : ℕ) (is is′ : List ℕ) (blank : getD l 0 none ≡ none) where
+  pub common-at : (n m : ℕ) → n ≡ m → ltb m k ≡ true → getD l (entryOf k is first is′ n) none ≡ getD (picks l is) m none
+  common-at n m e below = rw (e, below) (sym (pick-at l is m blank))
+
+  -- a number that names none of every message's is one of the kind's own, or names nothing
+  pub not-common : (n : ℕ) → k ≤ first → Unnamed Unit (picks l is) 0 n → getD l (entryOf k is first is′ n) none ≡ getD l (entryFrom first is′ n) none
+  not-common n h x = go (ltb n k) refl
     where
-      all : List Spot
-      all = spotsAlong f [] vs 0
+      go : (b : Bool) → ltb n k ≡ b → getD l (cond b (getD is n 0) (entryFrom first is′ n)) none ≡ getD l (entryFrom first is′ n) none
+      go true e = sym (pick-at l is n blank) ∙ unnamed (picks l is) n x ∙ rw (lt-ltb n first (omega (arith, ltb-true n k e, h))) (sym blank)
+      go false e = refl
 
-      row : (is ps ws : List ℕ) (n : ℕ) → length ps ≡ length ws → picks all is ≡ rows ps ws → getD all (getD is n 0) none ≡ standing (getD ps n 0) (getD ws n 0)
-      row is ps ws n long e = sym (pick-at all is n blank) ∙ ap (λ t. getD t n none) e ∙ sym (row-at ps ws n long)
-
-      go : (x y : Bool) → getD all (cond x (getD is n 0) (cond y 0 (getD is′ (n - first) 0))) none
-          ≡ standing (cond x (getD ps n 0) (cond y 0 (getD ps′ (n - first) 0))) (cond x (getD ws n 0) (cond y 0 (getD ws′ (n - first) 0)))
-      go true y = row is ps ws n long e
-      go false true = blank
-      go false false = row is′ ps′ ws′ (n - first) long′ e′
-
-  pub numbered-slim : slim ws ≡ true → slim ws′ ≡ true → w ≤ 32
-  numbered-slim e e′ = rw (looked-up .1) (go (ltb n k) (ltb n first))
+  -- such a one that names none of the kind's own finds nothing
+  pub not-own : (n : ℕ) → Unnamed Unit (picks l is′) first n → getD l (entryFrom first is′ n) none ≡ none
+  not-own n x = go (ltb n first) refl
     where
-      go : (x y : Bool) → cond x (getD ws n 0) (cond y 0 (getD ws′ (n - first) 0)) ≤ 32
-      go true y = slim-at ws n e
-      go false true = omega arith
-      go false false = slim-at ws′ (n - first) e′
+      go : (b : Bool) → ltb n first ≡ b → getD l (cond b 0 (getD is′ (n - first) 0)) none ≡ none
+      go true e = blank
+      go false e = sym (pick-at l is′ (n - first) blank) ∙ unnamed-from Unit (picks l is′) first (n - first) (subst (Unnamed Unit (picks l is′) first) (omega (arith, ltb-false n first e)) x)

@@ -1,30 +1,19 @@
--- The frame GLJC with one field changed has the values with that one changed, and where its fields stand is a table. Assumes nothing.
-use mathlib.Core.Path.{_≡_, refl, sym, ap, _∙_}
+-- The frame GLJC with one field changed has the values with that one changed, and its fields stand where `spots` says. Assumes nothing.
+use mathlib.Core.Path.{_≡_, refl, sym, _∙_}
 use mathlib.Core.Bool.{cond}
-use mathlib.Core.List.{List, [], _∷_}
+use mathlib.Core.List.{[], _∷_}
 use Prim.Native.Nat.{ℕ}
 use lib.Dec.{eqb}
-use lib.ListN.{getD, set}
-use Rattle.format.specs.Fmt.{spot, none, found}
-use Rattle.format.specs.laws.Spots.{spotsAlong, spot-along, rows, eachAt, set-each, kept-entry}
+use lib.ListN.{set}
+use Rattle.format.specs.Fmt.{spot, found}
+use Rattle.format.specs.laws.Spots.{spotsAlong, spot-along, eachAt, set-each, kept-entry}
 use Rattle.gljc.specs.Changed.{spotOf, changed}
 use Rattle.gljc.specs.Gljc.{letters, gljc, gljcs, valuesOf}
 use Rattle.gljc.specs.declared.reading.Gljc.{Gljc}
 
-abbrev pub offsets : List ℕ
-offsets = 0 ∷ 8 ∷ 40 ∷ 56 ∷ 80 ∷ []
-
-abbrev pub widths : List ℕ
-widths = 0 ∷ 0 ∷ 0 ∷ 24 ∷ 8 ∷ []
-
--- where each field stands is the same in every frame, and so the table that the code looks in
-pub along : (r : Gljc) → spotsAlong (gljcs .fmt) [] (valuesOf r) 0 ≡ rows offsets widths
-unfolding gljcs gljc valuesOf spotsAlong rows
-along r = refl
-
 pub spotted : (r : Gljc) (i : ℕ) → spot (gljcs .fmt) [] (valuesOf r) i ≡ spotOf i
-unfolding rows
-spotted r i = spot-along (gljcs .fmt) (valuesOf r) i ∙ ap (λ t. getD t i none) (along r)
+unfolding gljcs gljc valuesOf spotsAlong
+spotted r i = spot-along (gljcs .fmt) (valuesOf r) i
 
 -- The changed record has the changed list of values.
 pub changed-values : (r : Gljc) (i v p w : ℕ) → spotOf i ≡ found p w → valuesOf (changed i v r) ≡ set (valuesOf r) i v

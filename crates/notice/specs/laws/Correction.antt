@@ -5,14 +5,14 @@ use mathlib.Core.List.{List, [], _∷_, _++_}
 use Prim.Native.Nat.{ℕ, zero, suc, _+_, _-_, _<_}
 use native.Mathlib.Omega.{arith}
 use borrow.Author.Tests.{leb-true, leb-false}
-use lib.Dec.{eqb, leb, lit<}
+use lib.Dec.{eqb, leb, ltb, lit<}
 use lib.ListN.{length, drop, getD, set, length-append, length-drop, length-set, List·getD-append}
 use lib.Seq.{set-append-left, take-at}
 use Rattle.bits.specs.Bits.{Bytes}
 use Rattle.format.specs.Fmt.{end, Spot, none, found, spot}
 use Rattle.format.specs.laws.Correct.{none-clash}
 use Rattle.format.specs.laws.Past.{Past, past-filled, past-found, filled-set}
-use Rattle.format.specs.laws.Spots.{spotsAlong, spot-along, eachAt, set-each, each-past, each-from, kept-entry}
+use Rattle.format.specs.laws.Spots.{spotsAlong, spot-along, eachAt, set-each, each-past, each-from, kept-entry, Unnamed, unnamed}
 use Rattle.notice_fields.specs.Row.{areasLong, areasTold}
 use Rattle.notice_fields.specs.Spots.{areaSpots}
 use Rattle.notice_fields.specs.laws.Past.{areas-past, areas-filled}
@@ -21,6 +21,7 @@ use Rattle.notice_fields.specs.laws.Spots.{areas-spots}
 use Rattle.notice.specs.Changed.{spots, spotOf, changed}
 use Rattle.notice.specs.Notice.{text, rest, notice}
 use Rattle.notice.specs.Record.{Whole, headed, texted, valuesOf}
+use Rattle.notice.specs.declared.reading.Notice.{Notice}
 use Rattle.notice.specs.laws.Listed.{two}
 
 -- a row of the numbers that its counts and kinds ask for, and a text of bytes
@@ -28,6 +29,17 @@ abbrev pub Lent : Whole → Type 0
 Lent x = (areasLong (x .0 .count) (x .1 .0) ≡ length (x .1 .0)) × Bytes (x .1 .1)
 
 -- ---- where fields stand
+
+-- the head's, the same whatever follows
+pub head-stands : (english : Bool) (r : Notice) (us : List ℕ) (i : ℕ) → i < 8 → spot (notice english) [] (headed r us) i ≡ getD spots i none
+unfolding notice spotsAlong
+head-stands english r us i l =
+    let before = r .count ∷ r .expiry ∷ r .subtype ∷ r .kind ∷ r .year ∷ r .serial ∷ r .station ∷ r .source ∷ [] in
+    spot-along (notice english) (headed r us) i ∙ List·getD-append spots (spotsAlong (rest english (r .count)) before us 63) none i l
+
+-- a number that names none of them is one behind it, or finds nothing
+pub not-head : (i : ℕ) (x : Spot) → Unnamed Unit spots 0 i → cond (ltb i 8) (getD spots i none) x ≡ cond (ltb i 8) none x
+not-head i x z = ap (λ y. cond (ltb i 8) y x) (unnamed spots i z)
 
 -- nothing that may be corrected stands behind the areas
 unplaced : (l : List Spot) (i : ℕ) → getD (l ++ (none ∷ none ∷ [])) i none ≡ getD l i none

@@ -4,13 +4,13 @@ use mathlib.Core.Bool.{Bool, true, false, cond, _&&_}
 use mathlib.Core.List.{List, [], _∷_, _++_}
 use Prim.Native.Nat.{ℕ, _+_, _-_, _*_, _≤_, _<_}
 use native.Mathlib.Omega.{arith}
-use lib.Dec.{leb, eqb}
+use lib.Dec.{leb, ltb, eqb}
 use lib.ListN.{length, take, drop, getD, length-append}
 use lib.Seq.{sets-eq, take-at, getD-drop, getD-append-add}
 use native.Mathlib.Nat.{zero-add}
-use borrow.Author.Tests.{le-leb, lt-leb, leb-true, eqb-true, eqb-false}
+use borrow.Author.Tests.{le-leb, lt-leb, leb-true, ltb-true, eqb-true, eqb-false}
 use Rattle.bits.specs.Bits.{Bytes, valueOf, bitsOf}
-use Rattle.format.specs.Fmt.{accepted, refused, check, also, spot}
+use Rattle.format.specs.Fmt.{accepted, refused, check, also, none, spot}
 use Rattle.format.specs.Message.{between, fault, codeOf, readMessage, ahead}
 use Rattle.format.specs.Promises.{readRecord}
 use Rattle.bits.specs.Bits.{bytesAt}
@@ -30,6 +30,8 @@ use Rattle.notice_fields.specs.Shapes.{filled}
 use Rattle.packet.specs.Packet.{joined}
 use Rattle.notice.specs.Notice.{notice, notices, sizes}
 use Rattle.notice.specs.Steps.{fieldsRead, openingOf, endingOf, unreadBy, behind, courseOf}
+use Rattle.notice.specs.Changed.{spots}
+use Rattle.notice.specs.laws.Correction.{head-stands}
 use Rattle.notice.specs.laws.Opening.{opened}
 use Rattle.notice.specs.laws.Closing.{closed}
 use Rattle.notice.specs.declared.reading.Course.{Course}
@@ -162,12 +164,19 @@ module _ (english : Bool) (i : ℕ) (s : List ℕ) (f : Course) (d : f ≡ cours
       go true t = let z = eqb-true (f .walk .code) 0 t in z ∙ sym (ap codeOf (x .walked .so ∙ clear (f .walk) _ z))
       go false t = sym (ap codeOf (walked-bad (eqb-false (f .walk .code) 0 t)))
 
-  -- where the field i of a notice that was read stands, by the walk that sought it
-  pub stands : (vs : List ℕ) → readMessage (notices english) s ≡ accepted vs → spot (notice english) [] vs i ≡ standing (f .walk .spot) (f .walk .width)
+  -- where the field i of a notice that was read stands: in the head, or where the walk found it
+  pub stands : (vs : List ℕ) → readMessage (notices english) s ≡ accepted vs → spot (notice english) [] vs i ≡ cond (ltb i 8) (getD spots i none) (standing (f .walk .spot) (f .walk .width))
   stands vs a =
       let c : f .walk .code ≡ 0 = walked-code ∙ ap codeOf a in
       let same = accepted-inj (sym (x .walked .so ∙ clear (f .walk) _ c) ∙ a) in
-      ap (λ vs. spot (notice english) [] vs i) (sym same) ∙ x .walked .spots c
+      ap (λ vs. spot (notice english) [] vs i) (sym same) ∙ go c (ltb i 8) refl
+    where
+      whole : List ℕ
+      whole = headed (f .notice) (areasAt s (f .notice .count) front ++ texted (bytesAt s (f .at) (f .text)))
+
+      go : f .walk .code ≡ 0 → (b : Bool) → ltb i 8 ≡ b → spot (notice english) [] whole i ≡ cond b (getD spots i none) (standing (f .walk .spot) (f .walk .width))
+      go c true e = head-stands english (f .notice) _ i (ltb-true i 8 e)
+      go c false e = x .walked .spots c
 
   -- what was read has a good size, and so has all that is as long
   pub fields-again : f .walk .code ≡ 0 → (t : List ℕ) → length t ≡ length s → readMessage (notices english) t ≡ fieldsRead english t

@@ -1,31 +1,20 @@
--- The packet with one field changed has the values with that one changed, and where its fields stand is a table. Assumes nothing.
-use mathlib.Core.Path.{_≡_, refl, sym, ap, _∙_}
+-- The packet with one field changed has the values with that one changed, and its fields stand where `spots` says. Assumes nothing.
+use mathlib.Core.Path.{_≡_, refl, sym, _∙_}
 use mathlib.Core.Bool.{cond}
 use mathlib.Core.List.{List, [], _∷_}
 use Prim.Native.Nat.{ℕ}
 use lib.Dec.{eqb}
-use lib.ListN.{length, getD, set}
+use lib.ListN.{length, set}
 use Rattle.bits.specs.Bits.{valueOf, bitsOf}
-use Rattle.format.specs.Fmt.{spot, none, found}
-use Rattle.format.specs.laws.Spots.{spotsAlong, spot-along, rows, eachAt, set-each, kept-entry}
+use Rattle.format.specs.Fmt.{spot, found}
+use Rattle.format.specs.laws.Spots.{spotsAlong, spot-along, eachAt, set-each, kept-entry}
 use Rattle.packet.specs.Changed.{spotOf, changed}
 use Rattle.packet.specs.Packet.{version, packet, packets, valuesOf}
 use Rattle.packet.specs.declared.reading.Packet.{Packet}
 
-abbrev pub offsets : List ℕ
-offsets = 0 ∷ 8 ∷ 11 ∷ 12 ∷ 20 ∷ 26 ∷ 32 ∷ 32 ∷ []
-
-abbrev pub widths : List ℕ
-widths = 0 ∷ 0 ∷ 1 ∷ 8 ∷ 6 ∷ 6 ∷ 0 ∷ 0 ∷ []
-
--- where each field stands is the same in every packet, and so the table that the code looks in
-pub along : (r : Packet × List ℕ) → spotsAlong (packets .fmt) [] (valuesOf r) 0 ≡ rows offsets widths
-unfolding packets packet valuesOf spotsAlong rows
-along r = refl
-
 pub spotted : (r : Packet × List ℕ) (i : ℕ) → spot (packets .fmt) [] (valuesOf r) i ≡ spotOf i
-unfolding rows
-spotted r i = spot-along (packets .fmt) (valuesOf r) i ∙ ap (λ t. getD t i none) (along r)
+unfolding packets packet valuesOf spotsAlong
+spotted r i = spot-along (packets .fmt) (valuesOf r) i
 
 -- The changed record has the changed list of values.
 pub changed-values : (x : Packet × List ℕ) (i v p w : ℕ) → spotOf i ≡ found p w → valuesOf (changed i v x) ≡ set (valuesOf x) i v

@@ -5,13 +5,14 @@ use mathlib.Core.List.{List, [], _∷_}
 use Prim.Native.Nat.{ℕ, zero, suc, _+_, _-_, _*_, _/_, _≤_, _<_}
 use native.Mathlib.Nat.{add-zero}
 use native.Mathlib.Omega.{arith}
+use borrow.Author.Tests.{le-ltb}
 use lib.Dec.{eqb, ltb}
-use lib.ListN.{getD, set, drop, List·getD-append}
+use lib.ListN.{getD, set}
 use lib.Seq.{getD-drop}
 use Rattle.format.specs.Correcting.{standing}
 use Rattle.format.specs.Fmt.{accepted, Spot, none, found, later, where?, spot}
 use Rattle.format.specs.Promises.{readRecord}
-use Rattle.format.specs.laws.Spots.{spotsAlong, spot-along, rows, row-at, slim, table-slim, eachAt, set-each, kept-entry}
+use Rattle.format.specs.laws.Spots.{spotsAlong, spot-along, eachAt, set-each, kept-entry}
 use Rattle.txhz.specs.Changed.{receiptSpots, spots, spotOf, changedReceipt, changed}
 use Rattle.txhz.specs.Promises.{Reads}
 use Rattle.txhz.specs.Txhz.{letters, times, txhz, txhzs, valuesOf, recordOf, answerOf, countOf}
@@ -38,24 +39,23 @@ pub spotted : (r : Txhz) (i : ℕ) → spot (txhzs .fmt) [] (valuesOf r) i ≡ s
 spotted r i = spot-along (txhzs .fmt) (valuesOf r) i ∙ ap (λ t. getD t i none) (along r)
 
 -- the field i, found at p with w bits by as many receipts as the answer of reading s counts
-pub looked-stands : (s : List ℕ) (i p w : ℕ) {was : Answer} {n : ℕ} → Reads s was → n ≡ countOf was → standing p w ≡ getD (spots n) i none
+pub looked-stands : (s : List ℕ) (i p w : ℕ) {was : Answer} {n : ℕ} → Reads s was → n ≡ countOf was → getD (spots n) i none ≡ standing p w
     → (r : Txhz) → readRecord txhzs recordOf s ≡ accepted r → spot (txhzs .fmt) [] (valuesOf r) i ≡ standing p w
 looked-stands s i p w reads counts there r e =
     let same = counts ∙ ap countOf reads ∙ ap (λ o. countOf (answerOf o)) e in
-    spotted r i ∙ ap (λ n. getD (spots n) i none) (sym same) ∙ sym there
+    spotted r i ∙ ap (λ n. getD (spots n) i none) (sym same) ∙ there
 
--- ---- what the code finds: in front of the receipts by a table, and a byte of a receipt by a rule
+-- ---- what the code finds: in front of the receipts by name, and a byte of a receipt by a rule
 
-abbrev offsets : List ℕ
-offsets = 0 ∷ 8 ∷ 40 ∷ 56 ∷ 80 ∷ 104 ∷ []
-
-abbrev widths : List ℕ
-widths = 0 ∷ 0 ∷ 0 ∷ 24 ∷ 24 ∷ 8 ∷ []
-
-pub front-at : (n i : ℕ) {p w : ℕ} → i < 6 → (p ≡ getD offsets i 0) × (w ≡ getD widths i 0) → (standing p w ≡ getD (spots n) i none) × (w ≤ 32)
-unfolding rows slim
-front-at n i h l =
-    (rw (l .0, l .1) (row-at offsets widths i refl ∙ sym (List·getD-append (rows offsets widths) (drop 6 (spots n)) none i h)), table-slim offsets widths i l refl)
+-- what is no name there is a receipt's, or may not be corrected
+pub behind : (n i : ℕ) → (i ≡ 3 → ⊥) → (i ≡ 4 → ⊥) → (i ≡ 5 → ⊥) → getD (spots n) i none ≡ cond (ltb i 6) none (getD (spots n) i none)
+behind n zero a b c = refl
+behind n (suc zero) a b c = refl
+behind n (suc (suc zero)) a b c = refl
+behind n (suc (suc (suc zero))) a b c = absurd (a refl)
+behind n (suc (suc (suc (suc zero)))) a b c = absurd (b refl)
+behind n (suc (suc (suc (suc (suc zero))))) a b c = absurd (c refl)
+behind n (suc (suc (suc (suc (suc (suc i)))))) a b c = rw (le-ltb (suc (suc (suc (suc (suc (suc i)))))) 6 (omega arith)) refl
 
 same : (n : ℕ) {k k′ p p′ : ℕ} → k ≡ k′ → p ≡ p′ → cond (ltb k n) (found p 8) none ≡ cond (ltb k′ n) (found p′ 8) none
 same n e d = rw (e, d) refl

@@ -1,32 +1,21 @@
--- The frame TXSQ with one field changed has the values with that one changed, and where its fields stand is a table. Assumes nothing.
-use mathlib.Core.Path.{_≡_, refl, sym, ap, _∙_}
+-- The frame TXSQ with one field changed has the values with that one changed, and its fields stand where `spots` says. Assumes nothing.
+use mathlib.Core.Path.{_≡_, refl, sym, _∙_}
 use mathlib.Core.Bool.{cond}
 use mathlib.Core.List.{List, [], _∷_}
 use Prim.Native.Nat.{ℕ}
 use lib.Dec.{eqb}
-use lib.ListN.{length, getD, set}
+use lib.ListN.{length, set}
 use Rattle.bits.specs.Bits.{fieldAt}
 use Rattle.frame.specs.Frame.{declared}
-use Rattle.format.specs.Fmt.{pad, spot, none, found}
-use Rattle.format.specs.laws.Spots.{spotsAlong, spot-along, rows, eachAt, set-each, kept-entry}
+use Rattle.format.specs.Fmt.{pad, spot, found}
+use Rattle.format.specs.laws.Spots.{spotsAlong, spot-along, eachAt, set-each, kept-entry}
 use Rattle.txsq.specs.Changed.{spotOf, changed}
 use Rattle.txsq.specs.Txsq.{letters, txsq, txsqs, valuesOf}
 use Rattle.txsq.specs.declared.reading.Txsq.{Txsq}
 
-abbrev pub offsets : List ℕ
-offsets = 0 ∷ 8 ∷ 40 ∷ 56 ∷ 80 ∷ 84 ∷ 86 ∷ 87 ∷ 88 ∷ 112 ∷ 128 ∷ 136 ∷ 136 ∷ []
-
-abbrev pub widths : List ℕ
-widths = 0 ∷ 0 ∷ 0 ∷ 24 ∷ 0 ∷ 2 ∷ 1 ∷ 1 ∷ 24 ∷ 0 ∷ 8 ∷ 0 ∷ 0 ∷ []
-
--- where each field stands is the same in every frame, and so the table that the code looks in
-pub along : (r : Txsq × List ℕ) → spotsAlong (txsqs .fmt) [] (valuesOf r) 0 ≡ rows offsets widths
-unfolding txsqs txsq valuesOf spotsAlong rows
-along r = refl
-
 pub spotted : (r : Txsq × List ℕ) (i : ℕ) → spot (txsqs .fmt) [] (valuesOf r) i ≡ spotOf i
-unfolding rows
-spotted r i = spot-along (txsqs .fmt) (valuesOf r) i ∙ ap (λ t. getD t i none) (along r)
+unfolding txsqs txsq valuesOf spotsAlong
+spotted r i = spot-along (txsqs .fmt) (valuesOf r) i
 
 -- The changed record has the changed list of values.
 pub changed-values : (x : Txsq × List ℕ) (i v p w : ℕ) → spotOf i ≡ found p w → valuesOf (changed i v x) ≡ set (valuesOf x) i v

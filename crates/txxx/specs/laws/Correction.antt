@@ -1,4 +1,4 @@
--- The frame TXXX with one field changed has the values with that one changed, and where its fields stand is a table. Assumes nothing.
+-- The frame TXXX with one field changed has the values with that one changed, and its fields stand where `spots` says. Assumes nothing.
 use mathlib.Core.Path.{_≡_, refl, sym, ap, _∙_}
 use mathlib.Core.Bool.{cond}
 use mathlib.Core.List.{List, [], _∷_}
@@ -10,28 +10,20 @@ use Rattle.bits.specs.Bits.{fieldAt}
 use Rattle.frame.specs.Frame.{declared, bytesFor}
 use Rattle.frame.specs.laws.Content.{padded}
 use Rattle.format.specs.Fmt.{pad, spot, none, found}
-use Rattle.format.specs.laws.Spots.{spotsAlong, spot-along, rows, eachAt, set-each, kept-entry}
-use Rattle.txxx.specs.Changed.{spotOf, changed}
+use Rattle.format.specs.laws.Spots.{spotsAlong, spot-along, eachAt, set-each, kept-entry}
+use Rattle.txxx.specs.Changed.{spotsBy, spots, spotOf, changed}
 use Rattle.txxx.specs.Txxx.{letters, txxx, txxxs, valuesOf}
 use Rattle.txxx.specs.declared.reading.Txxx.{Txxx}
 
--- the mark stands at bit m
-abbrev pub offsets : ℕ → List ℕ
-offsets m = 0 ∷ 8 ∷ 40 ∷ 56 ∷ 80 ∷ 88 ∷ 112 ∷ 120 ∷ 128 ∷ 144 ∷ 144 ∷ m ∷ []
-
-abbrev pub widths : List ℕ
-widths = 0 ∷ 0 ∷ 0 ∷ 24 ∷ 8 ∷ 24 ∷ 8 ∷ 8 ∷ 0 ∷ 0 ∷ 0 ∷ 8 ∷ []
-
--- where each field stands hangs on the content's size alone, and so the table that the code looks in
-pub along : (r : Txxx × List ℕ) → spotsAlong (txxxs .fmt) [] (valuesOf r) 0 ≡ rows (offsets (144 + bytesFor (r .0 .size) * 8)) widths
-unfolding txxxs txxx valuesOf spotsAlong rows
+-- where each field stands hangs on the content's size alone
+along : (r : Txxx × List ℕ) → spotsAlong (txxxs .fmt) [] (valuesOf r) 0 ≡ spots (r .0 .size)
+unfolding txxxs txxx valuesOf spotsAlong
 along r =
     let l = r .0 .size in
     let mark : 144 + l + pad l + 0 ≡ 144 + bytesFor l * 8 = omega (arith, padded l) in
-    λ i. none ∷ none ∷ none ∷ found 56 24 ∷ found 80 8 ∷ found 88 24 ∷ found 112 8 ∷ found 120 8 ∷ none ∷ none ∷ none ∷ found (mark i) 8 ∷ []
+    ap spotsBy mark
 
 pub spotted : (r : Txxx × List ℕ) (i : ℕ) → spot (txxxs .fmt) [] (valuesOf r) i ≡ spotOf r i
-unfolding rows
 spotted r i = spot-along (txxxs .fmt) (valuesOf r) i ∙ ap (λ t. getD t i none) (along r)
 
 -- The changed record has the changed list of values.

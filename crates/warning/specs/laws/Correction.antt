@@ -1,51 +1,25 @@
--- A warning with one field changed has the values with that one changed, and where its fields stand is a table by their numbers. Assumes nothing.
-use mathlib.Core.Path.{_≡_, refl, sym, ap, _∙_}
+-- A warning with one field changed has the values with that one changed, and its fields stand where `spots` says, whatever their numbers. Assumes nothing.
+use mathlib.Core.Path.{_≡_, refl, sym, ap, _∙_, subst⁻¹}
 use mathlib.Core.Bool.{true, cond}
 use mathlib.Core.List.{List, [], _∷_}
 use Prim.Native.Nat.{ℕ, suc, _≤_, _<_, _^_}
-use lib.Dec.{eqb}
-use lib.ListN.{length, getD, set}
+use lib.Dec.{eqb, ltb, lit≤}
+use lib.ListN.{getD, set}
 use Rattle.warning.specs.Bodies.{Kind, cyclone, gale, waves, fog, surge, typeOf, bodyKind, bodyValues}
 use Rattle.warning.specs.declared.bodies.Body.{Body}
 use Rattle.warning.specs.declared.bodies.Body.the-variants.{Cyclone, Gale, Waves, Fog, Surge}
-use Rattle.format.specs.Correcting.{standing, entryOf}
-use Rattle.format.specs.Fmt.{none, found, spot}
+use Rattle.format.specs.Correcting.{entryOf}
+use Rattle.format.specs.Fmt.{Spot, none, found, spot}
 use Rattle.format.specs.Words.{wide}
-use Rattle.format.specs.laws.Spots.{spotsAlong, spot-along, rows, slim, eachAt, set-each, kept-entry, spelled-entry, picks, numbered-stands, numbered-slim}
+use Rattle.format.specs.laws.Spots.{spotsAlong, spot-along, eachAt, set-each, kept-entry, spelled-entry, Unnamed, picks, common-at, not-common, not-own}
 use Rattle.ais_common.specs.Time.{spellTime, timeOf}
 use Rattle.ais_common.specs.laws.Spelling.{spell-time}
-use Rattle.warning.specs.Changed.{spots, spotOf, common, own, first, changedBody, changed}
+use Rattle.warning.specs.Changed.{spots, spotOf, common, own, first, ownSpot, changedBody, changed}
 use Rattle.warning.specs.Warning.{timeAt, hoursAt, warning, warnings, valuesAs, valuesOf}
 use Rattle.warning.specs.declared.reading.Warning.{Warning}
 
--- ---- the tables of the fields' numbers: every warning's, and those of its body
-
-abbrev pub offsets : List ℕ
-offsets = 0 ∷ 6 ∷ 8 ∷ 60 ∷ 83 ∷ 156 ∷ 176 ∷ []
-
-abbrev pub widths : List ℕ
-widths = 0 ∷ 2 ∷ 30 ∷ 23 ∷ 23 ∷ 20 ∷ 6 ∷ []
-
-abbrev pub ownOffsets : Kind → List ℕ
-ownOffsets cyclone = 106 ∷ 109 ∷ 118 ∷ 127 ∷ 133 ∷ 142 ∷ 147 ∷ []
-ownOffsets gale = 106 ∷ 114 ∷ 119 ∷ 124 ∷ []
-ownOffsets waves = 106 ∷ 114 ∷ 119 ∷ []
-ownOffsets fog = 106 ∷ 115 ∷ []
-ownOffsets surge = 106 ∷ 115 ∷ 124 ∷ 134 ∷ []
-
-abbrev pub ownWidths : Kind → List ℕ
-ownWidths cyclone = 3 ∷ 9 ∷ 9 ∷ 6 ∷ 9 ∷ 5 ∷ 9 ∷ []
-ownWidths gale = 8 ∷ 5 ∷ 5 ∷ 4 ∷ []
-ownWidths waves = 8 ∷ 5 ∷ 13 ∷ []
-ownWidths fog = 9 ∷ 8 ∷ []
-ownWidths surge = 9 ∷ 9 ∷ 10 ∷ 13 ∷ []
-
--- what the tables have for the field of number n in a warning of kind t
-abbrev pub Looked : Kind → ℕ → ℕ → ℕ → Type 0
-Looked t n p w = (p ≡ entryOf 7 offsets (first t) (ownOffsets t) n) × (w ≡ entryOf 7 widths (first t) (ownWidths t) n)
-
 -- where each field stands hangs on the kind of body alone
-pub along : (r : Warning) → spotsAlong (warnings .fmt) [] (valuesOf r) 0 ≡ spots (bodyKind (r .body))
+along : (r : Warning) → spotsAlong (warnings .fmt) [] (valuesOf r) 0 ≡ spots (bodyKind (r .body))
 unfolding warnings warning valuesAs spotsAlong wide
 along r = go (r .body)
   where
@@ -56,28 +30,32 @@ along r = go (r .body)
     go (Fog b) = refl
     go (Surge b) = refl
 
--- the tables have the fields of every kind
-tabled : (t : Kind) → (length (ownOffsets t) ≡ length (ownWidths t)) × (picks (spots t) (common t) ≡ rows offsets widths) × (picks (spots t) (own t) ≡ rows (ownOffsets t) (ownWidths t)) × (slim (ownWidths t) ≡ true)
-unfolding picks rows slim
-tabled cyclone = (refl, refl, refl, refl)
-tabled gale = (refl, refl, refl, refl)
-tabled waves = (refl, refl, refl, refl)
-tabled fog = (refl, refl, refl, refl)
-tabled surge = (refl, refl, refl, refl)
-
-module _ (t : Kind) (n : ℕ) {p w : ℕ} (looked-up : Looked t n p w) where
-  pub stands : (r : Warning) → t ≡ bodyKind (r .body) → spot (warnings .fmt) [] (valuesOf r) (entryOf 7 (common t) (first t) (own t) n) ≡ standing p w
-  stands r e =
-      let (long, every, body, narrow) = tabled t in
-      let is = along r ∙ ap spots (sym e) in
-      numbered-stands 7 (first t) n offsets widths (ownOffsets t) (ownWidths t) looked-up (warnings .fmt) (valuesOf r) (common t) (own t) refl long (ap (λ l. getD l 0 none) is) (ap (λ l. picks l (common t)) is ∙ every) (ap (λ l. picks l (own t)) is ∙ body)
-
-  pub thin : w ≤ 32
-  unfolding slim
-  thin = numbered-slim 7 (first t) n {p = p} offsets widths (ownOffsets t) (ownWidths t) looked-up refl (tabled t .3)
-
 pub spotted : (r : Warning) (i : ℕ) → spot (warnings .fmt) [] (valuesOf r) i ≡ spotOf (bodyKind (r .body)) i
 spotted r i = spot-along (warnings .fmt) (valuesOf r) i ∙ ap (λ t. getD t i none) (along r)
+
+-- ---- by number
+
+-- the fields that every warning has
+abbrev pub named : List Spot
+named = none ∷ found 6 2 ∷ found 8 30 ∷ found 60 23 ∷ found 83 23 ∷ found 156 20 ∷ found 176 6 ∷ []
+
+every : (t : Kind) → (picks (spots t) (common t) ≡ named) × (7 ≤ first t)
+unfolding picks
+every cyclone = (refl, lit≤ tt)
+every gale = (refl, lit≤ tt)
+every waves = (refl, lit≤ tt)
+every fog = (refl, lit≤ tt)
+every surge = (refl, lit≤ tt)
+
+module _ (t : Kind) (n : ℕ) where
+  pub common-found : (m : ℕ) → n ≡ m → ltb m 7 ≡ true → spotOf t (entryOf 7 (common t) (first t) (own t) n) ≡ getD named m none
+  common-found m e below = common-at (spots t) 7 (first t) (common t) (own t) refl n m e below ∙ ap (λ l. getD l m none) (every t .0)
+
+  pub not-every : Unnamed Unit named 0 n → spotOf t (entryOf 7 (common t) (first t) (own t) n) ≡ ownSpot t n
+  not-every x = not-common (spots t) 7 (first t) (common t) (own t) refl n (every t .1) (subst⁻¹ (λ l. Unnamed Unit l 0 n) (every t .0) x)
+
+  pub not-named : Unnamed Unit (picks (spots t) (own t)) (first t) n → ownSpot t n ≡ none
+  not-named x = not-own (spots t) 7 (first t) (common t) (own t) refl n x
 
 -- ---- the changed record
 

@@ -14,8 +14,7 @@ use Rattle.warning.specs.Bodies.{Kind, cyclone, gale, waves, fog, surge,
 use Rattle.warning.specs.declared.bodies.Body.{Body}
 use Rattle.warning.specs.declared.bodies.Body.the-variants.{Cyclone, Gale, Waves, Fog, Surge}
 use Rattle.warning.specs.laws.Walking.{body-numbered}
-use Rattle.format.specs.Correcting.{standing}
-use Rattle.format.specs.Fmt.{accepted, end, spot}
+use Rattle.format.specs.Fmt.{Spot, accepted, end, spot}
 use Rattle.format.specs.Settled.{Settled}
 use Rattle.format.specs.Promises.{readRecord, Writes, Corrects}
 use Rattle.format.specs.Words.{_‥_, wide, num, fill}
@@ -32,7 +31,7 @@ use Rattle.ais_common.specs.laws.Walking.{time-numbered}
 use Rattle.warning.specs.Changed.{spotOf, fieldOf, changed, namedBy, spotBy, changedBy}
 use Rattle.warning.specs.Promises.{Reads}
 use Rattle.warning.specs.Warning.{tail, warning, warnings, valuesAs, valuesOf, recordAs, recordOf, answerOf, outOf}
-use Rattle.warning.specs.laws.Correction.{Looked, stands, spotted, changed-values}
+use Rattle.warning.specs.laws.Correction.{spotted, changed-values}
 use Rattle.warning.specs.laws.Sound.{front, bytes, type-at, sound}
 use Rattle.warning.specs.laws.Told.{recorded, kind-type}
 use Rattle.warning.specs.declared.reading.Warning.{Warning}
@@ -207,14 +206,15 @@ type-number : (s : List ℕ) (r : Warning) → Bytes s → readRecord warnings r
 unfolding warnings valuesAs
 type-number s r fine e = let m = read-values family s r fine e .0 in type-at s (valuesOf r) (was warnings s (valuesOf r) m .walked)
 
--- the field of number n, looked up by the type k that the code found there, stands where the tables say
-pub looked-stands : (s : List ℕ) (n k : ℕ) {p w : ℕ} → Bytes s → k ≡ got s 56 4 → Looked (kindOf k) n p w
-    → (r : Warning) → readRecord warnings recordOf s ≡ accepted r → spot (warnings .fmt) [] (valuesOf r) (fieldOf (fieldAt s 56 4) n) ≡ standing p w
-unfolding warnings
-looked-stands s n k fine is l r e =
+-- the field of number n, found by the type k that the code read there, stands where it was found
+pub looked-stands : (s : List ℕ) (n k : ℕ) {x : Spot} → Bytes s → k ≡ got s 56 4 → spotOf (kindOf k) (fieldOf k n) ≡ x
+    → (r : Warning) → readRecord warnings recordOf s ≡ accepted r → spot (warnings .fmt) [] (valuesOf r) (fieldOf (fieldAt s 56 4) n) ≡ x
+unfolding warnings valuesAs
+looked-stands s n k fine is there r e =
     let m = was warnings s (valuesOf r) (read-values family s r fine e .0) .walked in
-    let found-so = is ∙ got-fits s 56 4 (lit≤ tt) (omega (arith, bytes s (valuesOf r) m)) in
-    ap (λ t. spot (warnings .fmt) [] (valuesOf r) (fieldOf t n)) (sym found-so) ∙ stands (kindOf k) n l r (ap kindOf (found-so ∙ type-number s r fine e) ∙ kind-type (bodyKind (r .body)))
+    let type = is ∙ got-fits s 56 4 (lit≤ tt) (omega (arith, bytes s (valuesOf r) m)) in
+    let kind = ap kindOf (type ∙ type-at s (valuesOf r) m) ∙ kind-type (bodyKind (r .body)) in
+    ap (λ t. spot (warnings .fmt) [] (valuesOf r) (fieldOf t n)) (sym type) ∙ spotted r (fieldOf k n) ∙ ap (λ t. spotOf t (fieldOf k n)) (sym kind) ∙ there
 
 -- ---- said of the warning's promises
 

@@ -1,11 +1,9 @@
--- `correct` is the correction in place of every family, with the area's fields read before and behind the change and the table of its fields' numbers.
+-- `correct` is the correction in place of every family, with the area's fields read before and behind the change and where `stands` found the field.
 use mathlib.Core.Path.{refl}
 use Rattle.bits.specs.Bits.{Bytes, fieldAt}
 use Rattle.format.specs.laws.Corrections.{family-sized}
-use Rattle.area.specs.Shapes.{kindOf}
 use Rattle.area.specs.Area.{areas, numberOf}
 use Rattle.area.specs.Changed.{fieldOf}
-use Rattle.area.specs.laws.Correction.{thin}
 use Rattle.area.specs.laws.Demands.{family, looked-stands}
 use Rattle.area.specs.declared.reading.Answer.the-variants.{Good, Refused}
 use borrow.Author.Needs.{needs}
@@ -27,9 +25,10 @@ returns c =
     let a = known .before .args in
     let s = a .buf .now in
     let k = get .get .result in
+    let (there, slim) = look .stands .ensures in
     let fine : Bytes s = λ i. known .slice-known .given i .fits in
     family-sized family Good Refused numberOf (λ r. refl) (λ c. refl) s (fieldOf (fieldAt s 92 2) (a .field)) (a .value) _ _ (was .read .ensures) (number .refusal .ensures)
-    (looked-stands s (a .field) k fine (get .get .ensures) (look .stands .ensures)) (thin (kindOf k) (a .field) (look .stands .ensures))
+    (looked-stands s (a .field) k fine (get .get .ensures) there) slim
     fine (begin .begin .ensures) refl (f .fields .ensures) (again .refusal2 .ensures) (finish .finish .ensures)
 
 pub correct-spec : {M : Type 1} → statement M

@@ -1,9 +1,8 @@
--- `correct` is the correction in place of every family, with the report's fields read before and behind the change and its table of offsets.
-use mathlib.Core.Path.{refl}
+-- `correct` is the correction in place of every family, with the report's fields read before and behind the change and where `stands` found the field.
+use mathlib.Core.Path.{refl, _∙_}
 use Rattle.format.specs.laws.Corrections.{family-sized}
-use Rattle.format.specs.laws.Spots.{slim, table-stands, table-slim}
-use Rattle.distress.specs.Report.{reports, valuesOf, numberOf}
-use Rattle.distress.specs.laws.Correction.{offsets, widths, along}
+use Rattle.distress.specs.Report.{reports, numberOf}
+use Rattle.distress.specs.laws.Correction.{spotted}
 use Rattle.distress.specs.laws.Demands.{family}
 use Rattle.distress.specs.declared.reading.Answer.the-variants.{Good, Refused}
 use borrow.Author.Needs.{needs}
@@ -11,7 +10,7 @@ use Rattle.distress.proofs.correcting.correct.Statement.{statement}
 use Rattle.distress.proofs.correcting.correct.Tie as tie
 
 returns : tie.Need-returns
-unfolding reports slim
+unfolding reports
 returns c =
     let finish = c .before .before in
     let again = finish .before in
@@ -19,17 +18,18 @@ returns c =
     let begin = f .before .before .before .before in
     let number = begin .before in
     let look = number .before .before in
-    let was = look .before .before .before in
+    let was = look .before in
     let known = was .before .before in
     let a = known .before .args in
+    let (there, slim) = look .stands .ensures in
     family-sized family Good Refused numberOf (λ r. refl) (λ c. refl) (a .buf .now) (a .field) (a .value) _ _ (was .read .ensures) (number .refusal .ensures)
-    (λ r e. table-stands offsets widths (a .field) (look .look-up .ensures) (reports .fmt) (valuesOf r) refl (along r)) (table-slim offsets widths (a .field) (look .look-up .ensures) refl)
+    (λ r e. spotted r (a .field) ∙ there) slim
     (λ i. known .slice-known .given i .fits) (begin .begin .ensures) refl (f .fields .ensures) (again .refusal2 .ensures) (finish .finish .ensures)
 
 pub correct-spec : {M : Type 1} → statement M
 correct-spec =
     tie.close
     (tie.spec
-    (λ c κs. search needs) (λ c. search needs) (λ c. search needs) (λ c κs. search needs) (λ c κs. search needs) (λ c κs. search needs)
+    (λ c κs. search needs) (λ c κs. search needs) (λ c κs. search needs) (λ c κs. search needs)
     (λ c κs. search needs) (λ c κs. search needs) (λ c κs. search needs) (λ c. search needs)
     returns)

@@ -1,4 +1,4 @@
--- `correct` is the correction in place of every layout, with the notice's walk before the change, which finds the field, and behind it.
+-- `correct` is the correction in place of every layout, with the notice's walk before the change and behind it, and where `stands` found the field.
 use mathlib.Core.Path.{ap, _∙_}
 use Rattle.format.specs.Message.{codeOf}
 use Rattle.format.specs.laws.Correcting.{in-place}
@@ -9,13 +9,18 @@ use borrow.Author.Needs.{needs}
 use Rattle.notice.proofs.correcting.correct.Statement.{statement}
 use Rattle.notice.proofs.correcting.correct.Tie as tie
 
+-- the walk finds no wide field
+stands-requires : tie.Need-stands-requires
+stands-requires c κs = let f = c .before in let a = f .before .before .before .args in fields-are (a .english) (a .field) (a .buf .now) (f .fields .ensures) .walked .slim
+
 returns : tie.Need-returns
 unfolding notices
 returns c =
     let finish = c .before .before in
     let g = finish .before .before .before in
     let begin = g .before .before .before .before in
-    let f = begin .before .before .before in
+    let look = begin .before .before in
+    let f = look .before .before in
     let known = f .before .before in
     let a = known .before .args in
     let e = a .english in
@@ -23,9 +28,10 @@ returns c =
     let s = a .buf .now in
     let r = f .fields .result in
     let x = f .fields .ensures in
-    in-place (notices e) (sound e) (judged e) s i (a .value) (r .walk .spot) (r .walk .width) (walked-code e i s r x) (stands e i s r x) (fields-are e i s x .walked .slim) (λ i. known .slice-known .given i .fits)
+    let (there, slim) = look .stands .ensures in
+    in-place (notices e) (sound e) (judged e) s i (a .value) (look .stands .result .at) (look .stands .result .width) (walked-code e i s r x) (λ vs z. stands e i s r x vs z ∙ there) slim (λ i. known .slice-known .given i .fits)
     (begin .begin .ensures) (λ z same. walked-code e 0 _ (g .fields2 .result) (g .fields2 .ensures) ∙ ap codeOf (fields-again e i s r x z _ same)) (finish .finish .ensures)
 
 pub correct-spec : {M : Type 1} → statement M
 correct-spec =
-    tie.close (tie.spec (λ c κs. search needs) (λ c κs. search needs) (λ c κs. search needs) (λ c κs. search needs) (λ c. search needs) returns)
+    tie.close (tie.spec (λ c κs. search needs) stands-requires (λ c κs. search needs) (λ c κs. search needs) (λ c κs. search needs) (λ c. search needs) returns)

@@ -1,42 +1,30 @@
--- `stands` goes by its tests: the table in front of the receipts, the rule for a byte of theirs, and nothing behind them.
-use mathlib.Core.Path.{refl, sym, _∙_}
-use native.Mathlib.Omega.{arith}
-use borrow.Author.Tests.{lt-ltb, le-ltb}
+-- `stands` has an arm for each name in front of the receipts; any other number is a receipt's, or finds nothing.
+use mathlib.Core.Path.{ap, _∙_}
 use lib.Dec.{lit≤}
-use lib.ListN.{List·getD-eq-default}
+use lib.ListN.{getD}
 use Rattle.format.specs.Fmt.{none}
 use Rattle.txhz.specs.Changed.{spots}
-use Rattle.txhz.specs.laws.Correction.{front-at, byte-at}
+use Rattle.txhz.specs.laws.Correction.{behind}
 use borrow.Author.Needs.{needs}
 use Rattle.txhz.proofs.correcting.stands.Statement.{statement}
 use Rattle.txhz.proofs.correcting.stands.Tie as tie
 
 returns : tie.Need-returns
-returns c =
-    let test = c .before .before .before in
-    let a = test .before .args in
-    front-at (a .count) (a .field) (test .if1 .taken) (c .look-up .ensures)
+returns c = (ap (λ i. getD (spots (c .before .args .count)) i none) (c .match .keys1), lit≤ tt)
 
 returns-2 : tie.Need-returns-2
-returns-2 c =
-    let a = c .before .before .before .args in
-    (sym (byte-at (a .count) (a .field) (c .before .before .if1 .left) (c .before .if2 .taken) ∙ rw (lt-ltb _ _ (c .if3 .taken)) refl), lit≤ tt)
+returns-2 c = (ap (λ i. getD (spots (c .before .args .count)) i none) (c .match .keys2), lit≤ tt)
 
 returns-3 : tie.Need-returns-3
-returns-3 c =
-    let a = c .before .before .before .args in
-    (sym (byte-at (a .count) (a .field) (c .before .before .if1 .left) (c .before .if2 .taken) ∙ rw (le-ltb _ _ (c .if3 .left)) refl), omega arith)
+returns-3 c = (ap (λ i. getD (spots (c .before .args .count)) i none) (c .match .keys3), lit≤ tt)
 
 returns-4 : tie.Need-returns-4
-returns-4 c = let a = c .before .before .args in (sym (List·getD-eq-default (spots (a .count)) none {n = a .field} (c .if2 .left)), omega arith)
+returns-4 c =
+    let m = c .before in
+    let a = m .before .args in
+    let other = m .match .rest in
+    let (there, slim) = c .receipt .ensures in
+    (behind (a .count) (a .field) (other .0 .0 .1) (other .0 .1) (other .1) ∙ there, slim)
 
 pub stands-spec : {M : Type 1} → statement M
-stands-spec =
-    tie.close
-    (tie.spec
-    (λ c. search needs) (λ c. search needs) (λ c κs. search needs)
-    returns
-    (λ c. search needs) (λ c. search needs) (λ c. search needs)
-    returns-2
-    returns-3
-    returns-4)
+stands-spec = tie.close (tie.spec (λ c κs. search needs) returns returns-2 returns-3 returns-4)
