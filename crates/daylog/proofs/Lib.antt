@@ -1,3 +1,4 @@
 -- What the proofs of the functions cite.
 mod Listing
 mod Moved
+mod Turning

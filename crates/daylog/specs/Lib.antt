@@ -7,6 +7,7 @@ pub mod Text
 pub mod LinesText
 pub mod Stores
 pub mod Promises
+pub mod Turns
 pub mod Run
 mod Examples
 pub mod laws

@@ -1,11 +1,10 @@
--- The records of a day log (paper 01, "Day log listing"), and bytes kept for the next window. Assumes nothing.
+-- The records of a day log (paper 01, "Day log listing"). Assumes nothing.
 use Prim.Native.Nat.{ℕ, zero, suc, _+_, _-_, _*_}
-use mathlib.Core.Bool.{cond, _&&_}
+use mathlib.Core.Bool.{cond}
 use mathlib.Core.List.{List, [], _∷_}
 use lib.Dec.{leb}
 use lib.ListN.{length, getD, take, drop}
 use Rattle.format.specs.Message.{between}
-use Rattle.daylog.specs.Stores.{Made}
 use Rattle.daylog.specs.declared.records.Next.{Next}
 use Rattle.daylog.specs.declared.records.Next.the-variants.{Record, Bad, Short}
 
@@ -42,12 +41,3 @@ records s = recordsBy (length s) s
 unfoldable pub sizeOf : List Entry → ℕ
 sizeOf [] = 0
 sizeOf (e ∷ es) = (4 + length (e .body)) + sizeOf es
-
--- ---- what is kept
-
--- the bytes of s from offset a up to offset e, none where these are no offsets of it
-abbrev pub span : List ℕ → ℕ → ℕ → List ℕ
-span s a e = cond (leb e (length s) && leb a e) (take (e - a) (drop a s)) []
-
-abbrev pub Keeps : List ℕ → ℕ → ℕ → ℕ → List ℕ → Type 0
-Keeps s a e count left = Made s (span s a e) count left

@@ -8,9 +8,9 @@ use lib.ListN.{length}
 use lib.Seq.{sets}
 use Rattle.format.specs.Message.{ahead}
 
--- the text t where n bytes have room at offset `at` of `out`, and else none
-abbrev pub placed : ℕ → List ℕ → ℕ → List ℕ → List ℕ
-placed n out at t = cond (leb (at + n) (length out)) t []
+-- the text t where it has room at offset `at` of `out`, and else none
+abbrev pub placed : List ℕ → ℕ → List ℕ → List ℕ
+placed out at t = cond (leb (at + length t) (length out)) t []
 
 -- the text t stored at offset `at` of `out`, and the offset after it
 pub record Stores (out : List ℕ) (at : ℕ) (t : List ℕ) (end : ℕ) (left : List ℕ) : Type 0 where

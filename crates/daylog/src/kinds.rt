@@ -1,9 +1,9 @@
 // The kinds of a day log's records (paper 01, "Day log listing"): what reading a body answers, and the line that is listed.
 ghost use mathlib.Core.Path.{_≡_};
-ghost use Prim.Native.Nat.{_+_, _≤_};
+ghost use Prim.Native.Nat.{_≤_};
 ghost use lib.ListN.{length};
 ghost use Rattle.daylog.specs.Stores.{placed, Stores};
-ghost use Rattle.daylog.specs.Kinds.{word, codeOf, entryLine};
+ghost use Rattle.daylog.specs.Kinds.{codeOf, entryLine};
 ghost use Rattle.format.specs.Message.{codeOf as Message·codeOf, readMessage};
 ghost use Rattle.distress.specs.Report.{reports};
 ghost use Rattle.packet.specs.Packet.{packets};
@@ -36,12 +36,12 @@ fn report(body: &[u8]) -> u8
     answer.refusal()
 }
 
-// A record's line, with its kind's word. Where a line with that word might have no room, answers the same offset and leaves
-// every byte.
+// A record's line, with its kind's word. Where it has no room, answers the same offset and leaves every byte. No such line
+// is longer than 55 bytes.
 pub fn entry(out: &mut [u8], at: usize, number: u64, kind: u16, body: &[u8]) -> usize
     ensures { λ r. ⌜ Stores (now (out .entry)) at
-        (placed (length (word kind) + 47) (now (out .entry)) at (entryLine number (record { kind = kind; body = now (body .entry) }))) r (now (out .exit))
-        × (r ≤ at + 55) ⌝ }
+        (placed (now (out .entry)) at (entryLine number (record { kind = kind; body = now (body .entry) }))) r (now (out .exit))
+        × (length (entryLine number (record { kind = kind; body = now (body .entry) })) ≤ 55) ⌝ }
 {
     let code = code(kind, body);
     let bytes = body.len() as u64;

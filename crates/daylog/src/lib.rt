@@ -1,4 +1,8 @@
-// The day log (paper 01, "Day log listing"): what stands in it, and its listing, a window of the log at a time.
+// The day log (paper 01, "Day log listing"): what stands in it, its listing a window of the log at a time, and the turns of
+// a program that lists a log.
+ghost use mathlib.Core.Bool.{cond};
+ghost use mathlib.Core.Path.{_≡_};
+ghost use lib.Dec.{eqb};
 ghost use Rattle.daylog.specs.Promises.{Lists, Ends, Heads};
 pub use crate::kinds::code;
 use crate::kinds::entry;
@@ -8,69 +12,93 @@ use crate::records::HEAD;
 pub use crate::records::Next;
 pub use crate::records::first;
 pub use crate::records::keep;
+pub use crate::turns::State;
+pub use crate::turns::begin;
+pub use crate::turns::turn;
 
 pub mod kinds;
 pub mod lines;
 pub mod records;
+pub mod turns;
 
-// No line is longer: two numbers of 20 digits, a word of 8, a code of 3, three spaces and the line feed.
-pub const ROOM: usize = 55;
+// How many bytes were laid at the front of a lent slice, and 0; or none, and the refusal.
+pub struct Laid {
+    pub code: u8,
+    pub bytes: usize,
+}
 
-// How many bytes of the window are listed, how many bytes of text they made, and the next record's number.
+// How many bytes of the window are listed, how many bytes of text they made, the next record's number, and 0; or none, and
+// the refusal.
 pub struct Listed {
+    pub code: u8,
     pub used: usize,
     pub made: usize,
     pub number: u64,
 }
 
-// Lists the whole records that the window begins with, as many as there is room for lines.
+// Lists the whole records that the window begins with, as many as there is room for lines. No room for the first one's is 6.
 pub fn list(s: &[u8], number: u64, out: &mut [u8]) -> Listed
     ensures { λ r. ⌜ Lists (now (s .entry)) number (now (out .entry)) r (now (out .exit)) ⌝ }
 {
     let mut used = 0;
     let mut made = 0;
     let mut n = number;
-    while out.len() - made >= ROOM {
+    loop {
         let rest = &s[used..];
         let found = first(rest);
         let Next::Record(kind, size) = found else {
             return Listed {
+                code: 0,
                 used,
                 made,
                 number: n,
             };
         };
         let end = HEAD + size;
-        made = entry(out, made, n, kind, &rest[HEAD..end]);
+        let at = entry(out, made, n, kind, &rest[HEAD..end]);
+        if at == made {
+            return Listed {
+                code: no_room(used),
+                used,
+                made,
+                number: n,
+            };
+        }
+        made = at;
         used += end;
         // A log of 2^64 records does not come; the numbers would go on from 0.
         n = std::num::wrapping_add_u64(n, 1);
     }
-    Listed {
-        used,
-        made,
-        number: n,
-    }
 }
 
-// The end of the listing: the line of the record that is broken, where bytes are left.
-pub fn ending(out: &mut [u8], number: u64, left: u64) -> usize
+// The end of the listing: the line of the record that is broken, where bytes are left. No room for it is 6.
+pub fn ending(out: &mut [u8], number: u64, left: u64) -> Laid
     ensures { λ r. ⌜ Ends (now (out .entry)) number left r (now (out .exit)) ⌝ }
 {
-    if out.len() < ROOM {
-        return 0;
-    }
     if left == 0 {
-        return 0;
+        return Laid { code: 0, bytes: 0 };
     }
-    line(out, 0, number, b"broken", format::SIZE, left)
+    let bytes = line(out, 0, number, b"broken", format::SIZE, left);
+    Laid {
+        code: no_room(bytes),
+        bytes,
+    }
 }
 
-pub fn heading(out: &mut [u8]) -> usize
+// The listing's first line. No room for it is 6.
+pub fn heading(out: &mut [u8]) -> Laid
     ensures { λ r. ⌜ Heads (now (out .entry)) r (now (out .exit)) ⌝ }
 {
-    if out.len() < ROOM {
-        return 0;
+    let bytes = text(out, 0, b"n kind code bytes\n");
+    Laid {
+        code: no_room(bytes),
+        bytes,
     }
-    text(out, 0, b"n kind code bytes\n")
+}
+
+// The refusal of a call that had something to write: 6 where it made nothing of it, else 0.
+fn no_room(made: usize) -> u8
+    ensures { λ r. ⌜ r ≡ cond (eqb made 0) 6 0 ⌝ }
+{
+    if made == 0 { format::ROOM } else { 0 }
 }

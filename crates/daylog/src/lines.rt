@@ -8,18 +8,27 @@ ghost use Rattle.daylog.specs.LinesText.{decimal as Text·decimal, line 
 ghost use Rattle.daylog.specs.Stores.{placed, Stores};
 
 // All of the longest line but its word: two numbers of 20 digits, a code of 3, three spaces and the line feed.
-pub const COLUMNS: usize = 47;
+const COLUMNS: usize = 47;
 
-// A line: number, word, code and bytes. Where a line with that word might have no room, answers the same offset and leaves
-// every byte.
+// A line: number, word, code and bytes. Where it has no room, answers the same offset and leaves every byte.
 pub fn line(out: &mut [u8], at: usize, number: u64, word: &[u8], code: u8, bytes: u64) -> usize
-    ensures { λ r. ⌜ Stores (now (out .entry)) at
-        (placed (length (now (word .entry)) + 47) (now (out .entry)) at (Text·line number (now (word .entry)) code bytes)) r (now (out .exit)) ⌝ }
+    ensures { λ r. ⌜ Stores (now (out .entry)) at (placed (now (out .entry)) at (Text·line number (now (word .entry)) code bytes)) r (now (out .exit)) ⌝ }
 {
-    if has_room(out.len(), at, word.len() + COLUMNS) {
+    if line_fits(out.len(), at, number, word, code, bytes) {
         return columns(out, at, number, word, code, bytes);
     }
     at
+}
+
+// Whether the line has room at offset `at` of `len` bytes. Where the longest one with its word has, no digit is counted.
+fn line_fits(len: usize, at: usize, number: u64, word: &[u8], code: u8, bytes: u64) -> bool
+    ensures { λ r. ⌜ r ≡ leb (at + length (Text·line number (now (word .entry)) code bytes)) len ⌝ }
+{
+    if has_room(len, at, word.len() + COLUMNS) {
+        return true;
+    }
+    let digits = digit_count(number) + digit_count(code as u64) + digit_count(bytes);
+    has_room(len, at, word.len() + digits + 4)
 }
 
 fn columns(out: &mut [u8], at: usize, number: u64, word: &[u8], code: u8, bytes: u64) -> usize
@@ -75,8 +84,7 @@ fn digit(number: u64) -> u8
 
 // A text as it is. Where there is no room for it, answers the same offset and leaves every byte.
 pub fn text(out: &mut [u8], at: usize, bytes: &[u8]) -> usize
-    ensures { λ r. ⌜ Stores (now (out .entry)) at
-        (placed (length (now (bytes .entry))) (now (out .entry)) at (now (bytes .entry))) r (now (out .exit)) ⌝ }
+    ensures { λ r. ⌜ Stores (now (out .entry)) at (placed (now (out .entry)) at (now (bytes .entry))) r (now (out .exit)) ⌝ }
 {
     if has_room(out.len(), at, bytes.len()) {
         return put(out, at, bytes);
@@ -85,7 +93,7 @@ pub fn text(out: &mut [u8], at: usize, bytes: &[u8]) -> usize
 }
 
 // Whether `n` bytes have room at offset `at` of `len` bytes.
-fn has_room(len: usize, at: usize, n: usize) -> bool
+pub fn has_room(len: usize, at: usize, n: usize) -> bool
     ensures { λ r. ⌜ r ≡ leb (at + n) len ⌝ }
 {
     if len < at {

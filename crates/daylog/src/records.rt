@@ -1,12 +1,15 @@
 // The records of a day log (paper 01, "Day log listing"): what the bytes of a window begin with, and those kept for the next.
 ghost use mathlib.Core.Path.{_≡_};
 ghost use Prim.Native.Nat.{_+_, _*_};
-ghost use Rattle.daylog.specs.Records.{front, Keeps};
+ghost use Rattle.format.specs.Message.{between};
+ghost use Rattle.daylog.specs.Records.{front};
+ghost use Rattle.daylog.specs.Promises.{Keeps};
+use crate::Laid;
 
 // A record's head: its length and its kind.
 pub const HEAD: usize = 4;
 
-pub const GREATEST: usize = 256;
+const GREATEST: usize = 256;
 
 // What the bytes that are left begin with.
 pub enum Next {
@@ -25,10 +28,7 @@ pub fn first(s: &[u8]) -> Next
         return Next::Short;
     }
     let whole = pair(s[0], s[1]) as usize;
-    if whole < HEAD {
-        return Next::Bad;
-    }
-    if whole > GREATEST {
+    if !is_length(whole) {
         return Next::Bad;
     }
     if s.len() < whole {
@@ -37,22 +37,39 @@ pub fn first(s: &[u8]) -> Next
     Next::Record(pair(s[2], s[3]), whole - HEAD)
 }
 
-// Moves the bytes from `from` up to `to` to the front, and answers how many they are.
-pub fn keep(s: &mut [u8], from: usize, to: usize) -> usize
+// Whether a record can be so long.
+fn is_length(whole: usize) -> bool
+    ensures { λ r. ⌜ r ≡ between 4 256 whole ⌝ }
+{
+    if whole < HEAD {
+        return false;
+    }
+    whole <= GREATEST
+}
+
+// Moves the bytes from `from` up to `to` to the front, and answers how many they are. An end before its start is 4, one past
+// the slice 6.
+pub fn keep(s: &mut [u8], from: usize, to: usize) -> Laid
     ensures { λ r. ⌜ Keeps (now (s .entry)) from to r (now (s .exit)) ⌝ }
 {
-    if s.len() < to {
-        return 0;
-    }
     if to < from {
-        return 0;
+        return Laid {
+            code: format::RANGE,
+            bytes: 0,
+        };
+    }
+    if s.len() < to {
+        return Laid {
+            code: format::ROOM,
+            bytes: 0,
+        };
     }
     let mut i = 0;
     while i < to - from {
         s[i] = s[from + i];
         i += 1;
     }
-    i
+    Laid { code: 0, bytes: i }
 }
 
 // A 16-bit number, its low byte first.

@@ -31,7 +31,7 @@ view s = go (leb 4 (length s)) (between 4 256 (pairAt s 0)) (leb (pairAt s 0) (l
     go true true false x y z = cut y (leb-false (pairAt s 0) (length s) z) (rw (x, y, z))
     go true true true x y z = whole (leb-true 4 (length s) x) y (leb-true (pairAt s 0) (length s) z) (rw (x, y, z))
 
-inside : (n : ℕ) → between 4 256 n ≡ true → (4 ≤ n) × (n ≤ 256)
+pub inside : (n : ℕ) → between 4 256 n ≡ true → (4 ≤ n) × (n ≤ 256)
 inside n e = go (leb 4 n) (leb n 256) refl refl e
   where
     go : (a b : Bool) → leb 4 n ≡ a → leb n 256 ≡ b → a && b ≡ true → (4 ≤ n) × (n ≤ 256)

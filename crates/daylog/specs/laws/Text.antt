@@ -66,6 +66,9 @@ pub line-length : (n : ℕ) (word : List ℕ) (code bytes : ℕ)
 unfolding line
 line-length n word code bytes = simp length-append (omega arith)
 
+pub line-some : (n : ℕ) (word : List ℕ) (code bytes : ℕ) → 1 ≤ length (line n word code bytes)
+line-some n word code bytes = omega (arith, line-length n word code bytes)
+
 pub line-most : (n : ℕ) (word : List ℕ) (code bytes : ℕ) → n < 2 ^ 64 → code < 256 → bytes < 2 ^ 64 → length (line n word code bytes) ≤ length word + 47
 line-most n word code bytes a c d =
     omega (arith, line-length n word code bytes, digits-few 19 n (omega arith), digits-few 2 code (omega arith), digits-few 19 bytes (omega arith))

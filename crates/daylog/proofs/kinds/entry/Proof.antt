@@ -1,7 +1,7 @@
 -- `entry` stores the line with the word that its kind has.
 use mathlib.Core.Path.{_≡_, refl}
 use mathlib.Core.List.{List}
-use Prim.Native.Nat.{ℕ, _+_, _≤_, _<_, _^_}
+use Prim.Native.Nat.{ℕ, _≤_, _<_, _^_}
 use native.Mathlib.Omega.{arith}
 use lib.Dec.{lit≤}
 use lib.ListN.{length}
@@ -11,7 +11,6 @@ use Rattle.daylog.specs.Stores.{placed, Stores}
 use Rattle.daylog.specs.LinesText.{line}
 use Rattle.daylog.specs.Words.{serial, packet, distress, ais, unknown}
 use Rattle.daylog.specs.laws.Text.{line-most}
-use Rattle.daylog.specs.laws.Made.{placed-most}
 use borrow.Author.Needs.{needs}
 use Rattle.daylog.proofs.kinds.entry.Statement.{statement}
 use Rattle.daylog.proofs.kinds.entry.Tie as tie
@@ -41,13 +40,10 @@ other-word k a b c d = rw (ne-eqb k 1 a, ne-eqb k 2 b, ne-eqb k 3 c, ne-eqb k 4 
 -- ---- a line with the word w
 
 module _ (n k : ℕ) (body w : List ℕ) (code : ℕ) (small : n < 2 ^ 64) (short : length w ≤ 8) (byte : code < 256) (few : length body < 2 ^ 64) where
-  pub stored : word k ≡ w → code ≡ codeOf k body → {at r : ℕ} {out left : List ℕ} → Stores out at (placed (length w + 47) out at (line n w code (length body))) r left
-      → Stores out at (placed (length (word k) + 47) out at (entryLine n (record { kind = k; body = body }))) r left × (r ≤ at + 55)
+  pub stored : word k ≡ w → code ≡ codeOf k body → {at r : ℕ} {out left : List ℕ} → Stores out at (placed out at (line n w code (length body))) r left
+      → Stores out at (placed out at (entryLine n (record { kind = k; body = body }))) r left × (length (entryLine n (record { kind = k; body = body })) ≤ 55)
   unfolding entryLine
-  stored e f {at} {r} {out} s = (
-    rw (e, ← f) s,
-    omega (arith, s .ends, placed-most (length w + 47) out at (line n w code (length body)), line-most n w code (length body) small byte few),
-  )
+  stored e f s = (rw (e, ← f) s, rw (e, ← f) (omega (arith, line-most n w code (length body) small byte few)))
 
 returns : tie.Need-returns
 returns c =

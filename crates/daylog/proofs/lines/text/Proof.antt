@@ -19,12 +19,12 @@ returns : tie.Need-returns
 returns c = let p = c .before .before in
     let h = p .before .before .before in
     let a = h .before .before .before .args in
-    rw (placed-all (length (a .bytes .now)) (a .out .now) (a .at) (a .bytes .now) (room h (p .before .before .if1 .taken))) (p .put .ensures)
+    rw (placed-all (a .out .now) (a .at) (a .bytes .now) (room h (p .before .before .if1 .taken))) (p .put .ensures)
 
 returns-2 : tie.Need-returns-2
 returns-2 c = let h = c .before in
     let a = h .before .before .before .args in
-    nowhere (length (a .bytes .now)) (a .out .now) (a .at) (a .bytes .now) (sym (h .has-room .ensures) ∙ c .if1 .left)
+    nowhere (a .out .now) (a .at) (a .bytes .now) (sym (h .has-room .ensures) ∙ c .if1 .left)
 
 pub text-spec : {M : Type 1} → statement M
 text-spec = tie.close (tie.spec (λ c κs. search needs) put-requires (λ c. search needs) returns returns-2)

@@ -1,7 +1,9 @@
 -- `keep` moves byte by byte to the front: `moved` says what stands after i turns.
 use mathlib.Core.Path.{_≡_, refl, sym, _∙_}
+use mathlib.Core.Bool.{Bool, true, false, _&&_}
 use Prim.Native.Nat.{_+_, _-_, _≤_, _<_}
 use native.Mathlib.Omega.{arith}
+use lib.Dec.{leb}
 use lib.ListN.{length, take, drop, length-set, length-take, length-drop}
 use borrow.Author.Tests.{le-leb, lt-leb}
 use Rattle.daylog.specs.laws.Made.{none}
@@ -15,15 +17,22 @@ Inv-loop s₀ from to i₀ s i = (i ≤ to - from) × (length s ≡ length s₀)
 abbrev μ-loop : tie.MeasureT-loop
 μ-loop s₀ from to i₀ s i = to - from - i
 
+and-false : (b : Bool) → b && false ≡ false
+and-false true = refl
+and-false false = refl
+
 returns : tie.Need-returns Inv-loop μ-loop
 returns c =
     let a = c .before .args in
-    rw (lt-leb (a .to) (length (a .s .now)) (c .if1 .taken)) (none (a .s .now))
+    let e = lt-leb (a .from) (a .to) (omega arith) in
+    record { code = rw e; kept = rw (e, and-false (leb (a .to) (length (a .s .now)))) (none (a .s .now)) }
 
 returns-2 : tie.Need-returns-2 Inv-loop μ-loop
 returns-2 c =
     let a = c .before .before .args in
-    rw (le-leb (a .to) (length (a .s .now)) (omega arith), lt-leb (a .from) (a .to) (c .if2 .taken)) (none (a .s .now))
+    let e = le-leb (a .from) (a .to) (omega arith) in
+    let f = lt-leb (a .to) (length (a .s .now)) (omega arith) in
+    record { code = rw (e, f); kept = rw f (none (a .s .now)) }
 
 loop-holds : tie.Need-loop-holds Inv-loop μ-loop
 loop-holds c = (omega arith, refl, refl)
@@ -62,8 +71,9 @@ returns-3 c =
     let a = t .before .before .before .args in
     let n : t .loop .i ≡ a .to - a .from = omega arith in
     let k : length (take (a .to - a .from) (drop (a .from) (a .s .now))) ≡ a .to - a .from = simp (length-take, length-drop) (omega arith) in
-    rw (le-leb (a .to) (length (a .s .now)) (omega arith), le-leb (a .from) (a .to) (omega arith))
-    (record { count = n ∙ sym k; leaves = cc (t .loop .inv .2, n, k) })
+    let e = le-leb (a .to) (length (a .s .now)) (omega arith) in
+    let f = le-leb (a .from) (a .to) (omega arith) in
+    record { code = rw (e, f); kept = rw (e, f) (record { count = n ∙ sym k; leaves = cc (t .loop .inv .2, n, k) }) }
 
 pub keep-spec : {M : Type 1} → statement M
 keep-spec =
