@@ -12,16 +12,17 @@ use Rattle.format.specs.Fmt.{Out, accepted, refused}
 use Rattle.format.specs.Promises.{readRecord}
 use Rattle.packet.specs.Packet.{packets, recordOf}
 use Rattle.packet.specs.SplittingPromises.{Splits}
-use Rattle.packet.specs.Splitter.{packetCount, packetOf}
+use Rattle.packet.specs.Splitter.{packetOf}
 use Rattle.packet.specs.laws.Demands.{good}
 use Rattle.packet.specs.laws.Packets.{split-reads}
 use Rattle.places.specs.Places.{fourPlaces}
 use Rattle.places.specs.Desk.{numberOf}
 use Rattle.desk_bytes.specs.Promises.{AsksIn}
 use Rattle.desk_runs.specs.Lent.{Lent, deskIn, EmptyIn, Run, accepts, answers, gives-up, callsOf}
-use Rattle.desk_runs.specs.Runs.{Desk, Empty, Call, comes, asks, drops, replyTo, run, log, Part, brings, frees, grown, since, asked}
+use Rattle.desk_runs.specs.Runs.{Desk, Empty, Call, comes, asks, drops, replyTo, run, log, Part, brings, grown, since, asked}
 use Rattle.desk_runs.specs.Taking.{openNotices}
-use Rattle.desk_runs.specs.laws.Split.{AllCame, handed, split-handed-out, split-over-bytes}
+use Rattle.desk_runs.specs.Sending.{brought, Ours, AllCame, Sent, Fair, handed}
+use Rattle.desk_runs.specs.laws.Split.{split-handed-out, split-over-bytes}
 use Rattle.desk_runs.specs.laws.BytesDemand.{empty-in}
 use Rattle.desk_runs.specs.laws.Follows.{follows}
 use Rattle.desk_runs.specs.laws.Takes.{joins-its-notice, opens-its-notice}
@@ -33,11 +34,6 @@ split-sends s c english number k t fine e =
     let p = packetOf english number c k in
     let (reads, shows) = split-reads english number c s k 0 t e fine refl in
     good (take (4 + length (p .1)) t) (p .0) (p .1) reads shows
-
--- the packets of message number n that calls bring, the last of them in front
-unfoldable pub brought : ℕ → List Call → List Part
-brought n [] = []
-brought n (c ∷ cs) = brings n c ++ brought n cs
 
 brings-it : (n : ℕ) (m : List ℕ) (x : Part) → readRecord packets recordOf m ≡ accepted x → x .0 .number ≡ n → brings n (comes m) ≡ x ∷ []
 brings-it n m x e q = rw (e, eq-eqb (x .0 .number) n q) refl
@@ -56,43 +52,28 @@ either true xs = refl
 either false xs = refl
 
 module _ (english : Bool) (number : ℕ) (c : List ℕ) where
-  -- packet number k of the content, where there is one
-  pub record Ours (y : Part) : Type 0 where
-    pub own : ℕ
-    pub below : own < packetCount (length c)
-    pub is : y ≡ packetOf english number c own
-
-  -- a call that does not free the notice's place, and brings no packet of its number but those of the content
-  pub record Fair (x : Call) : Type 0 where
-    pub leaves : frees number x ≡ false
-    pub ours : (y : Part) → List·Memᴰ y (brings number x) → Ours y
-
-  -- two of them with one own number are one
-  same-ours : (x y : Part) → Ours x → Ours y → x .0 .own ≡ y .0 .own → x .1 ≡ y .1
+  -- two of the content's packets with one own number are one
+  same-ours : (x y : Part) → Ours english number c x → Ours english number c y → x .0 .own ≡ y .0 .own → x .1 ≡ y .1
   same-ours x y a b q =
       let own : a .own ≡ b .own = ap (λ (z : Part). z .0 .own) (sym (a .is)) ∙ q ∙ ap (λ (z : Part). z .0 .own) (b .is) in
       ap (λ (z : Part). z .1) (a .is ∙ ap (packetOf english number c) own ∙ sym (b .is))
 
   -- fair calls bring the content's packets alone
-  all-ours : (cs : List Call) → ((x : Call) → List·Memᴰ x cs → Fair x) → (y : Part) → List·Memᴰ y (brought number cs) → Ours y
+  all-ours : (cs : List Call) → ((x : Call) → List·Memᴰ x cs → Fair english number c x) → (y : Part) → List·Memᴰ y (brought number cs) → Ours english number c y
   unfolding brought
   all-ours [] fair y h = absurd (List·Memᴰ·not-nil h)
   all-ours (x ∷ cs) fair y h = go (List·Memᴰ·append-cases (brings number x) h) (all-ours cs (λ z k. fair z (List·Memᴰ·tail k)) y)
     where
-      go : List·Memᴰ y (brings number x) ⊎ List·Memᴰ y (brought number cs) → (List·Memᴰ y (brought number cs) → Ours y) → Ours y
+      go : List·Memᴰ y (brings number x) ⊎ List·Memᴰ y (brought number cs) → (List·Memᴰ y (brought number cs) → Ours english number c y) → Ours english number c y
       go (inl k) r = fair x (List·Memᴰ·head refl) .ours y k
       go (inr k) r = r k
 
-  -- the calls cs bring each packet of the content
-  abbrev pub Sent : List Call → Type 0
-  Sent cs = (k : ℕ) → k < packetCount (length c) → (m : List ℕ) × List·Memᴰ (comes m) cs × (readRecord packets recordOf m ≡ accepted (packetOf english number c k))
-
-  all-came : {cs : List Call} {xs : List Part} → xs ≡ brought number cs → Sent cs → AllCame english number c xs
+  all-came : {cs : List Call} {xs : List Part} → xs ≡ brought number cs → Sent english number c cs → AllCame english number c xs
   all-came {cs} e sent k l = let (m, there, reads) = sent k l in subst (List·Memᴰ (packetOf english number c k)) (sym e) (brought-there number cs m (packetOf english number c k) there reads refl)
 
   module _ (d : Desk) (empty : Empty d) where
     -- one call more, where some of the content's packets have come and no other
-    one-more : (cs : List Call) (y : Part) (ys : List Part) → since number (log d cs) ≡ y ∷ ys → ((z : Part) → List·Memᴰ z (y ∷ ys) → Ours z) → (x : Call) → Fair x
+    one-more : (cs : List Call) (y : Part) (ys : List Part) → since number (log d cs) ≡ y ∷ ys → ((z : Part) → List·Memᴰ z (y ∷ ys) → Ours english number c z) → (x : Call) → Fair english number c x
         → since number (log d (x ∷ cs)) ≡ brings number x ++ since number (log d cs)
     unfolding since log
     one-more cs y ys have ours (asks n b w) f = rw (f .leaves) (either (eqb (numberOf (replyTo (asks n b w) (run d cs))) 0) (since number (log d cs)))
@@ -122,7 +103,7 @@ module _ (english : Bool) (number : ℕ) (c : List ℕ) where
     -- the first packet m of the notice comes, of which none has come, where fewer than four notices are open
     module _ (old : List Call) (m : List ℕ) (x : Part) (none : since number (log d old) ≡ []) (few : openNotices (log d old) < fourPlaces) (reads : readRecord packets recordOf m ≡ accepted x) (at : x .0 .number ≡ number) where
       -- Every packet that the calls bring is taken in.
-      pub all-taken-in : (later : List Call) → ((y : Call) → List·Memᴰ y (later ++ (comes m ∷ [])) → Fair y) → since number (log d (later ++ (comes m ∷ old))) ≡ brought number (later ++ (comes m ∷ []))
+      pub all-taken-in : (later : List Call) → ((y : Call) → List·Memᴰ y (later ++ (comes m ∷ [])) → Fair english number c y) → since number (log d (later ++ (comes m ∷ old))) ≡ brought number (later ++ (comes m ∷ []))
       unfolding since log brought
       all-taken-in [] fair = rw (opens-its-notice d empty old m x reads (ap (λ n. since n (log d old)) at ∙ none) few, none) refl
       all-taken-in (y ∷ later) fair = go (brought number calls) refl (all-taken-in later (λ z k. fair z (List·Memᴰ·tail k)))
@@ -137,7 +118,7 @@ module _ (english : Bool) (number : ℕ) (c : List ℕ) where
               ∙ ap (brings number y ++_) r
 
       -- So when each packet of the content has been sent, asking with room hands it out.
-      pub arrives : 1 ≤ length c → (later : List Call) → ((y : Call) → List·Memᴰ y (later ++ (comes m ∷ [])) → Fair y) → Sent (later ++ (comes m ∷ [])) → (b w : List ℕ) → length c ≤ length b
+      pub arrives : 1 ≤ length c → (later : List Call) → ((y : Call) → List·Memᴰ y (later ++ (comes m ∷ [])) → Fair english number c y) → Sent english number c (later ++ (comes m ∷ [])) → (b w : List ℕ) → length c ≤ length b
           → asked number b w (run d (later ++ (comes m ∷ old))) ≡ handed english number c b w
       arrives some later fair sent = split-handed-out english number c some d empty (later ++ (comes m ∷ old)) (all-came (all-taken-in later fair) sent)
 

@@ -17,6 +17,7 @@ use Rattle.places.specs.laws.Front.{Unopened}
 use Rattle.desk_bytes.specs.Promises.{countOf, languageOf, AsksIn}
 use Rattle.desk_runs.specs.Lent.{Lent, deskIn, EmptyIn, Run, callsOf}
 use Rattle.desk_runs.specs.Runs.{Desk, Empty, Call, asks, run, log, Part, since, came, contentOf, inOrder, Given, asked, due}
+use Rattle.desk_runs.specs.Sending.{AllCame, handed}
 use Rattle.desk_runs.specs.laws.BytesDemand.{empty-in, asked-over-bytes}
 use Rattle.desk_runs.specs.laws.Demand.{told, whole, complete-due, asked-is-due, one-notice}
 use Rattle.desk_runs.specs.laws.Follows.{follows}
@@ -44,14 +45,6 @@ none-open d empty cs n e i l o q =
     omega (arith, some, ap (λ n. length (since n (log d cs))) q, ap length e)
 
 module _ (english : Bool) (number : ℕ) (c : List ℕ) where
-  -- all its packets are among xs
-  abbrev pub AllCame : List Part → Type 0
-  AllCame xs = (k : ℕ) → k < packetCount (length c) → List·Memᴰ (packetOf english number c k) xs
-
-  -- what asking with a buffer b and a row w is to give
-  abbrev pub handed : List ℕ → List ℕ → Given
-  handed b w = record { reply = Joined (length c) (cond english 1 0); notice = c ++ drop (length c) b; missing = w }
-
   -- the parts in number order
   in-order : (xs : List Part) → ((k : ℕ) → k < packetCount (length c) → contentOf xs k ≡ partOf c k) → (t : ℕ) → t ≤ packetCount (length c) → inOrder t xs ≡ take (t * partBytes) c
   unfolding inOrder
@@ -61,11 +54,11 @@ module _ (english : Bool) (number : ℕ) (c : List ℕ) where
       ap₂ _++_ (in-order xs h t (omega arith)) (h t (omega arith)) ∙ sym (ap (λ n. take n c) more ∙ take-add (t * partBytes) partBytes c)
 
   module _ (some : 1 ≤ length c) where
-    module _ (d : Desk) (empty : Empty d) (cs : List Call) (all : AllCame (since number (log d cs))) (b w : List ℕ) (room : length c ≤ length b) where
-      pub split-due : due (since number (log d cs)) b w ≡ handed b w
+    module _ (d : Desk) (empty : Empty d) (cs : List Call) (all : AllCame english number c (since number (log d cs))) (b w : List ℕ) (room : length c ≤ length b) where
+      pub split-due : due (since number (log d cs)) b w ≡ handed english number c b w
       split-due = go (since number (log d cs)) refl all
         where
-          go : (xs : List Part) → since number (log d cs) ≡ xs → AllCame xs → due xs b w ≡ handed b w
+          go : (xs : List Part) → since number (log d cs) ≡ xs → AllCame english number c xs → due xs b w ≡ handed english number c b w
           go [] e all = absurd (List·Memᴰ·not-nil (all 0 (omega arith)))
           go (x ∷ xs) e all =
               let one : (k : ℕ) → k < packetCount (length c) → Member (x .0 .total) (x .0 .language) (packetOf english number c k) × (contentOf (x ∷ xs) k ≡ partOf c k) = λ k l. one-notice d empty cs number x xs e b w (packetOf english number c k) (all k l) in
@@ -77,7 +70,7 @@ module _ (english : Bool) (number : ℕ) (c : List ℕ) where
               ∙ (λ i. record { reply = Joined (length (is i)) (sym (first .language) i); notice = is i ++ drop (length (is i)) b; missing = w })
 
       -- Over places: the content is handed out,
-      pub split-handed-out : asked number b w (run d cs) ≡ handed b w
+      pub split-handed-out : asked number b w (run d cs) ≡ handed english number c b w
       split-handed-out = asked-is-due d empty cs number b w ∙ split-due
 
       -- and no place has its number any more.
@@ -87,14 +80,14 @@ module _ (english : Bool) (number : ℕ) (c : List ℕ) where
           (e, none-open d empty (asks number b w ∷ cs) number e)
 
     -- Over lent bytes the same: the code, the buffer, the row, the count and the language; and the place is free.
-    module _ (d : Lent) (empty : EmptyIn d) (h : List (Call × ℕ)) (e : Lent) (r : Run d h e) (all : AllCame (since number h)) (b w : List ℕ) (room : length c ≤ length b) where
+    module _ (d : Lent) (empty : EmptyIn d) (h : List (Call × ℕ)) (e : Lent) (r : Run d h e) (all : AllCame english number c (since number h)) (b w : List ℕ) (room : length c ≤ length b) where
       pub split-over-bytes : (count language code : ℕ) (bs t v : List ℕ) (count′ language′ : ℕ) → AsksIn (e .places) (e .store) number b w count language code bs t v count′ language′
           → (code ≡ 0) × (t ≡ c ++ drop (length c) b) × (v ≡ w) × (count′ ≡ length c) × (language′ ≡ cond english 1 0) × (since number ((asks number b w, code) ∷ h) ≡ [])
       unfolding since
       split-over-bytes count language code bs t v count′ language′ answer =
           let f = follows d (empty .wide) h e r in
-          let is : due (since number h) b w ≡ handed b w =
-          ap (λ h. due (since number h) b w) (f .logged) ∙ split-due (deskIn d) (empty-in empty) (callsOf h) (subst (λ h. AllCame (since number h)) (f .logged) all) b w room in
+          let is : due (since number h) b w ≡ handed english number c b w =
+          ap (λ h. due (since number h) b w) (f .logged) ∙ split-due (deskIn d) (empty-in empty) (callsOf h) (subst (λ h. AllCame english number c (since number h)) (f .logged) all) b w room in
           let (x, y, z, p, q) = asked-over-bytes d empty h e r number b w count language code bs t v count′ language′ answer in
           let code-is : code ≡ 0 = x ∙ ap (λ (g : Given). numberOf (g .reply)) is in (
             code-is,

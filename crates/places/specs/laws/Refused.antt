@@ -1,18 +1,20 @@
 -- Demand 1 for the desk, from the promises of its calls by value and over a lent row of places: a number other than 0 and 9 leaves places, store, buffer and row as they were, 9 leaves all but the row, and 0 is never a refusal. Assumes nothing.
 use mathlib.Core.Path.{_≡_, sym, ap, _∙_}
 use mathlib.Core.List.{List, _++_}
-use Prim.Native.Nat.{ℕ, _<_}
+use Prim.Native.Nat.{ℕ, _≤_, _<_}
 use lib.ListN.{length, drop, set}
 use Rattle.format.specs.Fmt.{accepted}
 use Rattle.format.specs.Promises.{readRecord}
 use Rattle.packet.specs.Packet.{packets, recordOf}
 use Rattle.packet.specs.declared.reading.Packet.{Packet}
-use Rattle.places.specs.Places.{freed, fourPlaces}
+use Rattle.places.specs.Places.{freed, fourPlaces, front}
 use Rattle.places.specs.Desk.{numberOf, applied, firstTests, Accepting, accepting, Asking, asking, Dropping}
-use Rattle.places.specs.Promises.{Accepts, Asks, Drops}
+use Rattle.places.specs.Promises.{Accepts, Asks, Drops, AcceptTurn, AskTurn, DropTurn}
 use Rattle.places.specs.declared.Place.{Place}
 use Rattle.places.specs.declared.Reply.{Reply}
 use Rattle.places.specs.declared.Reply.the-variants.{Done, Joined}
+use Rattle.places.specs.declared.Turn.{Turn}
+use Rattle.places.specs.laws.Row.{accepts-row, asks-row, drops-row}
 use Rattle.places.specs.laws.Taken.{Takes}
 use Rattle.places.specs.laws.Ends.{accepting-so, asking-so, dropping-so, its, notice, without, whole, accepting-away, accepting-in, asking-away, asking-lists, asking-hands, dropping-away, dropping-frees}
 
@@ -59,3 +61,32 @@ module _ (ps : List Place) (s : List ℕ) (n : ℕ) (a : Reply) (qs : List Place
   zero-drop z =
       let (l, is) = dropping-frees (dropping-so ps s n) (ap numberOf (sym (e .0)) ∙ z) in
       (l, e .0 ∙ ap (λ (o : Dropping). o .reply) is, e .1 ∙ ap (λ (o : Dropping). applied ps (o .change)) is)
+
+-- ---- by value, where ps has at least four places: the turn's place, stored, is what the call leaves of the row
+
+module _ (ps : List Place) (wide : fourPlaces ≤ length ps) (s : List ℕ) where
+  module _ (m : List ℕ) (r : Turn) (t : List ℕ) (e : AcceptTurn (front ps) s m r t) where
+    pub refused-accept-turn : (numberOf (r .reply) ≡ 0 → ⊥) → (set ps (r .at) (r .place) ≡ ps) × (t ≡ s)
+    refused-accept-turn = refused-accept ps s m (r .reply) (set ps (r .at) (r .place)) t (accepts-row ps s m r t wide e)
+
+    pub zero-accept-turn : numberOf (r .reply) ≡ 0 → (x : Packet × List ℕ) × (readRecord packets recordOf m ≡ accepted x) × (firstTests ps s ≡ 0) × Takes ps s (x .0) (x .1) (accepting ps s m)
+    zero-accept-turn = zero-accept ps s m (r .reply) (set ps (r .at) (r .place)) t (accepts-row ps s m r t wide e)
+
+  module _ (n : ℕ) (b w : List ℕ) (r : Turn) (c v : List ℕ) (e : AskTurn (front ps) s n b w r c v) where
+    pub refused-ask-turn : (numberOf (r .reply) ≡ 0 → ⊥) → (numberOf (r .reply) ≡ 9 → ⊥) → (set ps (r .at) (r .place) ≡ ps) × (c ≡ b) × (v ≡ w)
+    refused-ask-turn = refused-ask ps s n b w (r .reply) (set ps (r .at) (r .place)) c v (asks-row ps s n b w r c v wide e)
+
+    pub nine-ask-turn : numberOf (r .reply) ≡ 9 → (set ps (r .at) (r .place) ≡ ps) × (c ≡ b) × (v ≡ without ps n ++ drop (length (without ps n)) w)
+    nine-ask-turn = nine-ask ps s n b w (r .reply) (set ps (r .at) (r .place)) c v (asks-row ps s n b w r c v wide e)
+
+    pub zero-ask-turn : numberOf (r .reply) ≡ 0
+        → (its ps n < fourPlaces) × (length (without ps n) ≡ 0) × (r .reply ≡ Joined (length (whole ps n s)) (notice ps n .language)) × (set ps (r .at) (r .place) ≡ set ps (its ps n) (freed (notice ps n)))
+        × (c ≡ whole ps n s ++ drop (length (whole ps n s)) b) × (v ≡ w)
+    zero-ask-turn = zero-ask ps s n b w (r .reply) (set ps (r .at) (r .place)) c v (asks-row ps s n b w r c v wide e)
+
+  module _ (n : ℕ) (r : Turn) (e : DropTurn (front ps) s n r) where
+    pub refused-drop-turn : (numberOf (r .reply) ≡ 0 → ⊥) → set ps (r .at) (r .place) ≡ ps
+    refused-drop-turn = refused-drop ps s n (r .reply) (set ps (r .at) (r .place)) (drops-row ps s n r wide e)
+
+    pub zero-drop-turn : numberOf (r .reply) ≡ 0 → (its ps n < fourPlaces) × (r .reply ≡ Done) × (set ps (r .at) (r .place) ≡ set ps (its ps n) (freed (notice ps n)))
+    zero-drop-turn = zero-drop ps s n (r .reply) (set ps (r .at) (r .place)) (drops-row ps s n r wide e)
