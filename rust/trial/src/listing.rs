@@ -6,10 +6,11 @@ use crate::sample;
 use paper::daylog::{listing, KINDS};
 use std::io::{self, Write};
 use std::process::{ChildStdin, Command, Stdio};
-use std::{fs, thread};
+use std::{env, fs, thread};
 
 const PROGRAM: &str = concat!(env!("CARGO_MANIFEST_DIR"), "/../../target/bin/listing");
 const EMULATE: &str = concat!(env!("CARGO_MANIFEST_DIR"), "/../emulate");
+const OTHER: &str = "BELLNEWT_LISTING";
 
 /// The words of a listing's lines as a family's calls, with the numbers that a line of each can have.
 const NAME: &str = "listing";
@@ -84,8 +85,11 @@ fn difference(found: &[u8], due: &str) -> String {
     format!("line {}: {}, due {}", at + 1, line(&found), line(due))
 }
 
-/// The program as `./listing` runs it.
+/// The program as `./listing` runs it; where `OTHER` names a program, that one.
 pub fn program() -> Command {
+    if let Some(other) = env::var_os(OTHER) {
+        return Command::new(other);
+    }
     let mut program = Command::new(EMULATE);
     program.arg(PROGRAM);
     program
