@@ -6,3 +6,4 @@ pub mod Sentence
 pub mod Demands
 pub mod Packet
 pub mod Notice
+pub mod Making
