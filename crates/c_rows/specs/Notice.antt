@@ -3,8 +3,8 @@ use Prim.Native.Nat.{ℕ, zero, suc}
 use mathlib.Core.Path.{_≡_}
 use mathlib.Core.List.{List, [], _∷_, _++_}
 use lib.Dec.{leb}
-use lib.IntN.{ℤ, pos}
-use lib.ListN.{length, drop}
+use lib.IntN.{ℤ, pos, natAbs}
+use lib.ListN.{length, drop, getD}
 use Rattle.format.specs.Fmt.{Out, accepted, orBad, check, after}
 use Rattle.format.specs.Message.{codeOf, ahead}
 use Rattle.format.specs.Promises.{readRecord, answered}
@@ -29,6 +29,14 @@ rowOf r =
     ∷ pos (r .numbers)
     ∷ pos (r .text)
     ∷ []
+
+-- what such a row tells
+abbrev pub toldIn : List ℤ → Told
+toldIn row = let at : ℕ → ℕ = λ i. natAbs (getD row i (pos 0)) in record {
+  notice = record { source = at 0; station = at 1; serial = at 2; year = at 3; kind = at 4; subtype = at 5; expiry = at 6; count = at 7 };
+  numbers = at 8;
+  text = at 9;
+}
 
 -- the record of the numbers that the writing call is given
 abbrev pub recordOf : ℕ → ℕ → ℕ → ℕ → ℕ → ℕ → ℕ → ℕ → Notice

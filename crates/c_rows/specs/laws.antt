@@ -5,5 +5,6 @@ pub mod Sentence
 pub mod Demands
 pub mod Packet
 pub mod Notice
+pub mod Making
 pub mod Refused
 pub mod Readings

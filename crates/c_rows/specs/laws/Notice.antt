@@ -1,5 +1,5 @@
--- The four ways in which a notice is read as numbers: another language, a row too short, a good notice, a refused one. Each is the definition's by the answer's case. Assumes nothing.
-use mathlib.Core.Path.{_≡_, refl, ap, _∙_}
+-- The four ways in which a notice is read as numbers: another language, a row too short, a good notice, a refused one. Each is the definition's by the answer's case. And back: what such a reading was. Assumes nothing.
+use mathlib.Core.Path.{_≡_, refl, sym, ap, _∙_, subst}
 use mathlib.Core.Bool.{Bool, true, false, _&&_}
 use mathlib.Core.List.{List, _++_}
 use Prim.Native.Nat.{ℕ, zero, suc, _≤_, _<_}
@@ -8,7 +8,7 @@ use lib.Dec.{leb, eqb}
 use lib.IntN.{ℤ}
 use lib.ListN.{length, drop}
 use borrow.Author.Tests.{le-leb, lt-leb, leb-true}
-use Rattle.format.specs.Fmt.{Out, accepted, refused, orBad, check, also}
+use Rattle.format.specs.Fmt.{Out, accepted, refused, orBad, check, also, after}
 use Rattle.format.specs.Message.{codeOf, readMessage, ahead}
 use Rattle.format.specs.Promises.{readRecord, answered}
 use Rattle.format.specs.laws.Zero.{read-zero-message}
@@ -20,7 +20,7 @@ use Rattle.notice.specs.Promises.{housed, toldOf, answerOf, Reads}
 use Rattle.notice.specs.laws.Sound.{judged}
 use Rattle.notice.specs.declared.reading.Told.{Told}
 use Rattle.notice.specs.declared.reading.Answer.the-variants.{Good, Refused}
-use Rattle.c_rows.specs.Notice.{rowOf, roomy, unroomed, Lent, NoticeFills}
+use Rattle.c_rows.specs.Notice.{rowOf, toldIn, roomy, unroomed, Lent, NoticeFills}
 
 -- a refusal leaves the row, the areas and the text as they were
 pub refused-lent : (o : Out Whole) (row : List ℤ) (areas text : List ℕ) (c : ℕ) (row′ : List ℤ) (areas′ text′ : List ℕ)
@@ -98,3 +98,22 @@ module _ (language : ℕ) (s : List ℕ) (row : List ℤ) (areas text : List ℕ
               → Lent (roomy (length row) o) row areas text d row areas′ text′
           go (refused c p) e a t = let k : d ≡ c = cc in (k, refl, a, t)
           go (accepted x) e a t = let z : _≡_ {A = ℕ} 0 1 = cc in absurd (omega arith)
+
+    -- A reading that did not want for room answers by the notice's own number; where that is 0, the row tells what was read.
+    pub told-in : {c : ℕ} {row′ : List ℤ} {areas′ text′ : List ℕ} → NoticeFills language s row areas text c row′ areas′ text′ → (c ≡ 6 → ⊥)
+        → (c ≡ codeOf found) × (c ≡ 0 → Reads (eqb language 1) s areas text (Good (toldIn row′)) areas′ text′)
+    told-in {c} {row′} {areas′} {text′} fills roomed =
+        go found (named (eqb language 1) s) (subst (λ b. Lent (check (orBad b 4) 0 (roomy (length row) (housing (also wholeOf found)))) row areas text c row′ areas′ text′) (le-leb language 1 either) fills)
+      where
+        tells : Out Whole → Type 0
+        tells o = (Good (toldIn row′) ≡ answerOf o) × (areas′ ≡ answered (λ x. ahead (x .1 .0) areas) (λ c. areas) o) × (text′ ≡ answered (λ x. ahead (x .1 .1) text) (λ c. text) o)
+
+        go : (o : Out (List ℕ)) → ((p : ℕ) → o ≡ refused 0 p → ⊥) → Lent (roomy (length row) (housing (also wholeOf o))) row areas text c row′ areas′ text′ → (c ≡ codeOf o) × (c ≡ 0 → tells (housing (also wholeOf o)))
+        go (refused d p) n l = (l .0, λ z. absurd (n p (ap (λ c. refused c p) (sym (l .0) ∙ z))))
+        go (accepted vs) n l = fits (leb (length (wholeOf vs .1 .0)) (length areas) && leb (length (wholeOf vs .1 .1)) (length text)) (leb 10 (length row)) l
+          where
+            fits : (a b : Bool) → let o = check (orBad a 6) 0 (accepted (wholeOf vs)) in
+                Lent (after o (λ x. check (orBad b 6) 0 (accepted x))) row areas text c row′ areas′ text′ → (c ≡ 0) × (c ≡ 0 → tells o)
+            fits false b l = absurd (roomed (l .0))
+            fits true false l = absurd (roomed (l .0))
+            fits true true l = (l .0, λ z. (ap (λ row. Good (toldIn row)) (l .1), l .2, l .3))

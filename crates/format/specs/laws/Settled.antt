@@ -4,10 +4,11 @@ use mathlib.Core.Bool.{Bool, true, false, cond}
 use mathlib.Core.List.{List, []}
 use Prim.Native.Nat.{ℕ, _+_, _*_, _^_, _≤_, _<_}
 use native.Mathlib.Omega.{arith}
-use borrow.Author.Tests.{ltb-true, ltb-false}
-use lib.Dec.{ltb}
+use borrow.Author.Tests.{eqb-true, eqb-false, ltb-true, ltb-false}
+use lib.Dec.{eqb, ltb}
 use lib.ListN.{length}
 use Rattle.bits.specs.Bits.{Bytes, bitsOf, fieldAt, putAt}
+use Rattle.bits.specs.laws.Answers.{one-answer}
 use Rattle.bits.specs.laws.Fields.{length-put, field-put, field-put-before, field-put-after}
 use Rattle.format.specs.Fmt.{Out, accepted, refused, also, read, Spot, none, found, spot}
 use Rattle.format.specs.Message.{Layout, body, sealed, codeOf, leaves, into, readMessage, writeMessage, correctMessage, ahead}
@@ -52,6 +53,36 @@ module _ {R : Type 0} (stands : R → Spot) (seal : Bool) (s : List ℕ) (v : �
           by : (b : Bool) → cond b (AsWritten (writes r) seal s p w v code t) (Stays 4 s code t) → cond b (AsWritten (writes′ r) seal s p w v code t) (Stays 4 s code t)
           by true e = record { answers = λ u room d x h. e .answers u room d x (f r p w refl k u d x h); good = e .good; bad = e .bad }
           by false e = e
+
+-- The endings exclude one another: two answers that one allows are equal, where writing a record into s answers something.
+module _ {R : Type 0} (writes : R → List ℕ → ℕ → List ℕ → Type 0) (stands : R → Spot) (seal : Bool) (s : List ℕ) (v : ℕ) (some : (r : R) → (d : ℕ) × (x : List ℕ) × writes r s d x) (c d : ℕ) (t u : List ℕ) where
+  one-written : (r : R) (p w : ℕ) → AsWritten (writes r) seal s p w v c t → AsWritten (writes r) seal s p w v d u → (c ≡ d) × (t ≡ u)
+  one-written r p w x y = (same, go (eqb c 0) refl)
+    where
+      same : c ≡ d
+      same = let (e, z, wrote) = some r in x .answers s (omega arith) e z wrote .0 ∙ sym (y .answers s (omega arith) e z wrote .0)
+
+      go : (b : Bool) → eqb c 0 ≡ b → t ≡ u
+      go true k = let z = eqb-true c 0 k in x .good z .is ∙ sym (y .good (sym same ∙ z) .is)
+      go false k = let n = eqb-false c 0 k in x .bad n ∙ sym (y .bad (λ z. n (same ∙ z)))
+
+  one-ending : (o : Out R) → SettledBy writes stands seal s o v c t → SettledBy writes stands seal s o v d u → (c ≡ d) × (t ≡ u)
+  one-ending (refused n p) x y = one-answer (λ c. s) x y
+  one-ending (accepted r) x y = at (stands r) x y
+    where
+      at : (k : Spot) → SettledAt (writes r) seal s k v c t → SettledAt (writes r) seal s k v d u → (c ≡ d) × (t ≡ u)
+      at none x y = one-answer (λ c. s) x y
+      at (found p w) x y = by (ltb v (2 ^ w)) x y
+        where
+          by : (b : Bool) → cond b (AsWritten (writes r) seal s p w v c t) (Stays 4 s c t) → cond b (AsWritten (writes r) seal s p w v d u) (Stays 4 s d u) → (c ≡ d) × (t ≡ u)
+          by true x y = one-written r p w x y
+          by false x y = one-answer (λ c. s) x y
+
+-- So what `Settled` says decides the number and every byte, as the promise `Corrects` does.
+pub one-settled : {R : Type 0} (l : Layout) (spotOf : R → ℕ → Spot) (valuesOf : R → List ℕ) (changed : ℕ → ℕ → R → R) (s : List ℕ) (o : Out R) (i v c d : ℕ) (t u : List ℕ)
+    → Settled l spotOf valuesOf changed s o i v c t → Settled l spotOf valuesOf changed s o i v d u → (c ≡ d) × (t ≡ u)
+one-settled l spotOf valuesOf changed s o i v c d t u =
+    one-ending (λ r u d x. Writes l u d x (valuesOf (changed i v r))) (λ r. spotOf r i) (l .seal) s v (λ r. let w = into s (writeMessage l (valuesOf (changed i v r))) in (codeOf w, leaves w s, (refl, refl))) c d t u o
 
 -- ---- every correction ends so
 
