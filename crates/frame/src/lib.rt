@@ -1,8 +1,7 @@
 // What the serial frames share (paper 01, "Serial frames"; 004): `$`, four letters, length, own address, and the seal.
 ghost use mathlib.Core.Path.{_≡_};
 ghost use mathlib.Core.Bool.{true, cond};
-ghost use Prim.Native.Nat.{_+_, _-_, _<_, _^_};
-ghost use lib.ListN.{length, take, drop};
+ghost use Prim.Native.Nat.{_+_, _<_, _^_};
 ghost use Rattle.frame.specs.Frame.{leads, declared as Frame·declared, fits};
 ghost use Rattle.frame.specs.Steps.{headed, headJudged, headPut};
 ghost use Rattle.format.specs.Fmt.{pad};
@@ -114,18 +113,4 @@ pub fn unused_bits(size: u16) -> usize
     ensures { λ r. ⌜ r ≡ pad size ⌝ }
 {
     (8 - size as usize % 8) % 8
-}
-
-// The bytes from `from` on, up to the last `behind` of them: none where there are not so many.
-pub fn carried(s: &[u8], from: usize, behind: usize) -> &[u8]
-    ensures { λ r. ⌜ now r ≡ take (length (now (s .entry)) - behind - from) (drop from (now (s .entry))) ⌝ }
-{
-    if s.len() < behind {
-        return &s[..0];
-    }
-    let end = s.len() - behind;
-    if end < from {
-        return &s[..0];
-    }
-    &s[from..end]
 }

@@ -55,7 +55,10 @@ impl Answer {
 }
 
 impl Notice {
-    pub const LEAST: usize = 8;
+    // The bits of the head: all but areas, text and fill.
+    pub const BITS: usize = notice_fields::areas::FRONT as usize;
+
+    pub const LEAST: usize = (Notice::BITS + 7) / 8;
 
     // What the packets of a notice can carry.
     pub const GREATEST: usize = packet::JOINED;

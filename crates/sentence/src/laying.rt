@@ -4,6 +4,7 @@ ghost use Prim.Native.Nat.{_+_, _≤_};
 ghost use lib.ListN.{length};
 ghost use lib.Seq.{paste};
 ghost use Rattle.sentence.specs.Pattern.{Laid, opening, summedUp};
+use crate::Sentence;
 
 // Puts the bytes of a part at an offset of the buffer.
 fn put(buf: &mut [u8], at: usize, part: &[u8])
@@ -18,7 +19,7 @@ fn put(buf: &mut [u8], at: usize, part: &[u8])
 }
 
 // All of a sentence but its address.
-pub const AROUND: usize = 53;
+pub const AROUND: usize = Sentence::BITS / 8;
 
 // Lays the sentence of an address's digits and of the report's bytes over the buffer's front. Where there is no room for it,
 // says so and leaves every byte.

@@ -13,12 +13,12 @@ pub mod writing;
 pub struct Sentence;
 
 impl Sentence {
-    pub const LEAST: usize = 54;
+    // The bits of a sentence besides its address, which has one digit to seven.
+    pub const BITS: usize = 424;
 
-    pub const GREATEST: usize = 60;
+    pub const LEAST: usize = Sentence::BITS / 8 + 1;
 
-    // Of the longest one.
-    pub const BITS: usize = 8 * Sentence::GREATEST;
+    pub const GREATEST: usize = Sentence::BITS / 8 + 7;
 }
 
 // The receiver's address; no leading zero.

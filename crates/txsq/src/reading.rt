@@ -62,8 +62,13 @@ impl Txsq {
 
     pub const GREATEST: usize = Txsq::LEAST + 210;
 
-    // Where the content begins.
+    // The bytes of a frame besides its content.
+    pub const BARE: u8 = Txsq::LEAST as u8;
+
+    // Where the content begins, and the bytes behind it: the seal.
     pub const CONTENT: usize = 17;
+
+    pub const TAIL: usize = 1;
 }
 
 // `TXSQ`.
@@ -80,14 +85,15 @@ pub fn read(s: &[u8]) -> Answer
 }
 
 // The content, as a part of the frame itself; an empty part where the frame is refused.
-pub fn content(s: &[u8]) -> &[u8]
-    ensures { λ r. ⌜ Shows (now (s .entry)) (now r) ⌝ }
+pub fn content(frame: &[u8]) -> &[u8]
+    ensures { λ r. ⌜ Shows (now (frame .entry)) (now r) ⌝ }
 {
-    let code = read(s).refusal();
+    let code = read(frame).refusal();
     if code != 0 {
-        return &s[..0];
+        return &frame[..0];
     }
-    frame::carried(s, Txsq::CONTENT, 1)
+    let end = frame.len() - Txsq::TAIL;
+    &frame[Txsq::CONTENT..end]
 }
 
 // The fields in bit order, behind the first tests' answer.
@@ -146,7 +152,7 @@ pub fn limit(category: u8, mode: u8, password: u8, length: u64, size: u64) -> u8
         return format::RANGE;
     }
     if whole(mode, size) {
-        frame::sized(18, length, size)
+        frame::sized(Txsq::BARE, length, size)
     } else {
         format::RANGE
     }

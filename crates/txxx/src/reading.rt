@@ -59,6 +59,9 @@ impl Txxx {
 
     pub const GREATEST: usize = Txxx::LEAST + 210;
 
+    // The bytes of a frame besides its content.
+    pub const BARE: u8 = Txxx::LEAST as u8;
+
     // Where the content begins, and how many bytes follow it: mark and seal.
     pub const CONTENT: usize = 18;
 
@@ -76,14 +79,15 @@ pub fn read(s: &[u8]) -> Answer
 }
 
 // The content, as a part of the frame itself; an empty part where the frame is refused.
-pub fn content(s: &[u8]) -> &[u8]
-    ensures { λ r. ⌜ Shows (now (s .entry)) (now r) ⌝ }
+pub fn content(frame: &[u8]) -> &[u8]
+    ensures { λ r. ⌜ Shows (now (frame .entry)) (now r) ⌝ }
 {
-    let code = read(s).refusal();
+    let code = read(frame).refusal();
     if code != 0 {
-        return &s[..0];
+        return &frame[..0];
     }
-    frame::carried(s, Txxx::CONTENT, Txxx::TAIL)
+    let end = frame.len() - Txxx::TAIL;
+    &frame[Txxx::CONTENT..end]
 }
 
 // The fields in bit order, behind the first tests' answer.
@@ -126,5 +130,5 @@ pub fn limit(length: u64, size: u64) -> u8
     if size > 1_680 {
         return format::RANGE;
     }
-    frame::sized(20, length, size)
+    frame::sized(Txxx::BARE, length, size)
 }

@@ -1,7 +1,7 @@
 -- The content that is shown stands in the frame itself, from byte 17 to the seal. Assumes nothing.
 use mathlib.Core.Path.{_≡_, refl, sym, ap, _∙_}
 use mathlib.Core.List.{List, []}
-use Prim.Native.Nat.{ℕ, _+_, _-_, _*_}
+use Prim.Native.Nat.{ℕ, _+_, _-_, _*_, _≤_}
 use native.Mathlib.Omega.{arith}
 use lib.Dec.{lit<}
 use lib.ListN.{length, take, drop, getD}
@@ -29,8 +29,8 @@ module _ (s : List ℕ) {a : Answer} {n : ℕ} (reads : Reads s a) (number : n �
   pub hidden : (n ≡ 0 → ⊥) → Shows s []
   hidden = shows-none txsqs (family .judged) (λ r. Good (r .0)) Refused recordOf numberOf (λ r. refl) (λ c. refl) (λ r. r .1) [] s reads number
 
-  -- A good frame shows its content.
-  pub shown : Bytes s → n ≡ 0 → Shows s (take (length s - 1 - 17) (drop 17 s))
+  -- A good frame is long enough, and shows its content.
+  pub shown : Bytes s → n ≡ 0 → (18 ≤ length s) × Shows s (take (length s - 1 - 17) (drop 17 s))
   unfolding txsqs txsq recordOf entries
   shown fine z =
       let (vs, e, is-shown) = shows-values txsqs (family .judged) (λ r. Good (r .0)) Refused recordOf numberOf (λ r. refl) (λ c. refl) (λ r. r .1) [] s reads number z in
@@ -44,4 +44,4 @@ module _ (s : List ℕ) {a : Answer} {n : ℕ} (reads : Reads s a) (number : n �
       let n : length b ≡ (length s - 1) * 8 = length-bits (take (length s - 1) s) ∙ ap (_* 8) (length-take-le (length s - 1) s (omega arith)) in
       let (whole, _) = long b vs walked in
       let size : length s ≡ 17 + bytesFor l + 1 = omega (arith, whole, n, fit vs h) in
-      sym (is-shown ∙ content-part s 17 1 l (getD vs 11 0) (getD vs 12 0) fine (lit< tt) size is filled)
+      (omega (arith, size), sym (is-shown ∙ content-part s 17 1 l (getD vs 11 0) (getD vs 12 0) fine (lit< tt) size is filled))

@@ -13,7 +13,7 @@ ghost use Rattle.txsq.specs.Txsq.{txsq, valuesOf};
 pub(crate) fn judged(r: Txsq, content: &[u8]) -> walk::walk::Walk
     ensures { λ w. ⌜ Judged (write txsq [] 0 (valuesOf (r, now (content .entry)))) w ⌝ }
 {
-    let length = frame::declared(18, content.len());
+    let length = frame::declared(Txsq::BARE, content.len());
     let size = r.size as u64;
     let w = frame::judged(LETTERS, length, r.address as u64);
     let w = w.fixed(4, CLASS);
@@ -40,7 +40,7 @@ pub(crate) fn put(buf: &mut [u8], r: Txsq, content: &[u8])
     frame::put(
         buf,
         LETTERS,
-        frame::declared(18, content.len()),
+        frame::declared(Txsq::BARE, content.len()),
         r.address as u64,
     );
     bits::put(buf, 80, 4, CLASS);

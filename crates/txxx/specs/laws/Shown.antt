@@ -2,7 +2,7 @@
 use mathlib.Core.Path.{_≡_, refl, sym, ap, _∙_}
 use mathlib.Core.Bool.{cond}
 use mathlib.Core.List.{List, []}
-use Prim.Native.Nat.{ℕ, _+_, _-_, _*_}
+use Prim.Native.Nat.{ℕ, _+_, _-_, _*_, _≤_}
 use native.Mathlib.Omega.{arith}
 use lib.Dec.{lit<}
 use borrow.Author.Tests.{le-leb}
@@ -32,8 +32,8 @@ module _ (s : List ℕ) {a : Answer} {n : ℕ} (reads : Reads s a) (number : n �
   pub hidden : (n ≡ 0 → ⊥) → Shows s []
   hidden = shows-none txxxs (family .judged) (λ r. Good (r .0)) Refused recordOf numberOf (λ r. refl) (λ c. refl) (λ r. r .1) [] s reads number
 
-  -- A good frame shows its content.
-  pub shown : Bytes s → n ≡ 0 → Shows s (take (length s - 2 - 18) (drop 18 s))
+  -- A good frame is long enough, and shows its content.
+  pub shown : Bytes s → n ≡ 0 → (20 ≤ length s) × Shows s (take (length s - 2 - 18) (drop 18 s))
   unfolding txxxs txxx recordOf entries
   shown fine z =
       let (vs, e, is-shown) = shows-values txxxs (family .judged) (λ r. Good (r .0)) Refused recordOf numberOf (λ r. refl) (λ c. refl) (λ r. r .1) [] s reads number z in
@@ -44,7 +44,7 @@ module _ (s : List ℕ) {a : Answer} {n : ℕ} (reads : Reads s a) (number : n �
       let is = value-at 9 txxx (entries 0 12 vs) b entered l (only l 4 any) kept (fill (pad l) (num 8 (0 ‥ 255) end)) refl in
       let filled = value-at 10 txxx (entries 0 12 vs) b entered (pad l) (only (pad l) 5 (0 ‥ 0)) kept (num 8 (0 ‥ 255) end) refl in
       let size : length s ≡ 18 + bytesFor l + 2 = omega (arith, read-long s vs e .1) in
-      sym (is-shown ∙ content-part s 18 2 l (getD vs 9 0) (getD vs 10 0) fine (lit< tt) size is filled)
+      (omega (arith, size), sym (is-shown ∙ content-part s 18 2 l (getD vs 9 0) (getD vs 10 0) fine (lit< tt) size is filled))
 
 -- the mark stands before the seal
 pub mark-stands : (s : List ℕ) (r : Txxx × List ℕ) → readRecord txxxs recordOf s ≡ accepted r → cond (between 20 230 (length s)) ((length s - 2) * 8) 0 ≡ 144 + bytesFor (r .0 .size) * 8

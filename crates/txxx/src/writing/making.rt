@@ -11,7 +11,7 @@ ghost use Rattle.txxx.specs.Txxx.{txxx, valuesOf};
 pub(crate) fn judged(r: Txxx, content: &[u8]) -> walk::walk::Walk
     ensures { λ w. ⌜ Judged (write txxx [] 0 (valuesOf (r, now (content .entry)))) w ⌝ }
 {
-    let length = frame::declared(20, content.len());
+    let length = frame::declared(Txxx::BARE, content.len());
     let size = r.size as u64;
     let w = frame::judged(LETTERS, length, r.address as u64);
     let w = w.value(8, r.class as u64, 0, 255);
@@ -31,7 +31,7 @@ pub(crate) fn put(buf: &mut [u8], r: Txxx, content: &[u8])
     frame::put(
         buf,
         LETTERS,
-        frame::declared(20, content.len()),
+        frame::declared(Txxx::BARE, content.len()),
         r.address as u64,
     );
     bits::put(buf, 80, 8, r.class as u64);

@@ -9,6 +9,9 @@ use Rattle.gljc.proofs.correcting.stands.Tie as tie
 returns : tie.Need-returns
 returns c = (ap spotOf (c .match .keys1), lit≤ tt)
 
+returns-2 : tie.Need-returns-2
+returns-2 c = (ap spotOf (c .match .keys2), lit≤ tt)
+
 returns-3 : tie.Need-returns-3
 unfolding Unnamed
 returns-3 c = (unnamed spots (c .before .args .field) (c .match .rest), lit≤ tt)
@@ -18,5 +21,5 @@ stands-spec =
     tie.close
     (tie.spec
     returns
-    (λ c. (ap spotOf (c .match .keys2), lit≤ tt))
+    returns-2
     returns-3)

@@ -6,8 +6,11 @@ use Rattle.txsq.specs.Changed.{spots, spotOf}
 use Rattle.txsq.proofs.correcting.stands.Statement.{statement}
 use Rattle.txsq.proofs.correcting.stands.Tie as tie
 
-returns : tie.Need-returns
-returns c = (ap spotOf (c .match .keys1), lit≤ tt)
+returns-3 : tie.Need-returns-3
+returns-3 c = (ap spotOf (c .match .keys3), lit≤ tt)
+
+returns-4 : tie.Need-returns-4
+returns-4 c = (ap spotOf (c .match .keys4), lit≤ tt)
 
 returns-7 : tie.Need-returns-7
 unfolding Unnamed
@@ -17,7 +20,8 @@ pub stands-spec : {M : Type 1} → statement M
 stands-spec =
     tie.close
     (tie.spec
-    returns
-    (λ c. (ap spotOf (c .match .keys2), lit≤ tt)) (λ c. (ap spotOf (c .match .keys3), lit≤ tt)) (λ c. (ap spotOf (c .match .keys4), lit≤ tt))
+    (λ c. (ap spotOf (c .match .keys1), lit≤ tt)) (λ c. (ap spotOf (c .match .keys2), lit≤ tt))
+    returns-3
+    returns-4
     (λ c. (ap spotOf (c .match .keys5), lit≤ tt)) (λ c. (ap spotOf (c .match .keys6), lit≤ tt))
     returns-7)

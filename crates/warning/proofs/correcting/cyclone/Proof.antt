@@ -11,6 +11,9 @@ use Rattle.warning.proofs.correcting.cyclone.Tie as tie
 returns : tie.Need-returns
 returns c = (ap (ownSpot cyclone) (c .match .keys1), lit≤ tt)
 
+returns-2 : tie.Need-returns-2
+returns-2 c = (ap (ownSpot cyclone) (c .match .keys2), lit≤ tt)
+
 returns-8 : tie.Need-returns-8
 unfolding Unnamed picks
 returns-8 c = (not-named cyclone (c .before .args .field) (c .match .rest), lit≤ tt)
@@ -20,7 +23,8 @@ cyclone-spec =
     tie.close
     (tie.spec
     returns
-    (λ c. (ap (ownSpot cyclone) (c .match .keys2), lit≤ tt)) (λ c. (ap (ownSpot cyclone) (c .match .keys3), lit≤ tt))
-    (λ c. (ap (ownSpot cyclone) (c .match .keys4), lit≤ tt)) (λ c. (ap (ownSpot cyclone) (c .match .keys5), lit≤ tt))
-    (λ c. (ap (ownSpot cyclone) (c .match .keys6), lit≤ tt)) (λ c. (ap (ownSpot cyclone) (c .match .keys7), lit≤ tt))
+    returns-2
+    (λ c. (ap (ownSpot cyclone) (c .match .keys3), lit≤ tt)) (λ c. (ap (ownSpot cyclone) (c .match .keys4), lit≤ tt))
+    (λ c. (ap (ownSpot cyclone) (c .match .keys5), lit≤ tt)) (λ c. (ap (ownSpot cyclone) (c .match .keys6), lit≤ tt))
+    (λ c. (ap (ownSpot cyclone) (c .match .keys7), lit≤ tt))
     returns-8)

@@ -11,6 +11,9 @@ use Rattle.warning.proofs.correcting.fog.Tie as tie
 returns : tie.Need-returns
 returns c = (ap (ownSpot fog) (c .match .keys1), lit≤ tt)
 
+returns-2 : tie.Need-returns-2
+returns-2 c = (ap (ownSpot fog) (c .match .keys2), lit≤ tt)
+
 returns-3 : tie.Need-returns-3
 unfolding Unnamed picks
 returns-3 c = (not-named fog (c .before .args .field) (c .match .rest), lit≤ tt)
@@ -20,5 +23,5 @@ fog-spec =
     tie.close
     (tie.spec
     returns
-    (λ c. (ap (ownSpot fog) (c .match .keys2), lit≤ tt))
+    returns-2
     returns-3)

@@ -11,6 +11,9 @@ use Rattle.warning.proofs.correcting.gale.Tie as tie
 returns : tie.Need-returns
 returns c = (ap (ownSpot gale) (c .match .keys1), lit≤ tt)
 
+returns-2 : tie.Need-returns-2
+returns-2 c = (ap (ownSpot gale) (c .match .keys2), lit≤ tt)
+
 returns-5 : tie.Need-returns-5
 unfolding Unnamed picks
 returns-5 c = (not-named gale (c .before .args .field) (c .match .rest), lit≤ tt)
@@ -20,6 +23,6 @@ gale-spec =
     tie.close
     (tie.spec
     returns
-    (λ c. (ap (ownSpot gale) (c .match .keys2), lit≤ tt)) (λ c. (ap (ownSpot gale) (c .match .keys3), lit≤ tt))
-    (λ c. (ap (ownSpot gale) (c .match .keys4), lit≤ tt))
+    returns-2
+    (λ c. (ap (ownSpot gale) (c .match .keys3), lit≤ tt)) (λ c. (ap (ownSpot gale) (c .match .keys4), lit≤ tt))
     returns-5)

@@ -11,6 +11,9 @@ use Rattle.warning.proofs.correcting.surge.Tie as tie
 returns : tie.Need-returns
 returns c = (ap (ownSpot surge) (c .match .keys1), lit≤ tt)
 
+returns-2 : tie.Need-returns-2
+returns-2 c = (ap (ownSpot surge) (c .match .keys2), lit≤ tt)
+
 returns-5 : tie.Need-returns-5
 unfolding Unnamed picks
 returns-5 c = (not-named surge (c .before .args .field) (c .match .rest), lit≤ tt)
@@ -20,6 +23,6 @@ surge-spec =
     tie.close
     (tie.spec
     returns
-    (λ c. (ap (ownSpot surge) (c .match .keys2), lit≤ tt)) (λ c. (ap (ownSpot surge) (c .match .keys3), lit≤ tt))
-    (λ c. (ap (ownSpot surge) (c .match .keys4), lit≤ tt))
+    returns-2
+    (λ c. (ap (ownSpot surge) (c .match .keys3), lit≤ tt)) (λ c. (ap (ownSpot surge) (c .match .keys4), lit≤ tt))
     returns-5)

@@ -11,6 +11,9 @@ use Rattle.warning.proofs.correcting.waves.Tie as tie
 returns : tie.Need-returns
 returns c = (ap (ownSpot waves) (c .match .keys1), lit≤ tt)
 
+returns-2 : tie.Need-returns-2
+returns-2 c = (ap (ownSpot waves) (c .match .keys2), lit≤ tt)
+
 returns-4 : tie.Need-returns-4
 unfolding Unnamed picks
 returns-4 c = (not-named waves (c .before .args .field) (c .match .rest), lit≤ tt)
@@ -20,5 +23,6 @@ waves-spec =
     tie.close
     (tie.spec
     returns
-    (λ c. (ap (ownSpot waves) (c .match .keys2), lit≤ tt)) (λ c. (ap (ownSpot waves) (c .match .keys3), lit≤ tt))
+    returns-2
+    (λ c. (ap (ownSpot waves) (c .match .keys3), lit≤ tt))
     returns-4)
