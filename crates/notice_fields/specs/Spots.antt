@@ -26,5 +26,5 @@ areaSpots (suc n) row at =
     (eqb kind 3)
     -- a circle: its point, radius and unit
     (found (at + 3) 21 ∷ found (at + 24) 22 ∷ found (at + 46) 10 ∷ found (at + 56) 2 ∷ areaSpots n (drop 5 row) (at + 58))
-    -- points, a line, a polygon: how many points, 4 bits that may not be corrected, and then the points
+    -- points, a line, a polygon (no other kind is read): how many points, 4 bits that may not be corrected, and then the points
     (none ∷ (pointSpots count (at + 7) ++ areaSpots n (drop (2 + count * 2) row) (at + 7 + count * 43))))
