@@ -53,7 +53,7 @@ one-notice language s row areas text c d row₁ row₂ areas₁ text₁ areas₂
 pub corrected : (language : ℕ) (s : List ℕ) (row : List ℤ) (areas text : List ℕ) (c : ℕ) (row′ : List ℤ) (areas′ text′ : List ℕ) → Bytes s → NoticeFills language s row areas text c row′ areas′ text′ → (c ≡ 6 → ⊥)
     → (i v code : ℕ) (t : List ℕ) → CorrectsIn language s i v code t
     → cond (leb language 1)
-    (SettledBy (λ x u d y. let z = changed i v x in WritesIn language u (z .0) (z .1 .0) (z .1 .1) d y) (λ x. spotOf (eqb language 1) x i) false s (check (fault c) 0 (accepted (wholeOf (toldIn row′) areas′ text′))) v code t)
+    (SettledBy (λ x u d y. let z = changed i v x in WritesIn language u (z .0) (z .1 .0) (z .1 .1) d y) (λ x. spotOf x i) false s (check (fault c) 0 (accepted (wholeOf (toldIn row′) areas′ text′))) v code t)
     (Stays 4 s code t)
 corrected language s row areas text c row′ areas′ text′ fine fills roomed i v code t corrects = go (leb language 1) refl corrects
   where
@@ -64,11 +64,11 @@ corrected language s row areas text c row′ areas′ text′ fine fills roomed 
     o = check (fault c) 0 (accepted (wholeOf (toldIn row′) areas′ text′))
 
     go : (b : Bool) → leb language 1 ≡ b → (code ≡ codeOf (check (orBad b 4) 0 (correctMessage (notices english) s i v))) × (t ≡ leaves (check (orBad b 4) 0 (correctMessage (notices english) s i v)) s)
-        → cond b (SettledBy (λ x u d y. let z = changed i v x in WritesIn language u (z .0) (z .1 .0) (z .1 .1) d y) (λ x. spotOf english x i) false s o v code t) (Stays 4 s code t)
+        → cond b (SettledBy (λ x u d y. let z = changed i v x in WritesIn language u (z .0) (z .1 .0) (z .1 .1) d y) (λ x. spotOf x i) false s o v code t) (Stays 4 s code t)
     go false e x = x
     go true e x =
         let (own, reads) = told-in language s row areas text (leb-true language 1 e) fills roomed in
-        settled-with (λ x. spotOf english x i) false s v (λ x u d y. let z = changed i v x in NoticeWrites english u (z .0) (z .1 .0) (z .1 .1) d y) _ o code t
+        settled-with (λ x. spotOf x i) false s v (λ x u d y. let z = changed i v x in NoticeWrites english u (z .0) (z .1 .0) (z .1 .1) d y) _ o code t
         (λ x p w is there u d y. let z = changed i v x in
         subst (λ b. Lays (enough (z .0) (z .1 .0)) (check (orBad b 4) 0 (writeMessage (notices english) (valuesOf z))) u d y) e)
         (corrected-notice english s areas text (toldIn row′) areas′ text′ fine c own reads i v code t x)
