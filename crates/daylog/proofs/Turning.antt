@@ -1,7 +1,7 @@
 -- What the steps of a turn promise makes up what the turn does. Assumes nothing.
 use mathlib.Core.Path.{_≡_, refl, sym, ap, _∙_}
 use mathlib.Core.Bool.{Bool, true, false, not}
-use mathlib.Core.List.{List, [], _∷_}
+use mathlib.Core.List.{List, []}
 use Prim.Native.Nat.{ℕ, zero, suc, _+_, _-_, _^_, _≤_, _<_}
 use native.Mathlib.Omega.{arith}
 use lib.Dec.{eqb, lit<}
@@ -17,6 +17,7 @@ use Rattle.daylog.specs.Promises.{roomCode, chosen, crowded, Lists, Ends
 use Rattle.daylog.specs.Turns.{Begins, Gives, stopped, on, ending, isBad, keeping, listingOf}
 use Rattle.daylog.specs.laws.Text.{line-most}
 use Rattle.daylog.specs.laws.Windows.{none-used}
+use Rattle.daylog.specs.laws.Turns.{none-listed}
 use Rattle.daylog.specs.declared.Laid.{Laid}
 use Rattle.daylog.specs.declared.Listed.{Listed}
 use Rattle.daylog.specs.declared.turns.State.{State}
@@ -62,11 +63,6 @@ kept {s} {left} {a} {e} {r} p h k =
     let x = rest-is s a e h k in
     let q = rw (le-leb e (length s) k, le-leb a e h, x) at (p .kept) in
     (q .count, q .leaves)
-
-none-listed : (all es : List Entry) → (crowded all es ≡ 0 → ⊥) → es ≡ []
-none-listed [] es h = absurd (h refl)
-none-listed (e ∷ all) [] h = refl
-none-listed (e ∷ all) (d ∷ es) h = absurd (h refl)
 
 -- reading on is no refusal
 pub keeps-code : (made n : ℕ) (rest input text : List ℕ) {r : State} {left : List ℕ} → Gives r left text (keeping made n rest input text) → r .code ≡ 0

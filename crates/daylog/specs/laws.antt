@@ -3,6 +3,7 @@ pub mod Windows
 pub mod Turns
 pub mod Runs
 pub mod Through
+pub mod Refusals
 pub mod Answers
 pub mod Text
 pub mod Made

@@ -24,6 +24,12 @@ none-there [] es c e = refl
 none-there (d ∷ all) [] c e = absurd (omega arith)
 none-there (d ∷ all) (x ∷ es) c e = let z : _≡_ {A = ℕ} 0 1 = cc in absurd (omega arith)
 
+-- where records are refused, none is listed
+pub none-listed : (all es : List Entry) → (crowded all es ≡ 0 → ⊥) → es ≡ []
+none-listed [] es h = absurd (h refl)
+none-listed (e ∷ all) [] h = refl
+none-listed (e ∷ all) (d ∷ es) h = absurd (h refl)
+
 -- ---- the way of a turn
 
 module _ (t : State) (input : List ℕ) (got : ℕ) (text : List ℕ) where
