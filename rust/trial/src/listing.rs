@@ -37,7 +37,8 @@ pub fn run(options: &Options, tally: &mut Tally) {
     samples(tally);
 }
 
-/// Logs of a few records; one cut at each place; lengths at their bounds; and long logs: whole, cut and broken.
+/// Logs of a few records; one cut at each place; lengths at their bounds; records without a body; and long logs: whole, cut
+/// and broken.
 fn logs(options: &Options) -> Vec<Log> {
     let random = |name: &str, index: u64| Random::new(options.seed, name, index);
     let few = (0..200).map(|index| ("a few records", daylog::log(&mut random("few", index))));
@@ -53,7 +54,10 @@ fn logs(options: &Options) -> Vec<Log> {
     let mut long = [0, 1, 2].map(|index| daylog::good_log(&mut random("long", index), records));
     long[1].pop();
     long[2][10 * records..].fill(0xFF);
-    few.chain(cuts).chain(lengths).chain(long.map(|log| ("a long log", log))).collect()
+    // A window of these makes more text than the program's buffer has room for, at the log's end too.
+    let dense = |bytes: usize| [4u8, 0, 3, 0].into_iter().cycle().take(bytes).collect();
+    let dense = [400_000, 400_001, 65_536, 131_072].map(|bytes| ("a dense log", dense(bytes)));
+    few.chain(cuts).chain(lengths).chain(dense).chain(long.map(|log| ("a long log", log))).collect()
 }
 
 /// Lists a log by both programs and counts its lines.
