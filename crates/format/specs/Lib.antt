@@ -1,6 +1,7 @@
 -- The definitions that contracts cite, and in `laws` what is proved of them for every layout.
 pub mod Fmt
 pub mod Words
+pub mod Groups
 pub mod Message
 pub mod Promises
 pub mod Sealing

@@ -6,6 +6,7 @@ pub mod Zero
 pub mod Tells
 pub mod Legal
 pub mod Past
+pub mod Groups
 pub mod Extent
 pub mod First
 pub mod Offsets

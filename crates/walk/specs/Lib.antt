@@ -5,4 +5,6 @@ pub mod Judging
 pub mod Sign
 pub mod Faults
 pub mod Pieces
+pub mod Groups
+pub mod Rows
 pub mod laws

@@ -8,6 +8,10 @@ pub mod Judging
 pub mod Pieces
 pub mod Parts
 pub mod Loops
+pub mod Groups
+pub mod Rows
+pub mod RowsJudged
+pub mod RowsPut
 pub mod Making
 pub mod Flat
 pub mod Sign

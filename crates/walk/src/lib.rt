@@ -3,6 +3,7 @@
 pub mod choosing;
 pub mod faults;
 pub mod judging;
+pub mod making;
 pub mod pieces;
 pub mod reading;
 pub mod sign;
