@@ -58,6 +58,16 @@ unfoldable pub repeatWide : ℕ → Width → Width
 repeatWide zero wa at = 0
 repeatWide (suc n) wa at = wa at + repeatWide n wa (at + wa at)
 
+-- the bit behind n items
+unfoldable pub repeatEnd : ℕ → Width → ℕ → ℕ
+repeatEnd zero wa at = at
+repeatEnd (suc n) wa at = repeatEnd n wa (at + wa at)
+
+-- what n items have together
+unfoldable pub repeatSum : ℕ → (ℕ → ℕ) → Width → ℕ → ℕ
+repeatSum zero f wa at = 0
+repeatSum (suc n) f wa at = f at + repeatSum n f wa (at + wa at)
+
 abbrev pub decidedAt : List ℕ → ℕ → (ℕ → Standing) → Standing
 decidedAt s w a at = got s at w ∷ a (got s at w) (at + w)
 

@@ -2,9 +2,9 @@
 use Prim.Native.Nat.{ℕ, zero, suc, _+_, _*_, _≤_, _<_, _^_}
 use mathlib.Core.Path.{_≡_, refl, sym, ap, ap₂, _∙_, subst}
 use mathlib.Core.Bool.{Bool, true, false, cond}
-use mathlib.Core.List.{List, [], _∷_, _++_, append-assoc, append-nil}
+use mathlib.Core.List.{List, [], _∷_, _++_, append-assoc}
 use native.Mathlib.Omega.{arith}
-use native.Mathlib.Nat.{zero-add, add-zero, add-assoc, mul-le-mul-right}
+use native.Mathlib.Nat.{add-assoc, mul-le-mul-right}
 use lib.Dec.{eqb}
 use borrow.Author.Tests.{eqb-false}
 use Rattle.bits.specs.Answers.{got}
@@ -105,22 +105,6 @@ evenly {s} {item} {values} {w} {step} x n = subst (λ (wide : Width). Stretch s 
 pub counts-evenly : (s : List ℕ) (w most : ℕ) (some : 0 < w) (narrow : w ≤ 32) (lo hi : ℕ) → 2 ^ w ≡ suc most → {item : Fmt → Fmt} {values : Standing} {b : ℕ} {step : Step} → Stretch s item values (λ at. b) b step
     → Stretch s (counted w (lo ‥ hi) item) (decidedAt s w (λ n. repeatAt n values (λ at. b))) (decidedWide s w (λ n at. n * b)) (w + most * b) (countedWalked s w lo hi step)
 counts-evenly s w most some narrow lo hi e {b = b} x = decides s w some narrow lo hi (most * b) (λ v l. at-most (most * b) (mul-le-mul-right b (omega (arith, e))) (evenly x v))
-
--- ---- one more at the end of those before
-
-pub repeat-more : (n : ℕ) (a : Standing) (wa : Width) (at : ℕ) → repeatAt (suc n) a wa at ≡ repeatAt n a wa at ++ a (at + repeatWide n wa at)
-unfolding repeatAt repeatWide
-repeat-more zero a wa at = append-nil (a at) ∙ ap a (sym (add-zero at))
-repeat-more (suc n) a wa at =
-    let to = at + wa at in
-    ap (a at ++_) (repeat-more n a wa to ∙ ap (λ k. repeatAt n a wa to ++ a k) (add-assoc at (wa at) (repeatWide n wa to))) ∙ sym (append-assoc (a at) (repeatAt n a wa to) _)
-
-pub wide-more : (n : ℕ) (wa : Width) (at : ℕ) → repeatWide (suc n) wa at ≡ repeatWide n wa at + wa (at + repeatWide n wa at)
-unfolding repeatWide
-wide-more zero wa at = add-zero (wa at) ∙ ap wa (sym (add-zero at)) ∙ sym (zero-add _)
-wide-more (suc n) wa at =
-    let to = at + wa at in
-    ap (wa at +_) (wide-more n wa to ∙ ap (λ k. repeatWide n wa to + wa k) (add-assoc at (wa at) (repeatWide n wa to))) ∙ sym (add-assoc (wa at) (repeatWide n wa to) _)
 
 -- ---- turns of a loop
 

@@ -88,6 +88,10 @@ judges-next {row} {a} {b} {la} {lb} {na} {nb} {sa} {sb} x y = record {
 pub judges-most : {row : List ℕ} {item : Fmt → Fmt} {long : Measure} {most : ℕ} {step : JudgeStep} (n : ℕ) → most ≤ n → Judges row item long most step → Judges row item long n step
 judges-most n l x = record { along = λ k r reach. x .along k r (omega arith); near = λ k r. omega (arith, x .near k r); good = x .good; next = x .next }
 
+-- a step told in another way
+pub judges-as : {row : List ℕ} {item : Fmt → Fmt} {long : Measure} {most : ℕ} {step step′ : JudgeStep} → ((k : ℕ) (r : Walk) → step k r ≡ step′ k r) → Judges row item long most step → Judges row item long most step′
+judges-as {row} {item} {long} {most} e x = subst (Judges row item long most) (λ i k r. e k r i) x
+
 -- items of l numbers each, all of them: a step that takes those of one item
 pub judges-evenly : {row : List ℕ} {item : Fmt → Fmt} {l b : ℕ} {q : ℕ → Walk → Walk} → Judges row item (λ r. l) b (λ k r. record { walk = q k r; next = k + l })
     → (n : ℕ) → Judges row (repeat n item) (λ r. n * l) (n * b) (evenStep l n q)
@@ -203,3 +207,13 @@ judges-repeated {row} {item} {long} {most} {step} x (suc n) = let y = judges-nex
     next : Both → (k : ℕ) (r : Walk) (t : Bool) → eqb (step k r .walk .code) 0 ≡ t → ends k r t .walk .code ≡ 0 → ends k r t .next ≡ k + thenOf long long (repeatOf long n long) (drop k row)
     next y k r true e z = y .next k r z
     next y k r false e z = absurd (eqb-false _ 0 e z)
+
+-- ---- turns of a loop
+
+pub even-judged-turn : (l n : ℕ) (q : ℕ → Walk → Walk) (k : ℕ) {m k′ : ℕ} (r : Walk) {p : Walk} → m ≡ suc n → k′ ≡ k + l → p ≡ q k r → evenJudged l m q k r ≡ evenJudged l n q k′ p
+unfolding evenJudged
+even-judged-turn l n q k r e f d = ap (λ m. evenJudged l m q k r) e ∙ sym (ap₂ (λ k p. evenJudged l n q k p) f d)
+
+pub repeat-judged-turn : (step : JudgeStep) (n k : ℕ) {m : ℕ} (r : Walk) {a : Stepped} → m ≡ suc n → a ≡ step k r → repeatJudged m step k r ≡ cond (eqb (a .walk .code) 0) (repeatJudged n step (a .next) (a .walk)) a
+unfolding repeatJudged
+repeat-judged-turn step n k r e d = ap (λ m. repeatJudged m step k r) e ∙ sym (ap (λ (a : Stepped). cond (eqb (a .walk .code) 0) (repeatJudged n step (a .next) (a .walk)) a) d)

@@ -18,7 +18,7 @@ use Rattle.format.specs.laws.Groups.{first-add, even}
 use Rattle.format.specs.laws.Putting.{Putting, put-number}
 use Rattle.format.specs.laws.Round.{written}
 use Rattle.walk.specs.Judging.{valued}
-use Rattle.walk.specs.Rows.{JudgeStep, oneJudged, thenJudged, decidedJudged, evenJudged, evenStep, countedJudged, repeatJudged, PutStep, onePut, thenPut, decidedPut, evenPut, evenPutStep, countedPut, repeatPut}
+use Rattle.walk.specs.Rows.{JudgeStep, oneJudged, thenJudged, decidedJudged, evenJudged, evenStep, countedJudged, repeatJudged, Put, PutStep, onePut, thenPut, decidedPut, evenPut, evenPutStep, countedPut, repeatPut}
 use Rattle.walk.specs.Walk.{onward}
 use Rattle.walk.specs.laws.Judging.{judge-num, judge-deciding, judge-refused, valued-between}
 use Rattle.walk.specs.laws.Loops.{Going, JudgesAlong, going, judges-stay, judges-refused, judges-then, judges-under, step-near, PutsAlong, puts-stay, puts-then, puts-under}
@@ -79,6 +79,10 @@ module _ (row : List ℕ) (w : ℕ) (small : w ≤ 32) (test : Test) where
         x v .next (k + 1) (at + w) (putIn t at w v) f vs (puts-decide w small test v at t a .on p′) ∙ long-one row k la;
   }
 
+-- a step told in another way
+pub puts-as : {row : List ℕ} {item : Fmt → Fmt} {long : Measure} {step step′ : PutStep} → ((k at : ℕ) (t : List ℕ) → step k at t ≡ step′ k at t) → Puts row item long step → Puts row item long step′
+puts-as {row} {item} {long} e x = subst (Puts row item long) (λ i k at t. e k at t i) x
+
 -- items of l numbers and b bits each
 pub puts-evenly : {row : List ℕ} {item : Fmt → Fmt} {l : ℕ} (b : ℕ) {q : (k at : ℕ) → List ℕ → List ℕ} → Puts row item (λ r. l) (λ k at t. (record { at = at + b; next = k + l }, q k at t))
     → (n : ℕ) → Puts row (repeat n item) (λ r. n * l) (evenPutStep l b n q)
@@ -121,3 +125,13 @@ pub puts-near : (step : PutStep) (most : ℕ) → ((k at : ℕ) (t : List ℕ) �
 unfolding repeatPut
 puts-near step most small zero k at t = omega arith
 puts-near step most small (suc n) k at t = let a = step k at t in omega (arith, small k at t, puts-near step most small n (a .0 .next) (a .0 .at) (a .1))
+
+-- ---- turns of a loop
+
+pub even-put-turn : (l b n : ℕ) (q : (k at : ℕ) → List ℕ → List ℕ) (k at : ℕ) {m k′ at′ : ℕ} (t : List ℕ) {p : List ℕ} → m ≡ suc n → k′ ≡ k + l → at′ ≡ at + b → p ≡ q k at t → evenPut l b m q k at t ≡ evenPut l b n q k′ at′ p
+unfolding evenPut
+even-put-turn l b n q k at t e f h d = ap (λ m. evenPut l b m q k at t) e ∙ sym (λ i. evenPut l b n q (f i) (h i) (d i))
+
+pub repeat-put-turn : (step : PutStep) (n k at : ℕ) {m : ℕ} (t : List ℕ) {a : Put} → m ≡ suc n → a ≡ step k at t → repeatPut m step k at t ≡ repeatPut n step (a .0 .next) (a .0 .at) (a .1)
+unfolding repeatPut
+repeat-put-turn step n k at t e d = ap (λ m. repeatPut m step k at t) e ∙ sym (ap (λ (a : Put). repeatPut n step (a .0 .next) (a .0 .at) (a .1)) d)
