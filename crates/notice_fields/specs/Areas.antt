@@ -1,8 +1,9 @@
 -- The areas of a notice (paper 01, "Notice and packet"; 000, 5.2.2.3.8): their layout. Assumes nothing.
-use Prim.Native.Nat.{ℕ, zero, suc}
+use Prim.Native.Nat.{ℕ}
 use mathlib.Core.Bool.{cond}
 use lib.Dec.{eqb}
 use Rattle.format.specs.Fmt.{Fmt}
+use Rattle.format.specs.Groups.{repeat, counted}
 use Rattle.format.specs.Words.{_‥_, _▹_, num, deciding}
 use Rattle.notice_fields.specs.Parts.{latitude, longitude}
 
@@ -19,16 +20,18 @@ leastOf k = cond (eqb k 1) 1 (cond (eqb k 2) 2 3)
 abbrev pub kindOf : ℕ → Kind
 kindOf k = cond (eqb k 0) sea (cond (eqb k 3) circle (several (leastOf k)))
 
-unfoldable pub points : ℕ → Fmt → Fmt
-points zero f = f
-points (suc n) f = latitude ▹ longitude ▹ points n f
+abbrev pub point : Fmt → Fmt
+point f = latitude ▹ longitude ▹ f
 
 -- what an area holds: a code; its middle, radius and unit; or its points, counted
 abbrev pub inside : Kind → Fmt → Fmt
 inside sea f = num 8 (0 ‥ 255) f
-inside circle f = points 1 ▹ num 10 (0 ‥ 1_023) ▹ num 2 (0 ‥ 3) ▹ f
-inside (several least) f = deciding 4 (least ‥ 15) λ n. points n f
+inside circle f = point ▹ num 10 (0 ‥ 1_023) ▹ num 2 (0 ‥ 3) ▹ f
+inside (several least) f = counted 4 (least ‥ 15) point f
 
-unfoldable pub areas : ℕ → Fmt → Fmt
-areas zero f = f
-areas (suc n) f = deciding 3 (0 ‥ 4) λ k. inside (kindOf k) (areas n f)
+-- its kind decides
+abbrev pub area : Fmt → Fmt
+area f = deciding 3 (0 ‥ 4) λ k. inside (kindOf k) f
+
+abbrev pub areas : ℕ → Fmt → Fmt
+areas n = repeat n area

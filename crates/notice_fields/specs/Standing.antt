@@ -1,7 +1,8 @@
 -- The numbers that stand in a message's areas, from a bit on, whether they are good or not; and where the areas end. Assumes nothing.
-use Prim.Native.Nat.{ℕ, zero, suc, _+_, _*_}
+use Prim.Native.Nat.{ℕ, _+_, _*_}
 use mathlib.Core.List.{List, [], _∷_, _++_}
 use Rattle.bits.specs.Answers.{got}
+use Rattle.walk.specs.Groups.{repeatAt, repeatEnd}
 use Rattle.notice_fields.specs.Parts.{latitudeBits, longitudeBits, pointBits}
 use Rattle.notice_fields.specs.Areas.{Kind, sea, circle, several, kindOf}
 
@@ -9,10 +10,11 @@ use Rattle.notice_fields.specs.Areas.{Kind, sea, circle, several, kindOf
 abbrev pub front : ℕ
 front = 63
 
--- n points
-unfoldable pub pointsAt : List ℕ → ℕ → ℕ → List ℕ
-pointsAt s zero at = []
-pointsAt s (suc n) at = got s at latitudeBits ∷ got s (at + latitudeBits) longitudeBits ∷ pointsAt s n (at + pointBits)
+abbrev pub pointAt : List ℕ → ℕ → List ℕ
+pointAt s at = got s at latitudeBits ∷ got s (at + latitudeBits) longitudeBits ∷ []
+
+abbrev pub pointsAt : List ℕ → ℕ → ℕ → List ℕ
+pointsAt s n = repeatAt n (pointAt s) (λ at. pointBits)
 
 -- behind the number of a kind
 abbrev pub insideAt : Kind → List ℕ → ℕ → List ℕ
@@ -47,10 +49,8 @@ abbrev pub areaMost : ℕ
 areaMost = 3 + insideMost
 
 -- n areas
-unfoldable pub areasAt : List ℕ → ℕ → ℕ → List ℕ
-areasAt s zero at = []
-areasAt s (suc n) at = areaAt s at ++ areasAt s n (at + areaWide s at)
+abbrev pub areasAt : List ℕ → ℕ → ℕ → List ℕ
+areasAt s n = repeatAt n (areaAt s) (areaWide s)
 
-unfoldable pub areasEnd : List ℕ → ℕ → ℕ → ℕ
-areasEnd s zero at = at
-areasEnd s (suc n) at = areasEnd s n (at + areaWide s at)
+abbrev pub areasEnd : List ℕ → ℕ → ℕ → ℕ
+areasEnd s n = repeatEnd n (areaWide s)

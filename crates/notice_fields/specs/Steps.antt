@@ -1,8 +1,8 @@
 -- What the code's walk over areas answers: before an area's points, over them and behind them; and over all areas. Assumes nothing.
-use Prim.Native.Nat.{ℕ, zero, suc}
-use mathlib.Core.Bool.{true, false, cond}
+use Prim.Native.Nat.{ℕ}
+use mathlib.Core.Bool.{true, false}
 use mathlib.Core.List.{List}
-use lib.Dec.{eqb}
+use Rattle.walk.specs.Groups.{Step, single, thenStep, unlessRefused, repeatWalked, decidedWalked}
 use Rattle.walk.specs.Reading.{ranged}
 use Rattle.walk.specs.declared.walk.Walk.{Walk}
 use Rattle.notice_fields.specs.PartsSteps.{latitudeRead, longitudeRead}
@@ -21,15 +21,17 @@ closedAs sea s r = r
 closedAs circle s r = ranged s 2 true 0 3 4 (ranged s 10 true 0 1_023 4 r)
 closedAs (several least) s r = r
 
--- over n points, and from behind them by `next`: the first bad point ends the walk, and what follows is not walked
-unfoldable pub pointsWalked : List ℕ → ℕ → (next : Walk → Walk) → Walk → Walk
-pointsWalked s zero next r = next r
-pointsWalked s (suc n) next r = let p = longitudeRead s (latitudeRead s r) in cond (eqb (p .code) 0) (pointsWalked s n next p) p
+-- over a point: a bad one ends the walk, and what follows is not walked
+abbrev pub pointStep : List ℕ → Step
+pointStep s = thenStep (single (latitudeRead s)) (thenStep (single (longitudeRead s)) unlessRefused)
+
+-- what a kind holds
+abbrev pub insideStep : List ℕ → Kind → Step
+insideStep s k next r = let a = openedAs k s r in repeatWalked (a .points) (pointStep s) (λ w. next (closedAs k s w)) (a .walk)
+
+abbrev pub areaStep : List ℕ → Step
+areaStep s = decidedWalked s 3 0 4 (λ k. insideStep s (kindOf k))
 
 -- over n areas
-unfoldable pub areasWalked : List ℕ → ℕ → Walk → Walk
-areasWalked s zero r = r
-areasWalked s (suc n) r =
-    let k = ranged s 3 false 0 4 4 r in
-    let a = openedAs (kindOf (k .v)) s k in
-    pointsWalked s (a .points) (λ w. areasWalked s n (closedAs (kindOf (k .v)) s w)) (a .walk)
+abbrev pub areasWalked : List ℕ → ℕ → Walk → Walk
+areasWalked s n = repeatWalked n (areaStep s) (λ w. w)

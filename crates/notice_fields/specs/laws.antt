@@ -1,10 +1,7 @@
 -- What is proved of them.
 pub mod Kinds
-pub mod Numbered
-pub mod Past
-pub mod Row
+pub mod Instances
 pub mod Spots
-pub mod Standing
 pub mod Walking
 pub mod Subtypes
 pub mod PartsWalking

@@ -1,7 +1,6 @@
 // Writing a notice's areas from a row of numbers (paper 01, "Notice and packet"): judged in bit order, then put.
 ghost use mathlib.Core.Path.{_≡_};
 ghost use Prim.Native.Nat.{_+_, _*_, _≤_};
-ghost use lib.ListN.{getD};
 ghost use Rattle.notice_fields.specs.Making.{pointsJudged, areaJudged, areasJudged, pointsPut, areaPut, areasPut};
 ghost use Rattle.notice_fields.specs.Row.{longMost};
 ghost use Rattle.notice_fields.specs.Standing.{front, areaMost};
@@ -12,29 +11,13 @@ use crate::areas::SEA;
 use crate::parts::LATITUDE;
 use crate::parts::LONGITUDE;
 use crate::parts::POINT;
+use walk::making::Laid;
+use walk::making::Stepped;
+use walk::making::entry;
 use walk::walk::Walk;
 
 // What the four bits of a count can tell: 0 to 15 points.
 const COUNTS: u64 = 16;
-
-// The walk behind an area or behind all of them, and which number of the row comes next.
-pub struct Stepped {
-    pub walk: Walk,
-    pub next: usize,
-}
-
-// The bit and the number of the row where the next area begins.
-pub struct Laid {
-    pub at: usize,
-    pub next: usize,
-}
-
-// A number of the row, 0 past its end.
-fn entry(row: &[u32], k: usize) -> u64
-    ensures { λ r. ⌜ r ≡ getD (now (row .entry)) k 0 ⌝ }
-{
-    if k < row.len() { row[k] as u64 } else { 0 }
-}
 
 // ---- judging
 
@@ -111,7 +94,7 @@ fn judge_points(from: Walk, row: &[u32], k: usize, n: usize) -> Walk
 // The numbers of a notice's first `count` areas: the bit behind them. Of a row that was not judged, a count of points is taken
 // by its four bits, so that it ends soon for every row.
 pub fn put(buf: &mut [u8], row: &[u32], count: u8) -> usize
-    ensures { λ r. ⌜ (r, now (buf .exit)) ≡ areasPut (now (row .entry)) count 0 front (now (buf .entry)) ⌝ }
+    ensures { λ r. ⌜ (r ≡ areasPut (now (row .entry)) count 0 front (now (buf .entry)) .0 .at) × (now (buf .exit) ≡ areasPut (now (row .entry)) count 0 front (now (buf .entry)) .1) ⌝ }
 {
     let most = count as usize;
     let mut at = FRONT as usize;

@@ -34,6 +34,13 @@ first-take zero row l = refl
 first-take (suc n) [] l = absurd (omega arith)
 first-take (suc n) (x ∷ row) l = ap (x ∷_) (first-take n row (omega arith))
 
+-- one item, and those behind it
+pub told-next : (long : Measure) (n : ℕ) (row vs : List ℕ) → told (repeatOf long (suc n) long) row ++ vs ≡ told long row ++ (told (repeatOf long n long) (drop (long row) row) ++ vs)
+unfolding repeatOf
+told-next long n row vs =
+    let next = drop (long row) row in
+    ap (_++ vs) (first-add (long row) (repeatOf long n long next) row) ∙ append-assoc (told long row) (told (repeatOf long n long) next) vs
+
 -- ---- items
 
 -- A stretch of fields, none of them a count of bytes: how many numbers of a row it takes, and how many bits.

@@ -1,4 +1,4 @@
--- Numbers stored in a row one behind another: the lists are joined, by induction on the first; and what is stored of areas. Assumes nothing.
+-- What is stored of an area in a row: one point more, and by its kind what it holds. Assumes nothing.
 use Prim.Native.Nat.{ℕ, suc, _+_, _*_}
 use mathlib.Core.Path.{_≡_, sym, ap, ap₂, _∙_}
 use mathlib.Core.List.{List, [], _∷_, _++_}
@@ -6,44 +6,23 @@ use native.Mathlib.Numerals.{add-one}
 use native.Mathlib.Omega.{arith}
 use lib.ListN.{length, set, length-append}
 use lib.Seq.{sets}
+use Rattle.walk.specs.Groups.{repeatEnd}
+use Rattle.walk.specs.laws.Stored.{sets-on, stored-turn, even-end}
 use Rattle.bits.specs.Answers.{got}
 use Rattle.notice_fields.specs.Areas.{Kind, sea, circle, several, leastOf, kindOf}
-use Rattle.notice_fields.specs.Standing.{pointsAt, insideAt, areaAt, areasAt, areasEnd}
+use Rattle.notice_fields.specs.Standing.{pointAt, pointsAt, insideAt, areaAt}
 use Rattle.notice_fields.specs.laws.Kinds.{kind-sea, kind-circle, kind-several}
-use Rattle.notice_fields.specs.laws.Standing.{points-more, areas-more}
 use Rattle.notice_fields.specs.Parts.{latitudeBits, longitudeBits, pointBits}
 use Rattle.notice_fields.specs.laws.Shapes.{points-long}
 
-module _ {A : Type 0} where
-  pub sets-then : (l : List A) (i : ℕ) (us vs : List A) → sets (sets l i us) (i + length us) vs ≡ sets l i (us ++ vs)
-  sets-then l i [] vs = let e : i + 0 ≡ i = omega arith in ap (λ k. sets l k vs) e
-  sets-then l i (u ∷ us) vs =
-      let e : i + suc (length us) ≡ suc i + length us = omega arith in
-      ap (λ k. sets (sets (set l i u) (suc i) us) k vs) e ∙ sets-then (set l i u) (suc i) us vs
-
-  -- where the first end at k
-  pub sets-on : (l : List A) (i : ℕ) (us vs : List A) {k : ℕ} → k ≡ i + length us → sets (sets l i us) k vs ≡ sets l i (us ++ vs)
-  sets-on l i us vs e = ap (λ k. sets (sets l i us) k vs) e ∙ sets-then l i us vs
-
--- ---- what is stored of areas
-
-module _ (s row : List ℕ) {now : List ℕ} (k : ℕ) where
-  -- one point more
-  pub points-turn : (at j : ℕ) {a b i : ℕ} → i ≡ j + 1 → a ≡ got s (at + j * pointBits) latitudeBits → b ≡ got s (at + j * pointBits + latitudeBits) longitudeBits → now ≡ sets row k (pointsAt s j at)
-      → set (set now (k + j * 2) a) (k + j * 2 + 1) b ≡ sets row k (pointsAt s i at)
-  points-turn at j {a} {b} is x y e =
-      let us = pointsAt s j at in
-      ap₂ (λ u w. set (set now (k + j * 2) u) w b) x (add-one (k + j * 2))
-      ∙ ap₂ (λ u l. set (set l (k + j * 2) (got s (at + j * pointBits) latitudeBits)) (suc (k + j * 2)) u) y e
-      ∙ sets-on row k us (got s (at + j * pointBits) latitudeBits ∷ got s (at + j * pointBits + latitudeBits) longitudeBits ∷ []) (ap (k +_) (sym (points-long s j at)))
-      ∙ ap (sets row k) (sym (points-more s j at) ∙ ap (λ n. pointsAt s n at) (sym (add-one j) ∙ sym is))
-
-  -- one area more, where i numbers stand
-  pub areas-turn : (at n i : ℕ) {m : ℕ} {t : List ℕ} → m ≡ n + 1 → i ≡ k + length (areasAt s n at) → now ≡ sets row k (areasAt s n at) → t ≡ sets now i (areaAt s (areasEnd s n at))
-      → t ≡ sets row k (areasAt s m at)
-  areas-turn at n i is here e d =
-      d ∙ ap (λ l. sets l i (areaAt s (areasEnd s n at))) e ∙ sets-on row k (areasAt s n at) (areaAt s (areasEnd s n at)) here
-      ∙ ap (sets row k) (sym (areas-more s n at) ∙ ap (λ n. areasAt s n at) (sym (add-one n) ∙ sym is))
+-- one point more
+pub points-turn : (s row : List ℕ) {now : List ℕ} (k at j : ℕ) {a b i : ℕ} → i ≡ j + 1 → a ≡ got s (at + j * pointBits) latitudeBits → b ≡ got s (at + j * pointBits + latitudeBits) longitudeBits → now ≡ sets row k (pointsAt s j at)
+    → set (set now (k + j * 2) a) (k + j * 2 + 1) b ≡ sets row k (pointsAt s i at)
+points-turn s row {now} k at j {a} {b} is x y e =
+    let i = k + j * 2 in
+    let here : i ≡ k + length (pointsAt s j at) = ap (k +_) (sym (points-long s j at)) in
+    let to : at + j * pointBits ≡ repeatEnd j (λ at. pointBits) at = sym (even-end pointBits j at) in
+    stored-turn row k (pointAt s) (λ at. pointBits) at j i is here e (ap (λ n. set (set now i a) n b) (add-one i) ∙ ap₂ (λ a b. sets now i (a ∷ b ∷ [])) x y ∙ ap (λ p. sets now i (pointAt s p)) to)
 
 -- an area's kind a is stored, and then what it holds
 module _ (s row : List ℕ) (k at : ℕ) {a : ℕ} (kind : a ≡ got s at 3) where

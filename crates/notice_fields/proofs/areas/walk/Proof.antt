@@ -8,7 +8,9 @@ use borrow.Author.Needs.{needs}
 use borrow.Author.Tests.{eq-eqb, ne-eqb}
 use Rattle.walk.specs.declared.walk.Walk.{Walk}
 use Rattle.notice_fields.specs.Areas.{kindOf}
-use Rattle.notice_fields.specs.Steps.{closedAs, pointsWalked, areasWalked}
+use Rattle.walk.specs.Groups.{repeatWalked}
+use Rattle.walk.specs.laws.Groups.{walk-turn, walk-end}
+use Rattle.notice_fields.specs.Steps.{openedAs, closedAs, pointStep, insideStep, areaStep, areasWalked}
 use Rattle.notice_fields.specs.laws.Walking.{point-turn, area-turn}
 use Rattle.notice_fields.proofs.areas.walk.Statement.{statement}
 use Rattle.notice_fields.proofs.areas.walk.Tie as tie
@@ -18,7 +20,7 @@ abbrev next : List ℕ → ℕ → ℕ → ℕ → Walk → Walk
 next s count i kind w = areasWalked s (count - (i + 1)) (closedAs (kindOf kind) s w)
 
 abbrev Inv-points : tie.InvT-points
-Inv-points s count most w₀ i kind n j₀ w j = (j ≤ n) × (pointsWalked s n (next s count i (kind .v)) w₀ ≡ pointsWalked s (n - j) (next s count i (kind .v)) w)
+Inv-points s count most w₀ i kind n j₀ w j = (j ≤ n) × (repeatWalked n (pointStep s) (next s count i (kind .v)) w₀ ≡ repeatWalked (n - j) (pointStep s) (next s count i (kind .v)) w)
 
 abbrev μ-points : tie.MeasureT-points
 μ-points s count most w₀ i kind n j₀ w j = n - j
@@ -45,7 +47,7 @@ points-holds c =
     let a = l .before .before .args in
     let n = o .open-area .result .points in
     let e : n ≡ n - 0 = omega arith in
-    (omega arith, ap (λ m. pointsWalked (a .s .now) m (next (a .s .now) (a .count) (l .areas .i) (o .before .decide .result .v)) (o .open-area .result .walk)) e)
+    (omega arith, ap (λ m. repeatWalked m (pointStep (a .s .now)) (next (a .s .now) (a .count) (l .areas .i) (o .before .decide .result .v)) (o .open-area .result .walk)) e)
 
 latitude-requires : tie.Need-latitude-requires Inv-points μ-points Inv-areas μ-areas
 latitude-requires c κs = search needs
@@ -70,7 +72,7 @@ points-again c =
     let on = next s (a .count) (l .areas .i) (o .before .decide .result .v) in
     let n = o .open-area .result .points - (p .points .j + 1) in
     let w = g .longitude .result in
-    (omega arith, p .points .inv .1 ∙ point-turn s on n (p .points .w) (omega arith) (g .before .latitude .ensures .0) (g .longitude .ensures .0) ∙ ap (λ b. cond b (pointsWalked s n on w) w) (eq-eqb (w .code) 0 (c .if1 .left)))
+    (omega arith, p .points .inv .1 ∙ point-turn s on n (p .points .w) (omega arith) (g .before .latitude .ensures .0) (g .longitude .ensures .0) ∙ ap (λ b. cond b (repeatWalked n (pointStep s) on w) w) (eq-eqb (w .code) 0 (c .if1 .left)))
 
 close-area-requires : tie.Need-close-area-requires Inv-points μ-points Inv-areas μ-areas
 close-area-requires c κs = search needs
@@ -82,7 +84,7 @@ areas-less : tie.Need-areas-less Inv-points μ-points Inv-areas μ-areas
 areas-less c = omega arith
 
 areas-again : tie.Need-areas-again Inv-points μ-points Inv-areas μ-areas
-unfolding pointsWalked
+unfolding repeatWalked
 areas-again c =
     let p = c .before .before in
     let o = p .before .before in
@@ -93,12 +95,12 @@ areas-again c =
     let n = a .count - (l .areas .i + 1) in
     let none : o .open-area .result .points - p .points .j ≡ 0 = omega arith in (
       omega arith,
-      l .areas .inv .1 ∙ area-turn s n (l .areas .w) (omega arith) (d .decide .ensures .0) (o .open-area .ensures) ∙ p .points .inv .1
-          ∙ ap (λ m. pointsWalked s m (next s (a .count) (l .areas .i) (d .decide .result .v)) (p .points .w)) none ∙ ap (areasWalked s n) (sym (c .close-area .ensures)),
+      l .areas .inv .1 ∙ area-turn s n {m = a .count - l .areas .i} (l .areas .w) (omega arith) (d .decide .ensures .0) (o .open-area .ensures) ∙ p .points .inv .1
+          ∙ ap (λ m. repeatWalked m (pointStep s) (next s (a .count) (l .areas .i) (d .decide .result .v)) (p .points .w)) none ∙ ap (areasWalked s n) (sym (c .close-area .ensures)),
     )
 
 returns : tie.Need-returns Inv-points μ-points Inv-areas μ-areas
-unfolding areasWalked
+unfolding repeatWalked
 returns c =
     let l = c .before in
     let a = l .before .before .args in
@@ -117,8 +119,8 @@ returns-2 c =
     let on = next s (a .count) (l .areas .i) (d .decide .result .v) in
     let n = o .open-area .result .points - (p .points .j + 1) in
     let w = g .longitude .result in
-    sym (l .areas .inv .1 ∙ area-turn s (a .count - (l .areas .i + 1)) (l .areas .w) (omega arith) (d .decide .ensures .0) (o .open-area .ensures) ∙ p .points .inv .1
-    ∙ point-turn s on n (p .points .w) (omega arith) (g .before .latitude .ensures .0) (g .longitude .ensures .0) ∙ ap (λ b. cond b (pointsWalked s n on w) w) (ne-eqb (w .code) 0 (c .if1 .taken)))
+    sym (l .areas .inv .1 ∙ area-turn s (a .count - (l .areas .i + 1)) {m = a .count - l .areas .i} (l .areas .w) (omega arith) (d .decide .ensures .0) (o .open-area .ensures) ∙ p .points .inv .1
+    ∙ point-turn s on n (p .points .w) (omega arith) (g .before .latitude .ensures .0) (g .longitude .ensures .0) ∙ ap (λ b. cond b (repeatWalked n (pointStep s) on w) w) (ne-eqb (w .code) 0 (c .if1 .taken)))
 
 pub walk-spec : {M : Type 1} → statement M
 walk-spec =

@@ -8,8 +8,10 @@ use borrow.Author.Needs.{needs}
 use Rattle.notice_fields.specs.Row.{longMost}
 use Rattle.notice_fields.specs.Standing.{front}
 use Rattle.notice_fields.specs.PartsSteps.{bare}
-use Rattle.notice_fields.specs.Making.{areasJudged}
-use Rattle.notice_fields.specs.laws.Judging.{areas-turn, area-small}
+use Rattle.notice_fields.specs.Making.{areaJudged, areasJudged}
+use Rattle.notice_fields.specs.laws.Judging.{area-small}
+use Rattle.walk.specs.Rows.{repeatJudged}
+use Rattle.walk.specs.laws.RowsJudged.{repeat-judged-turn}
 use Rattle.notice_fields.proofs.making.judge.Statement.{statement}
 use Rattle.notice_fields.proofs.making.judge.Tie as tie
 
@@ -48,13 +50,13 @@ loop-again c =
     let r = j .judge-area .result in
     let n = a .count - (l .loop .i + 1) in (
       omega arith,
-      l .loop .inv .1 ∙ areas-turn (a .row .now) n (l .loop .k) (l .loop .w) (omega arith) (j .judge-area .ensures)
+      l .loop .inv .1 ∙ repeat-judged-turn (areaJudged (a .row .now)) n (l .loop .k) (l .loop .w) (omega arith) (j .judge-area .ensures)
           ∙ ap (λ b. cond b (areasJudged (a .row .now) n (r .next) (r .walk)) r) (eq-eqb (r .walk .code) 0 (c .if1 .left)),
       omega (arith, area-small (a .row .now) (l .loop .k) (l .loop .w) (j .judge-area .ensures)),
     )
 
 returns : tie.Need-returns Inv-loop μ-loop
-unfolding areasJudged
+unfolding repeatJudged
 returns c =
     let l = c .before in
     let a = l .before .before .before .args in
@@ -68,7 +70,7 @@ returns-2 c =
     let a = l .before .before .before .args in
     let r = j .judge-area .result in
     let n = a .count - (l .loop .i + 1) in
-    sym (l .loop .inv .1 ∙ areas-turn (a .row .now) n (l .loop .k) (l .loop .w) (omega arith) (j .judge-area .ensures)
+    sym (l .loop .inv .1 ∙ repeat-judged-turn (areaJudged (a .row .now)) n (l .loop .k) (l .loop .w) (omega arith) (j .judge-area .ensures)
     ∙ ap (λ b. cond b (areasJudged (a .row .now) n (r .next) (r .walk)) r) (ne-eqb (r .walk .code) 0 (c .if1 .taken)))
 
 pub judge-spec : {M : Type 1} → statement M

@@ -10,13 +10,12 @@ use Rattle.walk.specs.laws.Judging.{valued-between}
 use Rattle.walk.specs.declared.walk.Walk.{Walk}
 use Rattle.notice_fields.specs.Areas.{leastOf}
 use Rattle.notice_fields.specs.laws.Kinds.{kind-sea, kind-circle, kind-several}
-use Rattle.notice_fields.specs.Making.{pointsJudged, insideJudged}
-use Rattle.notice_fields.specs.laws.Judging.{area-turn, several-turn}
+use Rattle.notice_fields.specs.Making.{pointsJudged}
+use Rattle.notice_fields.specs.laws.Judging.{sea-turn, circle-turn, several-turn}
 use Rattle.notice_fields.proofs.making.judge_area.Statement.{statement}
 use Rattle.notice_fields.proofs.making.judge_area.Tie as tie
 
 returns : tie.Need-returns
-unfolding insideJudged
 returns c =
     let e2 = c .before in
     let i = e2 .before in
@@ -24,7 +23,7 @@ returns c =
     let e = v .before in
     let a = e .before .before .args in
     ap (λ (w : Walk). record { walk = w; next = a .k + 2 }) (c .value2 .ensures ∙ ap (λ n. valued 8 n 0 255 (v .value .result)) (e2 .entry2 .ensures))
-    ∙ sym (area-turn (a .row .now) (a .k) (a .from) (e .entry .ensures) (v .value .ensures) (kind-sea (i .if1 .taken)))
+    ∙ sym (sea-turn (a .row .now) (a .k) (a .from) (e .entry .ensures) (v .value .ensures) (kind-sea (i .if1 .taken)))
 
 judge-points-requires : tie.Need-judge-points-requires
 judge-points-requires c κs =
@@ -37,7 +36,6 @@ add-t17 : tie.Need-add-t17
 add-t17 c = let st = c .before .before .before .before .before .before .before .before .before .before in omega (arith, st .pre)
 
 returns-2 : tie.Need-returns-2
-unfolding insideJudged
 returns-2 c =
     let e4 = c .before in
     let v3 = e4 .before in
@@ -49,7 +47,7 @@ returns-2 c =
     let a = e .before .before .args in
     let radius = v3 .value3 .ensures ∙ ap₂ (λ n p. valued 10 n 0 1_023 p) (e3 .entry3 .ensures) (p .judge-points .ensures) in
     ap (λ (w : Walk). record { walk = w; next = a .k + 5 }) (c .value4 .ensures ∙ ap₂ (λ n q. valued 2 n 0 3 q) (e4 .entry4 .ensures) radius)
-    ∙ sym (area-turn (a .row .now) (a .k) (a .from) (e .entry .ensures) (v .value .ensures) (kind-circle (i .if2 .taken)))
+    ∙ sym (circle-turn (a .row .now) (a .k) (a .from) (e .entry .ensures) (v .value .ensures) (kind-circle (i .if2 .taken)))
 
 returns-3 : tie.Need-returns-3
 returns-3 c =
@@ -63,7 +61,7 @@ returns-3 c =
     let n = e5 .entry5 .result in
     let r = v5 .value5 .result in
     let counted = v5 .value5 .ensures ∙ ap (λ l. valued 4 n l 15 (v .value .result)) (le .least .ensures) in
-    sym (several-turn (a .row .now) (a .k) (a .from) (leastOf (e .entry .result)) (e .entry .ensures) (v .value .ensures) (kind-several (i .before .if1 .left) (i .if2 .left)) (e5 .entry5 .ensures) counted
+    sym (several-turn (a .row .now) (a .k) (a .from) (e .entry .ensures) (v .value .ensures) (leastOf (e .entry .result)) (kind-several (i .before .if1 .left) (i .if2 .left)) (e5 .entry5 .ensures) counted
     ∙ ap (λ b. cond b (record { walk = pointsJudged (a .row .now) n (a .k + 2) r; next = a .k + 2 + n * 2 }) (record { walk = r; next = a .k + 2 })) (ne-eqb (r .code) 0 (c .if3 .taken)))
 
 judge-points-requires-2 : tie.Need-judge-points-requires-2
@@ -103,7 +101,7 @@ returns-4 c =
     let n = e5 .entry5 .result in
     let r = v5 .value5 .result in
     let counted = v5 .value5 .ensures ∙ ap (λ l. valued 4 n l 15 (v .value .result)) (le .least .ensures) in
-    sym (several-turn (a .row .now) (a .k) (a .from) (leastOf (e .entry .result)) (e .entry .ensures) (v .value .ensures) (kind-several (i .before .if1 .left) (i .if2 .left)) (e5 .entry5 .ensures) counted
+    sym (several-turn (a .row .now) (a .k) (a .from) (e .entry .ensures) (v .value .ensures) (leastOf (e .entry .result)) (kind-several (i .before .if1 .left) (i .if2 .left)) (e5 .entry5 .ensures) counted
     ∙ ap (λ b. cond b (record { walk = pointsJudged (a .row .now) n (a .k + 2) r; next = a .k + 2 + n * 2 }) (record { walk = r; next = a .k + 2 })) (eq-eqb (r .code) 0 (c .before .if3 .left))
     ∙ ap (λ (w : Walk). record { walk = w; next = a .k + 2 + n * 2 }) (sym (c .judge-points2 .ensures)))
 

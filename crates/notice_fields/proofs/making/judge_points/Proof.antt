@@ -3,6 +3,7 @@ use Prim.Native.Nat.{_+_, _-_, _*_, _≤_}
 use mathlib.Core.Path.{_≡_, sym, ap, ap₂, _∙_}
 use native.Mathlib.Omega.{arith}
 use borrow.Author.Needs.{needs}
+use Rattle.walk.specs.Rows.{evenJudged}
 use Rattle.notice_fields.specs.Making.{pointsJudged}
 use Rattle.notice_fields.specs.laws.Judging.{point-turn}
 use Rattle.notice_fields.proofs.making.judge_points.Statement.{statement}
@@ -65,7 +66,7 @@ loop-again c =
     (omega arith, l .loop .inv .1 ∙ point-turn (a .row .now) (a .n - (j + 1)) (a .k + j * 2) (l .loop .w) (omega arith) (omega arith) (e1 .entry .ensures) (e2 .entry2 .ensures) (la .judged-latitude .ensures) (c .judged-longitude .ensures))
 
 returns : tie.Need-returns Inv-loop μ-loop
-unfolding pointsJudged
+unfolding evenJudged
 returns c =
     let l = c .before in
     let a = l .before .before .args in

@@ -5,8 +5,10 @@ use native.Mathlib.Omega.{arith}
 use lib.ListN.{length}
 use Rattle.notice_fields.specs.Row.{longMost}
 use Rattle.notice_fields.specs.Standing.{front, areaMost}
-use Rattle.notice_fields.specs.Making.{areasPut}
-use Rattle.notice_fields.specs.laws.Putting.{areas-turn, area-small}
+use Rattle.notice_fields.specs.Making.{areaPut, areasPut}
+use Rattle.notice_fields.specs.laws.Putting.{area-small}
+use Rattle.walk.specs.Rows.{Put, repeatPut}
+use Rattle.walk.specs.laws.RowsPut.{repeat-put-turn}
 use Rattle.notice_fields.proofs.making.put.Statement.{statement}
 use Rattle.notice_fields.proofs.making.put.Tie as tie
 
@@ -43,7 +45,7 @@ loop-again c =
     let (far, small) = area-small row (l .loop .k) (l .loop .at) (l .loop .buf) (p .put-area .ensures) in (
       omega arith,
       p .put-area .kept .0 ∙ l .loop .inv .1,
-      l .loop .inv .2 ∙ areas-turn row (a .count - (l .loop .i + 1)) (l .loop .k) (l .loop .at) (l .loop .buf) (omega arith) (p .put-area .ensures),
+      l .loop .inv .2 ∙ repeat-put-turn (areaPut row) (a .count - (l .loop .i + 1)) (l .loop .k) (l .loop .at) (l .loop .buf) (omega arith) (p .put-area .ensures),
       omega (arith, far),
       omega (arith, small),
     )
@@ -52,12 +54,13 @@ same-length : tie.Need-same-length Inv-loop μ-loop
 same-length c = c .before .loop .inv .1
 
 returns : tie.Need-returns Inv-loop μ-loop
-unfolding areasPut
+unfolding repeatPut
 returns c =
     let l = c .before in
     let a = l .before .before .before .args in
     let none : a .count - l .loop .i ≡ 0 = omega arith in
-    sym (l .loop .inv .2 ∙ ap (λ m. areasPut (a .row .now) m (l .loop .k) (l .loop .at) (l .loop .buf)) none)
+    let e = l .loop .inv .2 ∙ ap (λ m. areasPut (a .row .now) m (l .loop .k) (l .loop .at) (l .loop .buf)) none in
+    (sym (ap (λ (p : Put). p .0 .at) e), sym (ap (λ (p : Put). p .1) e))
 
 pub put-spec : {M : Type 1} → statement M
 put-spec =

@@ -5,6 +5,7 @@ use native.Mathlib.Omega.{arith}
 use lib.ListN.{length}
 use borrow.Author.Needs.{needs}
 use Rattle.format.specs.Correcting.{put-in}
+use Rattle.walk.specs.Rows.{evenPut}
 use Rattle.notice_fields.specs.Parts.{latitudeBits, longitudeBits, pointBits}
 use Rattle.notice_fields.specs.Making.{pointsPut}
 use Rattle.notice_fields.specs.laws.Putting.{point-turn}
@@ -92,7 +93,7 @@ same-length : tie.Need-same-length Inv-loop μ-loop
 same-length c = c .before .loop .inv .1
 
 returns : tie.Need-returns Inv-loop μ-loop
-unfolding pointsPut
+unfolding evenPut
 returns c =
     let l = c .before in
     let a = l .before .before .before .args in

@@ -51,7 +51,7 @@ returns-3 c =
     let s = a .s .now in
     let m = got s (a .at + 3) 4 in
     let next : a .at + 7 + c .get2 .result * pointBits ≡ a .at + (3 + (4 + m * pointBits)) = omega (arith, n) in
-    let numbers : 2 + c .get2 .result * 2 ≡ suc (suc (m * 2)) = omega (arith, n) in
+    let numbers : 2 + c .get2 .result * 2 ≡ 1 + (1 + m * 2) = omega (arith, n) in
     let plain = kind-several (λ z. i .before .if1 .left (g .get .ensures ∙ z)) (λ z. i .if2 .left (g .get .ensures ∙ z)) in
     let shape : record { points = c .get2 .result; first = a .at + 7; next = a .at + 7 + c .get2 .result * pointBits; numbers = 2 + c .get2 .result * 2 } ≡ shapeAs (several (leastOf (got s (a .at) 3))) s (a .at) =
     λ y. record { points = n y; first = a .at + 7; next = next y; numbers = numbers y } in

@@ -5,6 +5,7 @@ use native.Mathlib.Omega.{arith}
 use borrow.Author.Needs.{needs}
 use lib.ListN.{length, length-set}
 use lib.Seq.{sets}
+use Rattle.walk.specs.Groups.{repeatAt}
 use Rattle.walk.specs.laws.Reading.{got-lt}
 use Rattle.notice_fields.specs.Standing.{pointsAt}
 use Rattle.notice_fields.specs.Parts.{latitudeBits, longitudeBits, pointBits}
@@ -19,7 +20,7 @@ abbrev μ-loop : tie.MeasureT-loop
 μ-loop s at n row₀ k j₀ row j = n - j
 
 loop-holds : tie.Need-loop-holds Inv-loop μ-loop
-unfolding pointsAt
+unfolding repeatAt
 loop-holds c = (omega arith, refl, refl)
 
 mul-get : tie.Need-mul-get Inv-loop μ-loop

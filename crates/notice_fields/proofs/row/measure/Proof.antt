@@ -4,10 +4,12 @@ use mathlib.Core.Path.{_≡_, refl, sym, ap, ap₂, _∙_}
 use native.Mathlib.Omega.{arith}
 use native.Mathlib.Numerals.{add-one}
 use Rattle.notice_fields.specs.Row.{longMost}
-use Rattle.notice_fields.specs.Standing.{front, areaMost, areasEnd}
+use Rattle.notice_fields.specs.Standing.{front, areaWide, areaMost, areasEnd}
 use Rattle.notice_fields.specs.Shapes.{shapeAt, numbersIn, pointsIn}
 use Rattle.notice_fields.specs.declared.row.Shape.{Shape}
-use Rattle.notice_fields.specs.laws.Shapes.{area-small, numbers-more, points-more, next-more}
+use Rattle.notice_fields.specs.laws.Shapes.{area-small, next-more}
+use Rattle.walk.specs.Groups.{repeatEnd, repeatSum}
+use Rattle.walk.specs.laws.Stored.{sum-more}
 use Rattle.notice_fields.proofs.row.measure.Statement.{statement}
 use Rattle.notice_fields.proofs.row.measure.Tie as tie
 
@@ -18,7 +20,7 @@ abbrev μ-loop : tie.MeasureT-loop
 μ-loop s count most numbers₀ points₀ at₀ i₀ numbers points at i = most - i
 
 loop-holds : tie.Need-loop-holds Inv-loop μ-loop
-unfolding areasEnd numbersIn pointsIn
+unfolding repeatEnd repeatSum
 loop-holds c = (omega arith, refl, refl, refl, omega arith, omega arith, omega arith)
 
 area-at-requires : tie.Need-area-at-requires Inv-loop μ-loop
@@ -66,8 +68,8 @@ loop-again c =
     let next = ap (λ (r : Shape). r .next) x in
     let one = add-one i in (
       omega arith,
-      ap₂ _+_ (v .1) (numbers ∙ ap (λ p. shapeAt s p .numbers) (v .3)) ∙ sym (numbers-more s i front) ∙ ap (λ n. numbersIn s n front) (sym one),
-      ap₂ _+_ (v .2) (points ∙ ap (λ p. shapeAt s p .points) (v .3)) ∙ sym (points-more s i front) ∙ ap (λ n. pointsIn s n front) (sym one),
+      ap₂ _+_ (v .1) (numbers ∙ ap (λ p. shapeAt s p .numbers) (v .3)) ∙ sym (sum-more i (λ at. shapeAt s at .numbers) (areaWide s) front) ∙ ap (λ n. numbersIn s n front) (sym one),
+      ap₂ _+_ (v .2) (points ∙ ap (λ p. shapeAt s p .points) (v .3)) ∙ sym (sum-more i (λ at. shapeAt s at .points) (areaWide s) front) ∙ ap (λ n. pointsIn s n front) (sym one),
       next ∙ ap (λ p. shapeAt s p .next) (v .3) ∙ next-more s i front ∙ ap (λ n. areasEnd s n front) (sym one),
       omega (arith, n, next),
       omega (arith, m, numbers),

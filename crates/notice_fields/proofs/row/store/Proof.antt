@@ -6,11 +6,12 @@ use native.Mathlib.Numerals.{add-one}
 use native.Mathlib.Nat.{zero-add}
 use lib.ListN.{length}
 use lib.Seq.{sets, length-sets}
-use Rattle.notice_fields.specs.Standing.{front, areaMost, areaAt, areasAt, areasEnd}
+use Rattle.notice_fields.specs.Standing.{front, areaWide, areaMost, areaAt, areasAt, areasEnd}
 use Rattle.notice_fields.specs.Shapes.{shapeAt, numbersIn}
 use Rattle.notice_fields.specs.declared.row.Shape.{Shape}
-use Rattle.notice_fields.specs.laws.Shapes.{area-small, area-within, numbers-in, numbers-more, next-more}
-use Rattle.notice_fields.specs.laws.Rows.{areas-turn}
+use Rattle.notice_fields.specs.laws.Shapes.{area-small, numbers-in, next-more}
+use Rattle.walk.specs.Groups.{repeatAt, repeatEnd}
+use Rattle.walk.specs.laws.Stored.{sum-more, item-within, stored-turn}
 use Rattle.notice_fields.proofs.row.store.Statement.{statement}
 use Rattle.notice_fields.proofs.row.store.Tie as tie
 
@@ -21,7 +22,7 @@ abbrev μ-loop : tie.MeasureT-loop
 μ-loop s count row₀ most k₀ at₀ i₀ row k at i = most - i
 
 loop-holds : tie.Need-loop-holds Inv-loop μ-loop
-unfolding areasEnd areasAt
+unfolding repeatEnd repeatAt
 loop-holds c = (omega arith, refl, omega arith, refl, refl, refl)
 
 area-at-requires : tie.Need-area-at-requires Inv-loop μ-loop
@@ -35,7 +36,7 @@ fill-area-requires c κs =
     let l = c .before .before .before in
     let a = l .before .before .before .args in
     let v = l .loop .inv in
-    let w = area-within (a .s .now) (l .loop .i) (a .count) front (omega arith) in
+    let w = item-within (l .loop .i) (a .count) (areaAt (a .s .now)) (areaWide (a .s .now)) front (omega arith) in
     let here = ap (λ p. length (areaAt (a .s .now) p)) (v .1) in
     (omega arith, omega (arith, w, here))
 
@@ -44,7 +45,7 @@ add-k c =
     let q = c .before .before .before .before .before in
     let l = q .before .before in
     let a = l .before .before .before .args in
-    let w = area-within (a .s .now) (l .loop .i) (a .count) front (omega arith) in
+    let w = item-within (l .loop .i) (a .count) (areaAt (a .s .now)) (areaWide (a .s .now)) front (omega arith) in
     let (_, m, _) = area-small (a .s .now) (l .loop .at) in
     let k = l .loop .inv .3 in
     let all = numbers-in (a .s .now) (l .loop .i) front in
@@ -80,9 +81,9 @@ loop-again c =
       omega arith,
       next ∙ ap (λ p. shapeAt s p .next) (v .1) ∙ next-more s i front ∙ ap (λ n. areasEnd s n front) (sym one),
       omega (arith, n, next),
-      ap₂ _+_ (v .3 ∙ sym (numbers-in s i front)) (numbers ∙ ap (λ p. shapeAt s p .numbers) (v .1)) ∙ sym (numbers-more s i front) ∙ ap (λ n. numbersIn s n front) (sym one) ∙ numbers-in s (i + 1) front,
+      ap₂ _+_ (v .3 ∙ sym (numbers-in s i front)) (numbers ∙ ap (λ p. shapeAt s p .numbers) (v .1)) ∙ sym (sum-more i (λ at. shapeAt s at .numbers) (areaWide s) front) ∙ ap (λ n. numbersIn s n front) (sym one) ∙ numbers-in s (i + 1) front,
       ap length (f .fill-area .ensures) ∙ length-sets (l .loop .row) (l .loop .k) (areaAt s (l .loop .at)) ∙ v .4,
-      areas-turn s (a .row .now) 0 front i (l .loop .k) refl here (v .5) (f .fill-area .ensures ∙ ap (λ p. sets (l .loop .row) (l .loop .k) (areaAt s p)) (v .1)),
+      stored-turn (a .row .now) 0 (areaAt s) (areaWide s) front i (l .loop .k) refl here (v .5) (f .fill-area .ensures ∙ ap (λ p. sets (l .loop .row) (l .loop .k) (areaAt s p)) (v .1)),
     )
 
 same-length : tie.Need-same-length Inv-loop μ-loop
