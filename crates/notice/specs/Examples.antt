@@ -9,9 +9,8 @@ use Rattle.format.specs.Fmt.{accepted, refused, readField, read, writeField, si
 use Rattle.format.specs.Message.{readMessage, writeMessage, correctMessage}
 use Rattle.format.specs.Promises.{readRecord}
 use Rattle.format.specs.Words.{walk, wide, orZero}
-use Rattle.notice_fields.specs.Areas.{points, areas}
+use Rattle.format.specs.Groups.{repeat, first, repeatOf}
 use Rattle.notice_fields.specs.Parts.{subtypes, subtype}
-use Rattle.notice_fields.specs.Row.{first, areasLong}
 use Rattle.text.specs.Text.{english, inLanguage}
 use Rattle.notice.specs.Notice.{notice, notices}
 use Rattle.notice.specs.Record.{Whole, valuesOf, headOf, textOf, recordOf}
@@ -64,29 +63,29 @@ message =
     ∷ 0xA4 ∷ 0x0D ∷ 0xEC ∷ 0xCC ∷ 0xC0 ∷ []
 
 all-read : readRecord (notices true) recordOf message ≡ accepted warned
-unfolding readMessage notices notice read readField walk wide orZero subtypes subtype points areas inLanguage english headOf textOf recordOf valueOf bit digits bitsOf bytesOf
+unfolding readMessage notices notice read readField walk wide orZero subtypes subtype repeat inLanguage english headOf textOf recordOf valueOf bit digits bitsOf bytesOf
 all-read = refl
 
 all-written : writeMessage (notices true) (valuesOf warned) ≡ accepted message
-unfolding writeMessage notices notice write writeField sized walk wide orZero subtypes subtype points areas first areasLong inLanguage english valuesOf valueOf bit digits bitsOf bytesOf
+unfolding writeMessage notices notice write writeField sized walk wide orZero subtypes subtype repeat first repeatOf inLanguage english valuesOf valueOf bit digits bitsOf bytesOf
 all-written = refl
 
 -- the sea area's code, field 9, is corrected to 74
 code-corrected : correctMessage (notices true) message 9 74 ≡ accepted (set (set message 8 0x12) 9 0x88)
-unfolding correctMessage readMessage writeMessage notices notice read readField write writeField sized spot walk wide orZero subtypes subtype points areas inLanguage english valueOf bit digits bitsOf bytesOf
+unfolding correctMessage readMessage writeMessage notices notice read readField write writeField sized spot walk wide orZero subtypes subtype repeat inLanguage english valueOf bit digits bitsOf bytesOf
 code-corrected = refl
 
 -- the circle's radius, field 23, to 986
 radius-corrected : correctMessage (notices true) message 23 986 ≡ accepted (set (set message 33 0xED) 34 0x50)
-unfolding correctMessage readMessage writeMessage notices notice read readField write writeField sized spot walk wide orZero subtypes subtype points areas inLanguage english valueOf bit digits bitsOf bytesOf
+unfolding correctMessage readMessage writeMessage notices notice read readField write writeField sized spot walk wide orZero subtypes subtype repeat inLanguage english valueOf bit digits bitsOf bytesOf
 radius-corrected = refl
 
 -- the longitude of the polygon's second point, field 30, to W 57°09.81'
 longitude-corrected : correctMessage (notices true) message 30 (W (angle 57 9 81)) ≡ accepted (set (set (set message 43 0x27) 44 0x24) 45 0xD1)
-unfolding correctMessage readMessage writeMessage notices notice read readField write writeField sized spot walk wide orZero subtypes subtype points areas inLanguage english valueOf bit digits bitsOf bytesOf
+unfolding correctMessage readMessage writeMessage notices notice read readField write writeField sized spot walk wide orZero subtypes subtype repeat inLanguage english valueOf bit digits bitsOf bytesOf
 longitude-corrected = refl
 
 -- a kind and a count of points stay: the circle's and the polygon's
 kind-kept : (correctMessage (notices true) message 20 3 ≡ refused 10 0) × (correctMessage (notices true) message 26 3 ≡ refused 10 0)
-unfolding correctMessage readMessage writeMessage notices notice read readField write writeField sized spot walk wide orZero subtypes subtype points areas inLanguage english valueOf bit digits bitsOf bytesOf
+unfolding correctMessage readMessage writeMessage notices notice read readField write writeField sized spot walk wide orZero subtypes subtype repeat inLanguage english valueOf bit digits bitsOf bytesOf
 kind-kept = (refl, refl)

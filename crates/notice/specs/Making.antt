@@ -10,7 +10,7 @@ use Rattle.format.specs.laws.Putting.{Putting, Puts}
 use Rattle.walk.specs.Judging.{beyond}
 use Rattle.walk.specs.laws.Judging.{Judging, Judged}
 use Rattle.walk.specs.declared.walk.Walk.{Walk}
-use Rattle.notice_fields.specs.declared.making.Stepped.{Stepped}
+use Rattle.walk.specs.declared.making.Stepped.{Stepped}
 use Rattle.notice_fields.specs.Row.{areasLong}
 use Rattle.notice_fields.specs.Standing.{front}
 use Rattle.notice.specs.Notice.{rest, notice}

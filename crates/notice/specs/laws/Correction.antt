@@ -13,10 +13,10 @@ use Rattle.format.specs.Fmt.{end, Spot, none, found, spot}
 use Rattle.format.specs.laws.Correct.{none-clash}
 use Rattle.format.specs.laws.Past.{Past, past-filled, past-found, filled-set}
 use Rattle.format.specs.laws.Spots.{spotsAlong, spot-along, eachAt, set-each, each-past, each-from, kept-entry, Unnamed, unnamed}
+use Rattle.format.specs.laws.Groups.{first-take, told-exact, exact-told}
+use Rattle.notice_fields.specs.laws.Instances.{some-areas}
 use Rattle.notice_fields.specs.Row.{areasLong, areasTold}
 use Rattle.notice_fields.specs.Spots.{areaSpots}
-use Rattle.notice_fields.specs.laws.Past.{areas-past, areas-filled}
-use Rattle.notice_fields.specs.laws.Row.{first-take, told-exact, exact-told}
 use Rattle.notice_fields.specs.laws.Spots.{areas-spots}
 use Rattle.notice.specs.Changed.{spots, spotOf, changed}
 use Rattle.notice.specs.Notice.{text, rest, notice}
@@ -79,11 +79,11 @@ opening n row us e =
     let all = row ++ us in
     let a = areasLong n all in
     let is : areasTold n all ≡ row = first-take a all (omega (arith, e, length-append row us)) ∙ take-at row us a (sym e) in
-    subst (λ l. areasLong n l ≡ length l) is (exact-told n all)
+    subst (λ l. areasLong n l ≡ length l) is (exact-told (some-areas n) all)
 
 module _ (english : Bool) (n : ℕ) (h row t : List ℕ) (j v : ℕ) {p w : ℕ} (exact : areasLong n row ≡ length row) (there : spot (rest english n) h (row ++ texted t) j ≡ found p w) where
   behind : Past (rest english n) row (text english end)
-  behind = subst (λ l. Past (rest english n) l (text english end)) (told-exact n row exact) (areas-past n row (text english end))
+  behind = subst (λ l. Past (rest english n) l (text english end)) (told-exact (some-areas n) row exact) (some-areas n .past row (text english end))
 
   -- it is one,
   in-row : j < length row
@@ -98,7 +98,7 @@ module _ (english : Bool) (n : ℕ) (h row t : List ℕ) (j v : ℕ) {p w : ℕ}
   row-set =
       let all = set (row ++ texted t) j v in
       let is : all ≡ set row j v ++ texted t = set-append-left row (texted t) j v in-row in
-      let (enough, y) = areas-filled n all (text english end) (filled-set (rest english n) h (row ++ texted t) j v (past-filled (rest english n) (text english end) row (texted t) behind tt) there) in
+      let (enough, y) = some-areas n .filled all (text english end) (filled-set (rest english n) h (row ++ texted t) j v (past-filled (rest english n) (text english end) row (texted t) behind tt) there) in
       let (a, b, last) = two english (drop (areasLong n all) all) y in
       let long : areasLong n all ≡ length (set row j v) =
       omega (arith, enough, ap length last, length-drop (areasLong n all) all, length-set (row ++ texted t) j v, length-append row (texted t), length-set row j v) in
@@ -118,11 +118,11 @@ row-changed english x i v p w true k exact e =
     let row = x .1 .0 in
     let t = texted (x .1 .1) in
     let j = i - 8 in
-    let told : areasTold n row ≡ row = told-exact n row exact in
+    let told : areasTold n row ≡ row = told-exact (some-areas n) row exact in
     let (h, q, there) = past-found (notice english) (rest english n) [] (headed r []) (areasTold n row ++ t) i refl (leb-true 8 i k) e in
     let (exact′, is) = row-set english n h row (x .1 .1) j v exact (subst (λ l. spot (rest english n) h (l ++ t) j ≡ found q w) told there) in
     let back : 8 + j ≡ i = omega (arith, leb-true 8 i k) in
-    (ap (_++ t) (told-exact n (set row j v) exact′) ∙ sym is ∙ ap (λ l. set (l ++ t) j v) (sym told) ∙ sym (each-from j v 8 (areasTold n row ++ t)) ∙ ap (λ i. eachAt i v 8 (areasTold n row ++ t)) back, exact′)
+    (ap (_++ t) (told-exact (some-areas n) (set row j v) exact′) ∙ sym is ∙ ap (λ l. set (l ++ t) j v) (sym told) ∙ sym (each-from j v 8 (areasTold n row ++ t)) ∙ ap (λ i. eachAt i v 8 (areasTold n row ++ t)) back, exact′)
 
 -- The changed record has the changed list of values.
 pub changes : (english : Bool) (x : Whole) (i v p w : ℕ) → Lent x → spot (notice english) [] (valuesOf x) i ≡ found p w → (valuesOf (changed i v x) ≡ set (valuesOf x) i v) × Lent (changed i v x)

@@ -19,10 +19,11 @@ use Rattle.format.specs.laws.Legal.{Legal, legal}
 use Rattle.format.specs.laws.Round.{also-inv, read-write}
 use Rattle.format.specs.laws.Runs.{run-value}
 use Rattle.format.specs.laws.Whole.{was}
+use Rattle.format.specs.laws.Groups.{told-again, told-exact, exact-told}
+use Rattle.notice_fields.specs.laws.Instances.{some-areas}
 use Rattle.text.specs.Text.{inLanguage}
 use Rattle.text.specs.laws.Clean.{no-line-end}
 use Rattle.notice_fields.specs.Row.{areasLong, areasTold}
-use Rattle.notice_fields.specs.laws.Row.{told-again, told-exact, exact-told}
 use Rattle.notice.specs.Changed.{spotOf, changed}
 use Rattle.notice.specs.Notice.{notice, notices}
 use Rattle.notice.specs.Promises.{housed, toldOf, answerOf, Reads}
@@ -43,14 +44,14 @@ pub asked-row : (r : Notice) (row t : List ℕ) → valuesOf (r, (areasTold (r .
 unfolding valuesOf
 asked-row r row t =
     let n = r .count in
-    ap (λ l. headed r (l ++ texted t)) (ap (areasTold n) (sym (append-nil (areasTold n row))) ∙ told-again n row [])
+    ap (λ l. headed r (l ++ texted t)) (ap (areasTold n) (sym (append-nil (areasTold n row))) ∙ told-again (some-areas n) row [])
 
 -- and so a longer row those of its front
 pub longer-row : (r : Notice) (row us t : List ℕ) → areasLong (r .count) row ≡ length row → valuesOf (r, (row ++ us, t)) ≡ valuesOf (r, (row, t))
 unfolding valuesOf
 longer-row r row us t exact =
     let n = r .count in
-    ap (λ l. headed r (l ++ texted t)) (ap (λ l. areasTold n (l ++ us)) (sym (told-exact n row exact)) ∙ told-again n row us)
+    ap (λ l. headed r (l ++ texted t)) (ap (λ l. areasTold n (l ++ us)) (sym (told-exact (some-areas n) row exact)) ∙ told-again (some-areas n) row us)
 
 -- ---- the family
 
@@ -58,7 +59,7 @@ same-record : (x : Whole) → Lent x → recordOf (valuesOf x) ≡ x
 unfolding valuesOf
 same-record x (exact, fine) =
     let n = x .0 .count in
-    told (x .0) (areasTold n (x .1 .0)) (x .1 .1) fine ∙ ap (λ l. (x .0, (l, x .1 .1))) (told-exact n (x .1 .0) exact)
+    told (x .0) (areasTold n (x .1 .0)) (x .1 .1) fine ∙ ap (λ l. (x .0, (l, x .1 .1))) (told-exact (some-areas n) (x .1 .0) exact)
 
 -- the record of accepted values
 record-is : (english : Bool) (vs : List ℕ) (l : Listed english vs) → recordOf vs ≡ (headOf vs, (l .row, textOf (l .size) (l .number)))
@@ -73,7 +74,7 @@ unfolding valuesOf
 same-values english vs h =
     let l = listed english vs h in
     ap valuesOf (record-is english vs l)
-    ∙ ap₂ (λ us ws. headed (headOf vs) (us ++ ws)) (told-exact (headOf vs .count) (l .row) (l .exact)) (text-values (l .size) (l .number) (l .narrow))
+    ∙ ap₂ (λ us ws. headed (headOf vs) (us ++ ws)) (told-exact (some-areas (headOf vs .count)) (l .row) (l .exact)) (text-values (l .size) (l .number) (l .narrow))
     ∙ sym (l .is)
 
 can-lend : (english : Bool) (vs : List ℕ) → Legal (notice english) [] vs → Lent (recordOf vs)
@@ -131,7 +132,7 @@ pub written-reads : (english : Bool) (s : List ℕ) (r : Notice) (row t u : List
     (m : List ℕ) × (u ≡ m ++ drop (length m) s)
     × ((areas text : List ℕ) → length xs ≤ length areas → length t ≤ length text → Reads english m areas text (Good (toldOf (r, (xs, t)))) (ahead xs areas) (ahead t text))
 written-reads english s r row t u fine w =
-    let y = written-read (family english) s (r, (areasTold (r .count) row, t)) u (exact-told (r .count) row, fine) (subst⁻¹ (Writes (notices english) s 0 u) (asked-row r row t) w) in
+    let y = written-read (family english) s (r, (areasTold (r .count) row, t)) u (exact-told (some-areas (r .count)) row, fine) (subst⁻¹ (Writes (notices english) s 0 u) (asked-row r row t) w) in
     (y .message, y .front, λ areas text k l. reads-good english (y .message) areas text (y .reads) k l)
 
 module _ (english : Bool) (s row text : List ℕ) (a : Told) (row′ text′ : List ℕ) (fine : Bytes s) (reads : Reads english s row text (Good a) row′ text′) where

@@ -12,11 +12,11 @@ use Rattle.format.specs.laws.Extent.{extent-lay}
 use Rattle.format.specs.laws.Legal.{Legal}
 use Rattle.format.specs.laws.Past.{Filled, past-legal, past-counted, legal-filled}
 use Rattle.format.specs.laws.Zero.{Counted}
+use Rattle.format.specs.laws.Groups.{first-take, exact-told}
+use Rattle.notice_fields.specs.laws.Instances.{some-areas}
 use Rattle.notice_fields.specs.Areas.{areas}
 use Rattle.notice_fields.specs.Row.{areasLong, areasTold}
 use Rattle.notice_fields.specs.Standing.{front}
-use Rattle.notice_fields.specs.laws.Past.{areas-past, areas-filled}
-use Rattle.notice_fields.specs.laws.Row.{first-take, exact-told}
 use Rattle.text.specs.Text.{inLanguage}
 use Rattle.notice.specs.Notice.{text, rest, notice}
 use Rattle.notice.specs.Record.{Whole, headed, texted, textOf, valuesOf, headOf}
@@ -31,7 +31,7 @@ unfolding notice valuesOf
 counted english x =
     let n = x .0 .count in
     let row = x .1 .0 in
-    past-counted (areas n (text english end)) (text english end) front (areasTold n row) (texted (x .1 .1)) (areas-past n row (text english end)) (text-counted english (x .1 .1))
+    past-counted (areas n (text english end)) (text english end) front (areasTold n row) (texted (x .1 .1)) (some-areas n .past row (text english end)) (text-counted english (x .1 .1))
 
 -- ---- accepted ones
 
@@ -72,12 +72,12 @@ listed english vs h =
     let us = drop 8 vs in
     let head = eight english vs (legal-filled (notice english) [] vs h) in
     let g = subst (Legal (notice english) []) head h .2 .2 .2 .2 .2 .2 .2 .2 in
-    let (enough, y) = areas-filled n us (text english end) (legal-filled (rest english n) _ us g) in
+    let (enough, y) = some-areas n .filled us (text english end) (legal-filled (rest english n) _ us g) in
     let (size, number, last) = two english (drop (areasLong n us) us) y in
     let row = areasTold n us in
     let whole : us ≡ row ++ (size ∷ number ∷ []) = sym (take-append-drop (areasLong n us) us) ∙ (λ i. sym (first-take (areasLong n us) us enough) i ++ last i) in
-    let (h′, t) = past-legal (rest english n) (text english end) _ row (size ∷ number ∷ []) (areas-past n us (text english end)) (subst (Legal (rest english n) _) whole g) in
-    record { row = row; size = size; number = number; is = head ∙ ap (headed r) whole; exact = exact-told n us; narrow = t .0; spoken = faultless (inLanguage english (bytesOf size (digits (size * 8) number))) (t .1) }
+    let (h′, t) = past-legal (rest english n) (text english end) _ row (size ∷ number ∷ []) (some-areas n .past us (text english end)) (subst (Legal (rest english n) _) whole g) in
+    record { row = row; size = size; number = number; is = head ∙ ap (headed r) whole; exact = exact-told (some-areas n) us; narrow = t .0; spoken = faultless (inLanguage english (bytesOf size (digits (size * 8) number))) (t .1) }
   where
     faultless : (x : Bool) → unless x 4 0 ≡ good → x ≡ true
     faultless true e = refl

@@ -10,8 +10,8 @@ use Rattle.format.specs.Fmt.{bad, end}
 use Rattle.format.specs.Message.{Sound}
 use Rattle.format.specs.Words.{unless}
 use Rattle.format.specs.laws.Zero.{Numbered, Judged, only-numbered}
+use Rattle.notice_fields.specs.laws.Instances.{some-areas}
 use Rattle.notice_fields.specs.laws.PartsWalking.{expiry-numbered}
-use Rattle.notice_fields.specs.laws.Numbered.{areas-numbered}
 use Rattle.packet.specs.Packet.{joined}
 use Rattle.text.specs.Text.{inLanguage}
 use Rattle.notice.specs.Notice.{text, notice, notices}
@@ -48,7 +48,7 @@ judged english = (
       only-numbered 14 3 _,
       (
         only-numbered 7 3 _,
-        (only-numbered 4 3 _, (only-numbered 4 3 _, (expiry-numbered, (only-numbered 4 3 _, λ n. areas-numbered n (text english end) (λ m. (spoken english m, tt)))))),
+        (only-numbered 4 3 _, (only-numbered 4 3 _, (expiry-numbered, (only-numbered 4 3 _, λ n. some-areas n .judged (text english end) (λ m. (spoken english m, tt)))))),
       ),
     ),
   ),

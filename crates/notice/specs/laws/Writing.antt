@@ -18,7 +18,7 @@ use Rattle.packet.specs.Packet.{joined}
 use Rattle.notice.specs.Notice.{notice, notices}
 use Rattle.notice.specs.Record.{valuesOf}
 use Rattle.notice.specs.declared.reading.Notice.{Notice}
-use Rattle.notice_fields.specs.declared.making.Stepped.{Stepped}
+use Rattle.walk.specs.declared.making.Stepped.{Stepped}
 use Rattle.notice.specs.Making.{NoticeJudged}
 use Rattle.notice.specs.WritingPromises.{roomFor, enough, NoticeWrites}
 

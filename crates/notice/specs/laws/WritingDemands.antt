@@ -16,8 +16,9 @@ use Rattle.format.specs.Settled.{SettledBy}
 use Rattle.format.specs.laws.Answers.{plain-good, code-plain}
 use Rattle.format.specs.laws.Settled.{settled-with, settled}
 use Rattle.format.specs.laws.Round.{clash}
+use Rattle.format.specs.laws.Groups.{exact-told, exact-more}
+use Rattle.notice_fields.specs.laws.Instances.{some-areas}
 use Rattle.notice_fields.specs.Row.{areasLong, areasTold}
-use Rattle.notice_fields.specs.laws.Row.{exact-told, exact-more}
 use Rattle.notice.specs.Changed.{spotOf, changed}
 use Rattle.notice.specs.Notice.{notice, notices}
 use Rattle.notice.specs.Promises.{toldOf, Reads}
@@ -54,7 +55,7 @@ accepted-writes english s r row t u fine x = go (enough r row) refl
     go true e = (e, enough-writes english s r row t 0 u e x)
     go false e =
         let w : Writes (notices english) [] 0 (leaves (into [] o) []) (valuesOf (r, (row, t))) = (subst (λ b. 0 ≡ codeOf (into (cond b s []) o)) e (x .0), refl) in
-        let y = written-read (family english) [] (r, (areasTold (r .count) row, t)) _ (exact-told (r .count) row, fine) (subst⁻¹ (Writes (notices english) [] 0 _) (asked-row r row t) w) in
+        let y = written-read (family english) [] (r, (areasTold (r .count) row, t)) _ (exact-told (some-areas (r .count)) row, fine) (subst⁻¹ (Writes (notices english) [] 0 _) (asked-row r row t) w) in
         absurd (some-bytes english (y .message) (y .room) (y .reads))
 
 -- two answers that it allows are equal
@@ -81,7 +82,7 @@ module _ (english : Bool) (s row text : List ℕ) (a : Told) (row′ text′ : L
   read-writes-back us u code t l x =
       let r = a .notice in
       let xs = take (a .numbers) row′ in
-      let more = exact-more (r .count) xs us (lent .0) in
+      let more = exact-more (some-areas (r .count)) xs us (lent .0) in
       let w = enough-writes english u r (xs ++ us) (take (a .text) text′) code t (le-leb (areasLong (r .count) (xs ++ us)) (length (xs ++ us)) (omega (arith, more, length-append xs us))) x in
       values-back english s row text a row′ text′ fine reads u code t l (subst (Writes (notices english) u code t) (longer-row r xs us (take (a .text) text′) (lent .0)) w)
 

@@ -4,8 +4,8 @@ ghost use lib.ListN.{length};
 ghost use Rattle.packet.specs.Packet.{joined};
 ghost use Rattle.notice.specs.Making.{HeadJudged, NoticeJudged, HeadPut, NoticePut};
 use crate::reading::Notice;
-use notice_fields::making::Stepped;
 use walk::choosing::choose_code;
+use walk::making::Stepped;
 use walk::walk::Walk;
 
 // The values in bit order, the text by itself, and how many numbers of the row were asked for.

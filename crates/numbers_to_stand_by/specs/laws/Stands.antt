@@ -18,8 +18,7 @@ use Rattle.gljc.specs.Gljc.{gljc, gljcs}
 use Rattle.distress.specs.Report.{report, reports, reportOf, valuesOf as reportValues}
 use Rattle.distress.specs.Changed.{changed}
 use Rattle.notice_fields.specs.Parts.{subtypes, subtype}
-use Rattle.notice_fields.specs.Areas.{points, areas}
-use Rattle.notice_fields.specs.Row.{first, areasLong}
+use Rattle.format.specs.Groups.{repeat, first, repeatOf}
 use Rattle.notice.specs.Notice.{notice, notices}
 use Rattle.notice.specs.Record.{headOf, textOf, recordOf as noticeOf, valuesOf as noticeValues}
 use Rattle.packet.specs.Packet.{packet, packets, recordOf as packetOf, valuesOf as packetValues}
@@ -38,7 +37,7 @@ unfolding tally oneMore rank
 all-letters = refl
 
 pub all-stand : standing table ≡ true
-unfolding standing signs replies alike readMessage writeMessage correctMessage read readField write writeField sized spot walk wide orZero valueOf bit digits bitsOf bytesOf fieldAt putAt xorOf intOf spellOf inLanguage english chinese leads txsq txsqs txsqOf gljc gljcs report reports reportOf reportValues changed subtypes subtype points areas first areasLong notice notices headOf textOf noticeOf noticeValues packet packets packetOf packetValues everyBelow firstFrom goodPlace allApart goodPlaces openAt freeAt firstTests joins received accepting missingBelow answers asking run log firstOf slotsIn slotsFor pointsOf outlineOf
+unfolding standing signs replies alike readMessage writeMessage correctMessage read readField write writeField sized spot walk wide orZero valueOf bit digits bitsOf bytesOf fieldAt putAt xorOf intOf spellOf inLanguage english chinese leads txsq txsqs txsqOf gljc gljcs report reports reportOf reportValues changed subtypes subtype repeat first repeatOf notice notices headOf textOf noticeOf noticeValues packet packets packetOf packetValues everyBelow firstFrom goodPlace allApart goodPlaces openAt freeAt firstTests joins received accepting missingBelow answers asking run log firstOf slotsIn slotsFor pointsOf outlineOf
 all-stand = refl
 
 -- row i of a table

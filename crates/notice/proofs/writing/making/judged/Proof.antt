@@ -1,6 +1,6 @@
 -- `judged` walks the head, the areas and the text; a refused head ends it.
 use Prim.Native.Nat.{_+_, _-_, _*_}
-use mathlib.Core.Path.{sym, ap, _∙_, subst⁻¹}
+use mathlib.Core.Path.{_≡_, sym, ap, _∙_, subst⁻¹}
 use mathlib.Core.Bool.{cond}
 use mathlib.Core.List.{_++_}
 use native.Mathlib.Omega.{arith}
@@ -9,9 +9,12 @@ use borrow.Author.Needs.{needs}
 use Rattle.bits.specs.Bits.{Bytes}
 use Rattle.walk.specs.Walk.{onward}
 use Rattle.walk.specs.declared.walk.Walk.{Walk}
-use Rattle.walk.specs.laws.Loops.{going}
+use Rattle.walk.specs.laws.Loops.{JudgesAlong, going}
 use Rattle.walk.specs.laws.Step.{clean}
-use Rattle.notice_fields.specs.laws.Judging.{AreasAre, areas-are}
+use Rattle.walk.specs.declared.making.Stepped.{Stepped}
+use Rattle.notice_fields.specs.Areas.{areas}
+use Rattle.notice_fields.specs.Making.{areasJudged}
+use Rattle.notice_fields.specs.laws.Judging.{areas-judged}
 use Rattle.notice_fields.specs.Row.{areasTold}
 use Rattle.notice_fields.specs.Standing.{front}
 use Rattle.notice_fields.specs.PartsSteps.{bare}
@@ -45,11 +48,16 @@ returns-2 c =
     let fine : Bytes t = λ i. known .shared-slice-known2 .given i .fits in
     let x = h .judged-head .ensures in
     let few = x .few (i .if1 .left) in
-    let y = subst⁻¹ (AreasAre (a .areas .now) (a .r .count) 0 (bare front 0 0)) (j .judge .ensures) (areas-are (a .areas .now) (a .r .count) 0 (bare front 0 0) (omega (arith, few))) in
-    let g = y .along .on (from-front (i .if1 .left) (x .is (a .english) (areasTold (a .r .count) (a .areas .now) ++ texted t))) in
+    let row = a .areas .now in
+    let n = a .r .count in
+    let y = areas-judged row n in
+    let all = areasJudged row n 0 (bare front 0 0) in
+    let is : j .judge .result ≡ all = j .judge .ensures in
+    let near = ap (λ (r : Stepped). r .walk .at) is in
+    let g = subst⁻¹ (λ (r : Stepped). JudgesAlong (areas n) (λ f. f) (bare front 0 0) (areasTold n row) (r .walk)) is (y .along 0 (bare front 0 0) (omega (arith, few))) .on (from-front (i .if1 .left) (x .is (a .english) (areasTold (a .r .count) (a .areas .now) ++ texted t))) in
     record {
-      judged = text-judged (a .english) t (ch .choose-code .result) fine (omega (arith, y .near, few)) (ch .choose-code .ensures ∙ ap (λ b. cond b 0 4) (sp .in-language .ensures ∙ spoken-whole (a .english) t fine)) (c .wide .ensures) g;
-      asked = λ z. y .next (clean (j .judge .result .walk .code) (ch .choose-code .result) (ap (λ (w : Walk). w .code) (sym (c .wide .ensures)) ∙ z) .0) ∙ omega arith;
+      judged = text-judged (a .english) t (ch .choose-code .result) fine (omega (arith, near, y .near 0 (bare front 0 0), few)) (ch .choose-code .ensures ∙ ap (λ b. cond b 0 4) (sp .in-language .ensures ∙ spoken-whole (a .english) t fine)) (c .wide .ensures) g;
+      asked = λ z. ap (λ (r : Stepped). r .next) is ∙ y .next 0 (bare front 0 0) (ap (λ (r : Stepped). r .walk .code) (sym is) ∙ clean (j .judge .result .walk .code) (ch .choose-code .result) (ap (λ (w : Walk). w .code) (sym (c .wide .ensures)) ∙ z) .0) ∙ omega arith;
     }
 
 pub judged-spec : {M : Type 1} → statement M

@@ -1,6 +1,6 @@
 -- `put` puts the head, the areas, the text and the fill behind one another.
 use Prim.Native.Nat.{ℕ, _+_, _-_}
-use mathlib.Core.Path.{ap, subst⁻¹}
+use mathlib.Core.Path.{subst⁻¹}
 use mathlib.Core.List.{List, _++_}
 use native.Mathlib.Omega.{arith}
 use borrow.Author.Needs.{needs}
@@ -9,7 +9,8 @@ use Rattle.format.specs.laws.Extent.{opens-field}
 use Rattle.format.specs.laws.Putting.{put-bytes, put-run, put-fill, put-end, begins}
 use Rattle.format.specs.laws.Runs.{run-bits}
 use Rattle.walk.specs.laws.Loops.{PutsAlong}
-use Rattle.notice_fields.specs.laws.Putting.{areas-along, areas-near}
+use Rattle.notice_fields.specs.Making.{areasPut}
+use Rattle.notice_fields.specs.laws.Putting.{areas-put, areas-near}
 use Rattle.notice_fields.specs.Areas.{areas}
 use Rattle.notice_fields.specs.Row.{areasTold}
 use Rattle.notice_fields.specs.Standing.{front}
@@ -22,7 +23,7 @@ add-fill c =
     let p = c .before .before .before .before .before .before .before in
     let h = p .before .before .before .before in
     let a = h .before .before .before .before .before .args in
-    omega (arith, ap (λ (x : ℕ × List ℕ). x .0) (p .put .ensures), areas-near (a .areas .now) (a .r .count) 0 front (h .put-head .last .0))
+    omega (arith, p .put .ensures .0, areas-near (a .areas .now) (a .r .count) 0 front (h .put-head .last .0))
 
 returns : tie.Need-returns
 unfolding valuesOf putBytesAt
@@ -38,8 +39,9 @@ returns c =
     let fine : Bytes s = λ i. known .slice-known .given i .fits in
     λ english b e l.
     let r0 = h .put-head .ensures english (areasTold (a .r .count) (a .areas .now) ++ texted x) b fine e l in
-    let r1 = subst⁻¹ (λ (x : ℕ × List ℕ). PutsAlong (areas (a .r .count)) (λ f. f) front (areasTold (a .r .count) (a .areas .now)) (h .put-head .last .0) (x .0) (x .1)) (p .put .ensures)
-    (areas-along (a .areas .now) (a .r .count) 0 front (h .put-head .last .0)) .on r0 in
+    let o = areasPut (a .areas .now) (a .r .count) 0 front (h .put-head .last .0) in
+    let r1 = subst⁻¹ (λ (x : ℕ × List ℕ). PutsAlong (areas (a .r .count)) (λ f. f) front (areasTold (a .r .count) (a .areas .now)) (h .put-head .last .0) (x .0) (x .1)) {y = (o .0 .at, o .1)} (λ i. (p .put .ensures .0 i, p .put .ensures .1 i))
+    (areas-put (a .areas .now) (a .r .count) .along 0 front (h .put-head .last .0)) .on r0 in
     let r2 = put-run x (run-bits x) (begins opens-field) (put-bytes r1) (t .put-bytes .ensures) in
     let r3 = put-fill r2 (f .fill .ensures) in
     put-end fine (omega arith) r3
