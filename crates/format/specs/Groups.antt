@@ -1,6 +1,6 @@
 -- Counted groups, in the words of layouts: what is repeated is any stretch of fields. And how much of a row of numbers, or of bits, such a stretch takes. Assumes nothing.
 use Prim.Native.Nat.{ℕ, zero, suc, _+_}
-use mathlib.Core.List.{List, [], _∷_}
+use mathlib.Core.List.{List, [], _∷_, _++_}
 use lib.ListN.{drop, getD}
 use Rattle.format.specs.Fmt.{Fmt}
 use Rattle.format.specs.Words.{Test, deciding}
@@ -37,6 +37,11 @@ decidedOf w a row = w + a (getD row 0 0) (drop 1 row)
 unfoldable pub repeatOf : Measure → ℕ → Measure → Measure
 repeatOf long zero a row = 0
 repeatOf long (suc n) a row = a row + repeatOf long n a (drop (long row) row)
+
+-- what n items tell: `f` of each, which takes `long` numbers
+unfoldable pub repeatTold : {A : Type 0} → Measure → ℕ → (List ℕ → List A) → List ℕ → List A
+repeatTold long zero f row = []
+repeatTold long (suc n) f row = f row ++ repeatTold long n f (drop (long row) row)
 
 -- the numbers that a stretch takes from the front of a row
 abbrev pub told : Measure → List ℕ → List ℕ

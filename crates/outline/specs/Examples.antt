@@ -10,11 +10,11 @@ use Rattle.format.specs.Message.{readMessage}
 use Rattle.format.specs.Words.{walk, wide, orZero}
 use Rattle.text.specs.Text.{english, inLanguage}
 use Rattle.notice_fields.specs.Parts.{subtypes, subtype}
-use Rattle.format.specs.Groups.{repeat}
+use Rattle.format.specs.Groups.{repeat, repeatOf, repeatTold}
 use Rattle.notice.specs.Notice.{notice, notices}
 use Rattle.notice.specs.Record.{headOf, textOf, recordOf}
 use Rattle.outline.specs.Angles.{northing}
-use Rattle.outline.specs.Outline.{pointsOf, outlineOf, pointCount}
+use Rattle.outline.specs.Outline.{outlineOf}
 use Rattle.outline.specs.Promises.{drawn, counted}
 
 -- N 0°00.00' and S 0°00.00'
@@ -33,10 +33,10 @@ abbrev row : List ℤ
 row = pos 0 ∷ pos 0 ∷ pos 0 ∷ pos 0 ∷ pos 7 ∷ pos 8 ∷ []
 
 line-drawn : (drawn true line row ≡ accepted (negℤ (pos 1) ∷ negℤ (pos 1_086_099) ∷ pos 187_250 ∷ pos 729_005 ∷ pos 7 ∷ pos 8 ∷ [])) × (counted true line row ≡ accepted 2)
-unfolding readMessage notices notice read readField walk wide orZero subtypes subtype repeat inLanguage english valueOf bit digits bitsOf bytesOf headOf textOf recordOf pointsOf outlineOf pointCount
+unfolding readMessage notices notice read readField walk wide orZero subtypes subtype repeat inLanguage english valueOf bit digits bitsOf bytesOf headOf textOf recordOf repeatTold repeatOf
 line-drawn = (refl, refl)
 
 -- a sea area gives nothing, a circle its centre
 sea-and-circle : outlineOf 2 (0 ∷ 77 ∷ 3 ∷ 0x10_0001 ∷ 128 ∷ 500 ∷ 2 ∷ []) ≡ negℤ (pos 1) ∷ pos 100 ∷ []
-unfolding outlineOf pointsOf
+unfolding repeatTold
 sea-and-circle = refl

@@ -36,7 +36,7 @@ decidedWalked s w lo hi step next r = let q = ranged s w false lo hi 4 r in step
 abbrev pub countedWalked : List ℕ → ℕ → ℕ → ℕ → Step → Step
 countedWalked s w lo hi step = decidedWalked s w lo hi (λ n. repeatWalked n step)
 
--- ---- the numbers that stand in a message from a bit on, whether they are good or not, and how many bits they have
+-- ---- what stands in a message from a bit on, whether it is good or not, and how many bits it has
 
 abbrev pub Standing : Type 0
 Standing = ℕ → List ℕ
@@ -50,7 +50,7 @@ thenAt a wa b at = a at ++ b (at + wa at)
 abbrev pub thenWide : Width → Width → Width
 thenWide wa wb at = wa at + wb (at + wa at)
 
-unfoldable pub repeatAt : ℕ → Standing → Width → Standing
+unfoldable pub repeatAt : {A : Type 0} → ℕ → (ℕ → List A) → Width → ℕ → List A
 repeatAt zero a wa at = []
 repeatAt (suc n) a wa at = a at ++ repeatAt n a wa (at + wa at)
 

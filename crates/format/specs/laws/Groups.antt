@@ -12,7 +12,7 @@ use Rattle.format.specs.Words.{Test, Part, walk, wide, free, only, num, 
 use Rattle.format.specs.laws.Extent.{extent}
 use Rattle.format.specs.laws.Past.{Past, Filled, past-then}
 use Rattle.format.specs.laws.Zero.{Numbered, Judged, Coded, only-numbered, walk-numbered}
-use Rattle.format.specs.Groups.{repeat, counted, first, Measure, thenOf, decidedOf, repeatOf, told}
+use Rattle.format.specs.Groups.{repeat, counted, first, Measure, thenOf, decidedOf, repeatOf, repeatTold, told}
 
 -- ---- the first numbers of a row
 
@@ -40,6 +40,12 @@ unfolding repeatOf
 told-next long n row vs =
     let next = drop (long row) row in
     ap (_++ vs) (first-add (long row) (repeatOf long n long next) row) ∙ append-assoc (told long row) (told (repeatOf long n long) next) vs
+
+-- as many of what n items tell as of each together
+pub told-long : {A : Type 0} (long : Measure) (n : ℕ) (f : List ℕ → List A) (row : List ℕ) → length (repeatTold long n f row) ≡ repeatOf long n (λ r. length (f r)) row
+unfolding repeatTold repeatOf
+told-long long zero f row = refl
+told-long long (suc n) f row = let rest = drop (long row) row in length-append (f row) (repeatTold long n f rest) ∙ ap (length (f row) +_) (told-long long n f rest)
 
 -- ---- items
 

@@ -5,10 +5,12 @@ use native.Mathlib.Omega.{arith}
 use native.Mathlib.Numerals.{add-one}
 use lib.ListN.{length}
 use lib.Seq.{sets, length-sets}
-use Rattle.notice_fields.specs.Standing.{front, areaMost, areasEnd}
+use Rattle.notice_fields.specs.Standing.{front, areaWide, areaMost, areasEnd}
 use Rattle.notice_fields.specs.Shapes.{shapeAt, pointsIn}
 use Rattle.notice_fields.specs.declared.row.Shape.{Shape}
-use Rattle.notice_fields.specs.laws.Shapes.{area-small, next-more, points-more}
+use Rattle.notice_fields.specs.laws.Shapes.{area-small, next-more}
+use Rattle.walk.specs.Groups.{repeatAt, repeatEnd, repeatSum}
+use Rattle.walk.specs.laws.Stored.{sum-more}
 use Rattle.outline.specs.Standing.{pointsDrawn, areaDrawn, outlineAt}
 use Rattle.outline.specs.laws.Drawing.{outline-at-long, points-within, first-near, area-turn}
 use Rattle.outline.proofs.draw.Statement.{statement}
@@ -21,7 +23,7 @@ abbrev μ-loop : tie.MeasureT-loop
 μ-loop s count row₀ most k₀ at₀ i₀ row k at i = most - i
 
 loop-holds : tie.Need-loop-holds Inv-loop μ-loop
-unfolding areasEnd pointsIn outlineAt
+unfolding repeatAt repeatEnd repeatSum
 loop-holds c = (omega arith, refl, omega arith, refl, refl, refl)
 
 area-at-requires : tie.Need-area-at-requires Inv-loop μ-loop
@@ -89,7 +91,7 @@ loop-again c =
       omega arith,
       next ∙ ap (λ p. shapeAt s p .next) (v .1) ∙ next-more s i front ∙ ap (λ n. areasEnd s n front) (sym one),
       omega (arith, near, next),
-      omega (arith, v .3, points, points-more s i front, ap (λ n. pointsIn s n front) one),
+      omega (arith, v .3, points, sum-more i (λ at. shapeAt s at .points) (areaWide s) front, ap (λ n. pointsIn s n front) one),
       ap length (d .draw-points .ensures) ∙ length-sets (l .loop .row) (l .loop .k) (pointsDrawn s (r .points) (r .first)) ∙ v .4,
       area-turn s (a .row .now) 0 front i (l .loop .k) (omega (arith, v .3)) (v .5) (d .draw-points .ensures ∙ ap (sets (l .loop .row) (l .loop .k)) area),
     )

@@ -8,6 +8,7 @@ use lib.Seq.{sets}
 use Rattle.bits.specs.Answers.{got}
 use Rattle.outline.specs.Angles.{northing, easting}
 use Rattle.notice_fields.specs.Parts.{latitudeBits, longitudeBits, pointBits}
+use Rattle.walk.specs.Groups.{repeatAt}
 use Rattle.outline.specs.Standing.{pointsDrawn}
 use Rattle.outline.specs.laws.Angles.{latitude-stored, longitude-stored}
 use Rattle.outline.specs.laws.Drawing.{point-turn}
@@ -21,7 +22,7 @@ abbrev μ-loop : tie.MeasureT-loop
 μ-loop s at n row₀ k j₀ row j = n - j
 
 loop-holds : tie.Need-loop-holds Inv-loop μ-loop
-unfolding pointsDrawn
+unfolding repeatAt
 loop-holds c = (omega arith, refl, refl)
 
 mul-here : tie.Need-mul-here Inv-loop μ-loop
