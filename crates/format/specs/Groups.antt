@@ -1,4 +1,4 @@
--- Counted groups, in the words of layouts: what is repeated is any stretch of fields. And how much of a row of numbers, or of bits, such a stretch takes. Assumes nothing.
+-- Counted groups, in the words of layouts: what is repeated is any stretch of fields. And how much of a row of numbers such a stretch takes. Assumes nothing.
 use Prim.Native.Nat.{ℕ, zero, suc, _+_}
 use mathlib.Core.List.{List, [], _∷_, _++_}
 use lib.ListN.{drop, getD}
@@ -21,17 +21,17 @@ unfoldable pub first : ℕ → List ℕ → List ℕ
 first zero row = []
 first (suc n) row = getD row 0 0 ∷ first n (drop 1 row)
 
--- How many numbers, or how many bits, by the row from here on.
+-- How many numbers, by the row from here on.
 abbrev pub Measure : Type 0
 Measure = List ℕ → ℕ
 
--- of what stands one behind the other: `a` takes `long` numbers of the row, and `b` follows
-abbrev pub thenOf : Measure → Measure → Measure → Measure
-thenOf long a b row = a row + b (drop (long row) row)
+-- of what stands one behind the other
+abbrev pub thenOf : Measure → Measure → Measure
+thenOf a b row = a row + b (drop (a row) row)
 
--- of what a number decides
-abbrev pub decidedOf : ℕ → (ℕ → Measure) → Measure
-decidedOf w a row = w + a (getD row 0 0) (drop 1 row)
+-- of a number, and what it decides
+abbrev pub decidedOf : (ℕ → Measure) → Measure
+decidedOf a row = 1 + a (getD row 0 0) (drop 1 row)
 
 -- of n items: `a` of each, which takes `long` numbers
 unfoldable pub repeatOf : Measure → ℕ → Measure → Measure

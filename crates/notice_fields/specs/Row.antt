@@ -8,7 +8,7 @@ use Rattle.notice_fields.specs.Areas.{Kind, sea, circle, several, kindOf
 abbrev pub insideLong : Kind → Measure
 insideLong sea row = 1
 insideLong circle row = 4
-insideLong (several least) row = decidedOf 1 (λ n r. n * 2) row
+insideLong (several least) row = decidedOf (λ n r. n * 2) row
 
 -- how many points these are, where c comes first
 abbrev pub insideCount : Kind → ℕ → ℕ
@@ -17,7 +17,7 @@ insideCount circle c = 1
 insideCount (several least) c = c
 
 abbrev pub areaLong : Measure
-areaLong = decidedOf 1 (λ k. insideLong (kindOf k))
+areaLong = decidedOf (λ k. insideLong (kindOf k))
 
 -- at most: the kind, a count and 15 points
 abbrev pub longMost : ℕ

@@ -3,15 +3,14 @@ use Prim.Native.Nat.{ℕ, zero, suc, _+_, _*_, _≤_}
 use mathlib.Core.Path.{_≡_, refl, sym, ap, ap₂, _∙_, subst, subst⁻¹}
 use mathlib.Core.Bool.{Bool}
 use mathlib.Core.List.{List, [], _∷_, _++_, append-assoc, append-nil}
-use native.Mathlib.Nat.{suc-add, zero-add, add-zero, add-assoc}
+use native.Mathlib.Nat.{suc-add, zero-add}
 use native.Mathlib.Omega.{arith}
 use lib.ListN.{length, take, drop, getD, length-drop, length-append}
 use lib.Seq.{drop-drop, drop-at, take-at, take-all}
 use Rattle.format.specs.Fmt.{Judge, Fmt, field, choice}
-use Rattle.format.specs.Words.{Test, Part, walk, wide, free, only, num, group, deciding}
-use Rattle.format.specs.laws.Extent.{extent}
+use Rattle.format.specs.Words.{Test, free, only, num, deciding}
 use Rattle.format.specs.laws.Past.{Past, Filled, past-then}
-use Rattle.format.specs.laws.Zero.{Numbered, Judged, Coded, only-numbered, walk-numbered}
+use Rattle.format.specs.laws.Zero.{Numbered, Judged, only-numbered}
 use Rattle.format.specs.Groups.{repeat, counted, first, Measure, thenOf, decidedOf, repeatOf, repeatTold, told}
 
 -- ---- the first numbers of a row
@@ -49,8 +48,8 @@ told-long long (suc n) f row = let rest = drop (long row) row in length-append (
 
 -- ---- items
 
--- A stretch of fields, none of them a count of bytes: how many numbers of a row it takes, and how many bits.
-pub record Item (item : Fmt → Fmt) (long wide : Measure) : Type 0 where
+-- A stretch of fields, none of them a count of bytes, and how many numbers of a row it takes.
+pub record Item (item : Fmt → Fmt) (long : Measure) : Type 0 where
   -- its judges refuse by numbers of the paper
   pub judged : (f : Fmt) → Judged f → Judged (item f)
   -- past its numbers stands what follows
@@ -59,46 +58,39 @@ pub record Item (item : Fmt → Fmt) (long wide : Measure) : Type 0 where
   pub filled : (us : List ℕ) (f : Fmt) → Filled (item f) us → (long us ≤ length us) × Filled f (drop (long us) us)
   -- how many they are is told by these alone, whatever follows
   pub again : (row vs : List ℕ) → long (first (long row) row ++ vs) ≡ long row
-  -- its bits, and those of what follows
-  pub extends : (f : Fmt) (at : ℕ) (vs : List ℕ) → extent (item f) at vs ≡ wide vs + extent f (at + wide vs) (drop (long vs) vs)
 
 -- nothing
-pub nothing : Item (λ f. f) (λ row. 0) (λ row. 0)
+pub nothing : Item (λ f. f) (λ row. 0)
 unfolding first
 nothing = record {
   judged = λ f j. j;
   past = λ row f. refl;
   filled = λ us f x. (omega arith, x);
   again = λ row vs. refl;
-  extends = λ f at vs. sym (zero-add (extent f (at + 0) vs) ∙ ap (λ k. extent f k vs) (add-zero at));
 }
 
 -- one field
-pub one : (w : ℕ) (j : Judge) (m : List ℕ → Bool) → Numbered j → Item (field w j m) (λ row. 1) (λ row. w)
+pub one : (w : ℕ) (j : Judge) (m : List ℕ → Bool) → Numbered j → Item (field w j m) (λ row. 1)
 unfolding first
 one w j m n = record {
   judged = λ f k. (n, k);
   past = λ row f. refl;
   filled = fills;
   again = λ row vs. refl;
-  extends = λ f at vs. refl;
 }
   where
     fills : (us : List ℕ) (f : Fmt) → Filled (field w j m f) us → (1 ≤ length us) × Filled f (drop 1 us)
     fills [] f x = absurd x
     fills (u ∷ us) f x = (omega arith, x)
 
--- a number, and several parts that are one
-pub a-number : (w : ℕ) (t : Test) → Item (num w t) (λ row. 1) (λ row. w)
+-- a number
+pub a-number : (w : ℕ) (t : Test) → Item (num w t) (λ row. 1)
 a-number w t = one w (only w 4 t) free (only-numbered w 3 t)
 
-pub a-group : (ps : List Part) → Coded ps → Item (group ps) (λ row. 1) (λ row. wide ps)
-a-group ps c = one (wide ps) (walk ps 0) free (walk-numbered ps 0 c)
-
 -- one behind the other
-module _ {a b : Fmt → Fmt} {la wa lb wb : Measure} (x : Item a la wa) (y : Item b lb wb) where
+module _ {a b : Fmt → Fmt} {la lb : Measure} (x : Item a la) (y : Item b lb) where
   abbrev both : Measure
-  both = thenOf la la lb
+  both = thenOf la lb
 
   both-again : (row vs : List ℕ) → both (first (both row) row ++ vs) ≡ both row
   both-again row vs =
@@ -110,7 +102,7 @@ module _ {a b : Fmt → Fmt} {la wa lb wb : Measure} (x : Item a la wa) (y : Ite
       ap both e
       ∙ ap₂ _+_ k (ap (λ k. lb (drop k (first n row ++ us))) k ∙ ap lb (drop-at (first n row) us n (first-long n row)) ∙ y .again (drop n row) vs)
 
-  pub next : Item (λ f. a (b f)) both (thenOf la wa wb)
+  pub next : Item (λ f. a (b f)) both
   next = record {
     judged = λ f j. x .judged (b f) (y .judged f j);
     past = λ row f. subst⁻¹ (λ l. Past (a (b f)) l f) (first-add (la row) (lb (drop (la row) row)) row) (past-then (a (b f)) (b f) f (first (la row) row) _ (x .past row (b f)) (y .past (drop (la row) row) f));
@@ -119,17 +111,12 @@ module _ {a b : Fmt → Fmt} {la wa lb wb : Measure} (x : Item a la wa) (y : Ite
         let (m, z) = y .filled (drop (la us) us) f z in
         (omega (arith, l, m, length-drop (la us) us), subst (Filled f) (drop-drop (lb (drop (la us) us)) (la us) us) z);
     again = both-again;
-    extends = λ f at vs.
-        let d = drop (la vs) vs in
-        let e : extent (b f) (at + wa vs) d ≡ wb d + extent f (at + wa vs + wb d) (drop (lb d) d) = y .extends f (at + wa vs) d in
-        x .extends (b f) at vs ∙ ap (wa vs +_) e ∙ sym (add-assoc (wa vs) (wb d) _)
-        ∙ ap₂ (λ k l. wa vs + wb d + extent f k l) (add-assoc at (wa vs) (wb d)) (drop-drop (lb d) (la vs) vs);
   }
 
 -- what a number decides
-module _ (w : ℕ) (j : Judge) (n : Numbered j) {a : ℕ → Fmt → Fmt} {la wa : ℕ → Measure} (x : (v : ℕ) → Item (a v) (la v) (wa v)) where
+module _ (w : ℕ) (j : Judge) (n : Numbered j) {a : ℕ → Fmt → Fmt} {la : ℕ → Measure} (x : (v : ℕ) → Item (a v) (la v)) where
   abbrev deep : Measure
-  deep = decidedOf 1 la
+  deep = decidedOf la
 
   decided-filled : (us : List ℕ) (f : Fmt) → Filled (choice w j λ v. a v f) us → (deep us ≤ length us) × Filled f (drop (deep us) us)
   decided-filled [] f z = absurd z
@@ -152,21 +139,16 @@ module _ (w : ℕ) (j : Judge) (n : Numbered j) {a : ℕ → Fmt → Fmt} {la wa
       let e : 1 + n ≡ suc n = omega arith in
       ap (λ k. deep (first k row ++ vs)) e ∙ ap (1 +_) (x (getD row 0 0) .again (drop 1 row) vs)
 
-  pub decided : Item (λ f. choice w j λ v. a v f) deep (decidedOf w wa)
+  pub decided : Item (λ f. choice w j λ v. a v f) deep
   decided = record {
     judged = λ f k. (n, λ v. x v .judged f k);
     past = decided-past;
     filled = decided-filled;
     again = decided-again;
-    extends = λ f at vs.
-        let v = getD vs 0 0 in
-        let d = drop 1 vs in
-        ap (w +_) (x v .extends f (at + w) d) ∙ sym (add-assoc w (wa v d) _)
-        ∙ ap₂ (λ k l. w + wa v d + extent f k l) (add-assoc at w (wa v d)) (drop-drop (la v d) 1 vs);
   }
 
 -- repeated
-pub repeated : {item : Fmt → Fmt} {long wide : Measure} → Item item long wide → (n : ℕ) → Item (repeat n item) (repeatOf long n long) (repeatOf long n wide)
+pub repeated : {item : Fmt → Fmt} {long : Measure} → Item item long → (n : ℕ) → Item (repeat n item) (repeatOf long n long)
 unfolding repeat repeatOf
 repeated x zero = nothing
 repeated x (suc n) = next x (repeated x n)
@@ -177,23 +159,19 @@ unfolding repeatOf
 even l a zero row = omega arith
 even l a (suc n) row = omega (arith, even l a n (drop l row))
 
-pub evenly : {item : Fmt → Fmt} {l w : ℕ} → Item item (λ r. l) (λ r. w) → (n : ℕ) → Item (repeat n item) (λ r. n * l) (λ r. n * w)
-evenly {item} {l} {w} x n = subst (λ (m : Measure × Measure). Item (repeat n item) (m .0) (m .1)) (λ i. ((λ row. even l l n row i), (λ row. even l w n row i))) (repeated x n)
+pub evenly : {item : Fmt → Fmt} {l : ℕ} → Item item (λ r. l) → (n : ℕ) → Item (repeat n item) (λ r. n * l)
+evenly {item} {l} x n = subst (Item (repeat n item)) (λ i row. even l l n row i) (repeated x n)
 
 -- counted
-pub counted-item : {item : Fmt → Fmt} {long wide : Measure} (w : ℕ) (t : Test) → Item item long wide
-    → Item (counted w t item) (decidedOf 1 (λ n. repeatOf long n long)) (decidedOf w (λ n. repeatOf long n wide))
-counted-item w t x = decided w (only w 4 t) (only-numbered w 3 t) (λ n. repeated x n)
-
-pub counted-evenly : {item : Fmt → Fmt} {l b : ℕ} (w : ℕ) (t : Test) → Item item (λ r. l) (λ r. b) → Item (counted w t item) (decidedOf 1 (λ n r. n * l)) (decidedOf w (λ n r. n * b))
+pub counted-evenly : {item : Fmt → Fmt} {l : ℕ} (w : ℕ) (t : Test) → Item item (λ r. l) → Item (counted w t item) (decidedOf (λ n r. n * l))
 counted-evenly w t x = decided w (only w 4 t) (only-numbered w 3 t) (λ n. evenly x n)
 
-pub a-decider : (w : ℕ) (t : Test) {a : ℕ → Fmt → Fmt} {la wa : ℕ → Measure} → ((v : ℕ) → Item (a v) (la v) (wa v)) → Item (λ f. deciding w t λ v. a v f) (decidedOf 1 la) (decidedOf w wa)
+pub a-decider : (w : ℕ) (t : Test) {a : ℕ → Fmt → Fmt} {la : ℕ → Measure} → ((v : ℕ) → Item (a v) (la v)) → Item (λ f. deciding w t λ v. a v f) (decidedOf la)
 a-decider w t x = decided w (only w 4 t) (only-numbered w 3 t) x
 
 -- ---- a row of an item's numbers
 
-module _ {item : Fmt → Fmt} {long wide : Measure} (x : Item item long wide) where
+module _ {item : Fmt → Fmt} {long : Measure} (x : Item item long) where
   pub told-again : (row vs : List ℕ) → told long (told long row ++ vs) ≡ told long row
   told-again row vs =
       let n = long row in

@@ -10,9 +10,9 @@ use Rattle.format.specs.Groups.{repeat}
 use Rattle.format.specs.Words.{wide}
 use Rattle.walk.specs.Rows.{Put, evenPutStep}
 use Rattle.walk.specs.laws.RowsPut.{Puts, puts-one, puts-next, puts-decided, puts-as, puts-evenly, puts-counted, puts-repeated, puts-near, even-put-turn}
-use Rattle.notice_fields.specs.Areas.{Kind, sea, circle, several, kindOf, point, inside, area, areas}
+use Rattle.notice_fields.specs.Areas.{Kind, sea, circle, several, kindOf, point, inside, areas}
 use Rattle.notice_fields.specs.Parts.{latitudeBits, longitudeBits, pointBits}
-use Rattle.notice_fields.specs.Row.{insideLong, areaLong, longMost, areasLong}
+use Rattle.notice_fields.specs.Row.{insideLong, longMost, areasLong}
 use Rattle.notice_fields.specs.Standing.{areaMost}
 use Rattle.notice_fields.specs.Making.{pointPut, pointsPut, insidePut, areaPut, areasPut}
 

@@ -1,6 +1,6 @@
 -- An area's shape says where the next begins and how many numbers it has: by its kind; and of n areas, one more at the end. Assumes nothing.
-use Prim.Native.Nat.{ℕ, zero, suc, _+_, _*_, _≤_, _<_}
-use mathlib.Core.Path.{_≡_, refl, sym, ap, ap₂, _∙_}
+use Prim.Native.Nat.{ℕ, suc, _+_, _*_, _≤_, _<_}
+use mathlib.Core.Path.{_≡_, refl, sym, _∙_}
 use mathlib.Core.List.{List, [], _∷_}
 use native.Mathlib.Omega.{arith}
 use lib.ListN.{length, length-append}
@@ -11,7 +11,7 @@ use Rattle.notice_fields.specs.Row.{longMost}
 use Rattle.notice_fields.specs.Standing.{pointAt, pointsAt, insideAt, areaAt, areaWide, areaMost, areasAt, areasEnd}
 use Rattle.walk.specs.laws.Stored.{end-more, sum-long, even-long}
 use Rattle.notice_fields.specs.Parts.{pointBits}
-use Rattle.notice_fields.specs.Shapes.{shapeAs, shapeAt, numbersIn, pointsIn}
+use Rattle.notice_fields.specs.Shapes.{shapeAs, shapeAt, numbersIn}
 
 pub points-long : (s : List ℕ) (n at : ℕ) → length (pointsAt s n at) ≡ n * 2
 points-long s n at = even-long 2 pointBits n (pointAt s) at (λ at. refl)

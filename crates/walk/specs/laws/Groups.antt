@@ -106,12 +106,8 @@ pub counts-evenly : (s : List ℕ) (w most : ℕ) (some : 0 < w) (narrow : w ≤
     → Stretch s (counted w (lo ‥ hi) item) (decidedAt s w (λ n. repeatAt n values (λ at. b))) (decidedWide s w (λ n at. n * b)) (w + most * b) (countedWalked s w lo hi step)
 counts-evenly s w most some narrow lo hi e {b = b} x = decides s w some narrow lo hi (most * b) (λ v l. at-most (most * b) (mul-le-mul-right b (omega (arith, e))) (evenly x v))
 
--- ---- turns of a loop
+-- ---- a turn of a loop
 
 pub walk-turn : (step : Step) (next : Walk → Walk) (n : ℕ) {m : ℕ} (r : Walk) → m ≡ suc n → repeatWalked m step next r ≡ step (repeatWalked n step next) r
 unfolding repeatWalked
 walk-turn step next n r e = ap (λ m. repeatWalked m step next r) e
-
-pub walk-end : (step : Step) (next : Walk → Walk) {m : ℕ} (r : Walk) → m ≡ 0 → repeatWalked m step next r ≡ next r
-unfolding repeatWalked
-walk-end step next r e = ap (λ m. repeatWalked m step next r) e

@@ -61,6 +61,3 @@ puts-stay = record { on = λ x. x }
 module _ {g g′ : Fmt → Fmt} {at : ℕ} {us t : List ℕ} {at′ : ℕ} {t′ : List ℕ} where
   pub puts-then : {g″ : Fmt → Fmt} {ws : List ℕ} {at″ : ℕ} {t″ : List ℕ} → PutsAlong g g′ at us t at′ t′ → PutsAlong g′ g″ at′ ws t′ at″ t″ → PutsAlong g g″ at (us ++ ws) t at″ t″
   puts-then {ws = ws} a c = record { on = λ {s} {b} {f} {vs} x. c .on (a .on (subst (λ l. Putting s b (g f) at l t) (append-assoc us ws vs) x)) }
-
-  pub puts-under : (k : Fmt → Fmt) → PutsAlong g g′ at us t at′ t′ → PutsAlong (λ f. g (k f)) (λ f. g′ (k f)) at us t at′ t′
-  puts-under k a = record { on = λ x. a .on x }

@@ -1,31 +1,12 @@
 -- The numbers of a row from number k on: those of one stretch, and of the stretch behind it. Assumes nothing.
-use Prim.Native.Nat.{ℕ, zero, suc, _+_, _*_, _%_, _≤_, _<_, _^_}
-use mathlib.Core.Path.{_≡_, refl, sym, ap, ap₂, _∙_, subst, subst⁻¹}
-use mathlib.Core.Bool.{Bool, true, false, cond}
-use mathlib.Core.List.{List, [], _∷_, _++_, append-assoc}
-use native.Mathlib.Omega.{arith}
-use native.Mathlib.Nat.{add-zero, add-assoc, mul-le-mul-right, mod-eq-of-lt}
-use lib.Dec.{eqb}
+use Prim.Native.Nat.{ℕ, _+_}
+use mathlib.Core.Path.{_≡_, sym, ap, ap₂, _∙_}
+use mathlib.Core.List.{List, _∷_, _++_}
+use native.Mathlib.Nat.{add-zero, add-assoc}
 use lib.ListN.{drop, getD}
 use lib.Seq.{drop-drop, getD-drop}
-use borrow.Author.Tests.{eqb-true, eqb-false}
-use Rattle.format.specs.Correcting.{putIn}
-use Rattle.format.specs.Fmt.{Judge, Fmt, field, choice, write}
-use Rattle.format.specs.Groups.{repeat, counted, first, Measure, thenOf, decidedOf, repeatOf, told}
-use Rattle.format.specs.Words.{Test, _‥_, num, deciding}
-use Rattle.format.specs.laws.Extent.{opens-field, opens-choice}
-use Rattle.format.specs.laws.Groups.{first-add, even}
-use Rattle.format.specs.laws.Putting.{Putting, put-number}
-use Rattle.format.specs.laws.Round.{written}
-use Rattle.walk.specs.Judging.{valued}
-use Rattle.walk.specs.Rows.{JudgeStep, oneJudged, thenJudged, decidedJudged, evenJudged, evenStep, countedJudged, repeatJudged, PutStep, onePut, thenPut, decidedPut, evenPut, evenPutStep, countedPut, repeatPut}
-use Rattle.walk.specs.Walk.{onward}
-use Rattle.walk.specs.laws.Judging.{judge-num, judge-deciding, judge-refused, valued-between}
-use Rattle.walk.specs.laws.Loops.{Going, JudgesAlong, going, judges-stay, judges-refused, judges-then, judges-under, step-near, PutsAlong, puts-stay, puts-then, puts-under}
-use Rattle.walk.specs.laws.Step.{clean}
-use Rattle.walk.specs.declared.making.Laid.{Laid}
-use Rattle.walk.specs.declared.making.Stepped.{Stepped}
-use Rattle.walk.specs.declared.walk.Walk.{Walk}
+use Rattle.format.specs.Groups.{first, Measure, thenOf, decidedOf, told}
+use Rattle.format.specs.laws.Groups.{first-add}
 
 -- ---- the row from number k on
 
@@ -37,21 +18,21 @@ module _ (row : List ℕ) (k : ℕ) where
   behind = drop-drop 1 k row
 
   -- two stretches of numbers
-  pub fronts : (la lb : Measure) → let n = la (drop k row) in told la (drop k row) ++ told lb (drop (k + n) row) ≡ told (thenOf la la lb) (drop k row)
+  pub fronts : (la lb : Measure) → let n = la (drop k row) in told la (drop k row) ++ told lb (drop (k + n) row) ≡ told (thenOf la lb) (drop k row)
   fronts la lb =
       let d = drop k row in
       let n = la d in
       ap (λ l. first n d ++ told lb l) (sym (drop-drop n k row)) ∙ sym (first-add n (lb (drop n d)) d)
 
   -- one number, and a stretch that it decides
-  pub after-one : (la : ℕ → Measure) → getD row k 0 ∷ told (la (getD row k 0)) (drop (k + 1) row) ≡ told (decidedOf 1 la) (drop k row)
+  pub after-one : (la : ℕ → Measure) → getD row k 0 ∷ told (la (getD row k 0)) (drop (k + 1) row) ≡ told (decidedOf la) (drop k row)
   unfolding first
   after-one la =
       ap₂ (λ v l. v ∷ told (la v) l) (sym here) (sym behind) ∙ sym (first-add 1 (la (getD (drop k row) 0 0) (drop 1 (drop k row))) (drop k row))
 
   -- and so how many they are
-  pub long-then : (la lb : Measure) → let n = la (drop k row) in k + n + lb (drop (k + n) row) ≡ k + thenOf la la lb (drop k row)
+  pub long-then : (la lb : Measure) → let n = la (drop k row) in k + n + lb (drop (k + n) row) ≡ k + thenOf la lb (drop k row)
   long-then la lb = let n = la (drop k row) in add-assoc k n (lb (drop (k + n) row)) ∙ ap (λ l. k + (n + lb l)) (sym (drop-drop n k row))
 
-  pub long-one : (la : ℕ → Measure) → k + 1 + la (getD row k 0) (drop (k + 1) row) ≡ k + decidedOf 1 la (drop k row)
+  pub long-one : (la : ℕ → Measure) → k + 1 + la (getD row k 0) (drop (k + 1) row) ≡ k + decidedOf la (drop k row)
   long-one la = add-assoc k 1 _ ∙ ap₂ (λ v l. k + (1 + la v l)) (sym here) (sym behind)

@@ -1,29 +1,22 @@
 -- Judging what a row of numbers tells is a stretch of judging, once for every layout: one field, one behind another, what a number decides, counted and repeated. Assumes nothing.
-use Prim.Native.Nat.{ℕ, zero, suc, _+_, _*_, _%_, _≤_, _<_, _^_}
-use mathlib.Core.Path.{_≡_, refl, sym, ap, ap₂, _∙_, subst, subst⁻¹}
+use Prim.Native.Nat.{ℕ, zero, suc, _+_, _*_, _≤_, _<_, _^_}
+use mathlib.Core.Path.{_≡_, refl, sym, ap, ap₂, _∙_, subst}
 use mathlib.Core.Bool.{Bool, true, false, cond}
-use mathlib.Core.List.{List, [], _∷_, _++_, append-assoc}
+use mathlib.Core.List.{List, [], _∷_, _++_}
 use native.Mathlib.Omega.{arith}
-use native.Mathlib.Nat.{add-zero, add-assoc, mul-le-mul-right, mod-eq-of-lt}
+use native.Mathlib.Nat.{add-zero, mul-le-mul-right}
 use lib.Dec.{eqb}
 use lib.ListN.{drop, getD}
-use lib.Seq.{drop-drop, getD-drop}
 use borrow.Author.Tests.{eqb-true, eqb-false}
-use Rattle.format.specs.Correcting.{putIn}
-use Rattle.format.specs.Fmt.{Judge, Fmt, field, choice, write}
+use Rattle.format.specs.Fmt.{Fmt}
 use Rattle.format.specs.Groups.{repeat, counted, first, Measure, thenOf, decidedOf, repeatOf, told}
-use Rattle.format.specs.Words.{Test, _‥_, num, deciding}
-use Rattle.format.specs.laws.Extent.{opens-field, opens-choice}
-use Rattle.format.specs.laws.Groups.{first-add, even}
-use Rattle.format.specs.laws.Putting.{Putting, put-number}
-use Rattle.format.specs.laws.Round.{written}
+use Rattle.format.specs.Words.{_‥_, num, deciding}
 use Rattle.walk.specs.Judging.{valued}
-use Rattle.walk.specs.Rows.{JudgeStep, oneJudged, thenJudged, decidedJudged, evenJudged, evenStep, countedJudged, repeatJudged, PutStep, onePut, thenPut, decidedPut, evenPut, evenPutStep, countedPut, repeatPut}
+use Rattle.walk.specs.Rows.{JudgeStep, oneJudged, thenJudged, decidedJudged, evenJudged, evenStep, countedJudged, repeatJudged}
 use Rattle.walk.specs.Walk.{onward}
 use Rattle.walk.specs.laws.Judging.{judge-num, judge-deciding, judge-refused, valued-between}
-use Rattle.walk.specs.laws.Loops.{Going, JudgesAlong, going, judges-stay, judges-refused, judges-then, judges-under, step-near, PutsAlong, puts-stay, puts-then, puts-under}
+use Rattle.walk.specs.laws.Loops.{JudgesAlong, going, judges-stay, judges-refused, judges-then, judges-under, step-near}
 use Rattle.walk.specs.laws.Step.{clean}
-use Rattle.walk.specs.declared.making.Laid.{Laid}
 use Rattle.walk.specs.declared.making.Stepped.{Stepped}
 use Rattle.walk.specs.declared.walk.Walk.{Walk}
 use Rattle.walk.specs.laws.Rows.{here, fronts, after-one, long-then, long-one}
@@ -64,7 +57,7 @@ judges-number row w lo hi fits = judges-one w (λ v. valued w v lo hi) (λ v r r
 
 -- one behind the other
 pub judges-next : {row : List ℕ} {a b : Fmt → Fmt} {la lb : Measure} {na nb : ℕ} {sa sb : JudgeStep} → Judges row a la na sa → Judges row b lb nb sb
-    → Judges row (λ f. a (b f)) (thenOf la la lb) (na + nb) (thenJudged sa sb)
+    → Judges row (λ f. a (b f)) (thenOf la lb) (na + nb) (thenJudged sa sb)
 judges-next {row} {a} {b} {la} {lb} {na} {nb} {sa} {sb} x y = record {
   along = λ k r reach.
       let p = sa k r in
@@ -126,7 +119,7 @@ module _ (row : List ℕ) (w lo hi : ℕ) (fits : hi < 2 ^ w) where
 
   -- and what it decides, whatever it is
   pub judges-decided : {a : ℕ → Fmt → Fmt} {la : ℕ → Measure} {sa : ℕ → JudgeStep} (most : ℕ) → ((v : ℕ) → Judges row (a v) (la v) most (sa v))
-      → Judges row (λ f. deciding w (lo ‥ hi) λ v. a v f) (decidedOf 1 la) (w + most) (decidedJudged row w lo hi sa)
+      → Judges row (λ f. deciding w (lo ‥ hi) λ v. a v f) (decidedOf la) (w + most) (decidedJudged row w lo hi sa)
   judges-decided {a} {la} {sa} most x = record {
     along = λ k r reach.
         let v = getD row k 0 in
@@ -147,7 +140,7 @@ module _ (row : List ℕ) (w lo hi : ℕ) (fits : hi < 2 ^ w) where
     small : (k : ℕ) (r : Walk) → decider k r .code ≡ 0 → getD row k 0 * b ≤ hi * b
     small k r z = mul-le-mul-right b (few k r z)
 
-    pub judges-counted : Judges row (counted w (lo ‥ hi) item) (decidedOf 1 (λ n r. n * l)) (w + hi * b) (countedJudged row w lo hi l q)
+    pub judges-counted : Judges row (counted w (lo ‥ hi) item) (decidedOf (λ n r. n * l)) (w + hi * b) (countedJudged row w lo hi l q)
     judges-counted = record {
       along = λ k r reach. told-as (after-one row k (λ n r. n * l)) (judges-then (judges-decide r (omega arith) (getD row k 0) (λ n. repeat n item)) (along k r reach (eqb (decider k r .code) 0) refl));
       near = λ k r. near k r (eqb (decider k r .code) 0) refl;
@@ -168,7 +161,7 @@ module _ (row : List ℕ) (w lo hi : ℕ) (fits : hi < 2 ^ w) where
         good k r true e z = decider-good k r (eqb-true _ 0 e)
         good k r false e z = absurd (eqb-false _ 0 e z)
 
-        next : (k : ℕ) (r : Walk) (t : Bool) (e : eqb (decider k r .code) 0 ≡ t) → ends k r t .walk .code ≡ 0 → ends k r t .next ≡ k + decidedOf 1 (λ n r. n * l) (drop k row)
+        next : (k : ℕ) (r : Walk) (t : Bool) (e : eqb (decider k r .code) 0 ≡ t) → ends k r t .walk .code ≡ 0 → ends k r t .next ≡ k + decidedOf (λ n r. n * l) (drop k row)
         next k r true e z = long-one row k (λ n r. n * l)
         next k r false e z = absurd (eqb-false _ 0 e z)
 
@@ -188,10 +181,10 @@ judges-repeated {row} {item} {long} {most} {step} x (suc n) = let y = judges-nex
     ends k r t = let a = step k r in cond t (repeatJudged n step (a .next) (a .walk)) a
 
     Both : Type 0
-    Both = Judges row (λ f. item (repeat n item f)) (thenOf long long (repeatOf long n long)) (most + n * most) (thenJudged step (repeatJudged n step))
+    Both = Judges row (λ f. item (repeat n item f)) (thenOf long (repeatOf long n long)) (most + n * most) (thenJudged step (repeatJudged n step))
 
     along : Both → (k : ℕ) (r : Walk) → r .at + suc n * most < 2 ^ 64 → (t : Bool) → eqb (step k r .walk .code) 0 ≡ t
-        → JudgesAlong (λ f. item (repeat n item f)) (λ f. f) r (told (thenOf long long (repeatOf long n long)) (drop k row)) (ends k r t .walk)
+        → JudgesAlong (λ f. item (repeat n item f)) (λ f. f) r (told (thenOf long (repeatOf long n long)) (drop k row)) (ends k r t .walk)
     along y k r reach true e = y .along k r (omega arith)
     along y k r reach false e =
         told-as (fronts row k long (repeatOf long n long)) (judges-then (judges-under (repeat n item) (x .along k r (omega arith))) (judges-refused (eqb-false _ 0 e)))
@@ -204,7 +197,7 @@ judges-repeated {row} {item} {long} {most} {step} x (suc n) = let y = judges-nex
     good y k r true e z = y .good k r z
     good y k r false e z = absurd (eqb-false _ 0 e z)
 
-    next : Both → (k : ℕ) (r : Walk) (t : Bool) → eqb (step k r .walk .code) 0 ≡ t → ends k r t .walk .code ≡ 0 → ends k r t .next ≡ k + thenOf long long (repeatOf long n long) (drop k row)
+    next : Both → (k : ℕ) (r : Walk) (t : Bool) → eqb (step k r .walk .code) 0 ≡ t → ends k r t .walk .code ≡ 0 → ends k r t .next ≡ k + thenOf long (repeatOf long n long) (drop k row)
     next y k r true e z = y .next k r z
     next y k r false e z = absurd (eqb-false _ 0 e z)
 

@@ -1,31 +1,21 @@
 -- Putting what a row of numbers tells is a stretch of putting, once for every layout: one field, one behind another, what a number decides, counted and repeated. Assumes nothing.
 use Prim.Native.Nat.{ℕ, zero, suc, _+_, _*_, _%_, _≤_, _<_, _^_}
-use mathlib.Core.Path.{_≡_, refl, sym, ap, ap₂, _∙_, subst, subst⁻¹}
-use mathlib.Core.Bool.{Bool, true, false, cond}
+use mathlib.Core.Path.{_≡_, refl, sym, ap, _∙_, subst, subst⁻¹}
+use mathlib.Core.Bool.{Bool}
 use mathlib.Core.List.{List, [], _∷_, _++_, append-assoc}
 use native.Mathlib.Omega.{arith}
-use native.Mathlib.Nat.{add-zero, add-assoc, mul-le-mul-right, mod-eq-of-lt}
-use lib.Dec.{eqb}
+use native.Mathlib.Nat.{add-zero, mod-eq-of-lt}
 use lib.ListN.{drop, getD}
-use lib.Seq.{drop-drop, getD-drop}
-use borrow.Author.Tests.{eqb-true, eqb-false}
 use Rattle.format.specs.Correcting.{putIn}
 use Rattle.format.specs.Fmt.{Judge, Fmt, field, choice, write}
 use Rattle.format.specs.Groups.{repeat, counted, first, Measure, thenOf, decidedOf, repeatOf, told}
-use Rattle.format.specs.Words.{Test, _‥_, num, deciding}
+use Rattle.format.specs.Words.{Test, deciding}
 use Rattle.format.specs.laws.Extent.{opens-field, opens-choice}
-use Rattle.format.specs.laws.Groups.{first-add, even}
 use Rattle.format.specs.laws.Putting.{Putting, put-number}
 use Rattle.format.specs.laws.Round.{written}
-use Rattle.walk.specs.Judging.{valued}
-use Rattle.walk.specs.Rows.{JudgeStep, oneJudged, thenJudged, decidedJudged, evenJudged, evenStep, countedJudged, repeatJudged, Put, PutStep, onePut, thenPut, decidedPut, evenPut, evenPutStep, countedPut, repeatPut}
-use Rattle.walk.specs.Walk.{onward}
-use Rattle.walk.specs.laws.Judging.{judge-num, judge-deciding, judge-refused, valued-between}
-use Rattle.walk.specs.laws.Loops.{Going, JudgesAlong, going, judges-stay, judges-refused, judges-then, judges-under, step-near, PutsAlong, puts-stay, puts-then, puts-under}
-use Rattle.walk.specs.laws.Step.{clean}
+use Rattle.walk.specs.Rows.{Put, PutStep, onePut, thenPut, decidedPut, evenPut, evenPutStep, countedPut, repeatPut}
+use Rattle.walk.specs.laws.Loops.{PutsAlong, puts-stay, puts-then}
 use Rattle.walk.specs.declared.making.Laid.{Laid}
-use Rattle.walk.specs.declared.making.Stepped.{Stepped}
-use Rattle.walk.specs.declared.walk.Walk.{Walk}
 use Rattle.walk.specs.laws.Rows.{here, fronts, after-one, long-then, long-one}
 
 put-as : {g g′ : Fmt → Fmt} {at : ℕ} {us vs t u : List ℕ} {a b : ℕ} → us ≡ vs → a ≡ b → PutsAlong g g′ at us t a u → PutsAlong g g′ at vs t b u
@@ -47,7 +37,7 @@ unfolding first
 puts-one {row} w j m small = record { along = λ k at t. put-as (ap (_∷ []) (sym (here row k))) refl (record { on = λ x. put-number w small opens-field x refl }); next = λ k at t f vs x. refl }
 
 -- one behind the other
-pub puts-next : {row : List ℕ} {a b : Fmt → Fmt} {la lb : Measure} {sa sb : PutStep} → Puts row a la sa → Puts row b lb sb → Puts row (λ f. a (b f)) (thenOf la la lb) (thenPut sa sb)
+pub puts-next : {row : List ℕ} {a b : Fmt → Fmt} {la lb : Measure} {sa sb : PutStep} → Puts row a la sa → Puts row b lb sb → Puts row (λ f. a (b f)) (thenOf la lb) (thenPut sa sb)
 puts-next {row} {a} {b} {la} {lb} {sa} {sb} x y = record {
   along = λ k at t. record { on = λ {s} {b = z} {f} {vs} p. let (e, q) = one k at t f vs p in y .along (sa k at t .0 .next) (sa k at t .0 .at) (sa k at t .1) .on q };
   next = λ k at t f vs p.
@@ -56,7 +46,7 @@ puts-next {row} {a} {b} {la} {lb} {sa} {sb} x y = record {
       y .next (o .0 .next) (o .0 .at) (o .1) f vs q ∙ ap (λ j. j + lb (drop j row)) e ∙ long-then row k la lb;
 }
   where
-    one : (k at : ℕ) (t : List ℕ) (f : Fmt) (vs : List ℕ) {s : List ℕ} {z : List Bool} → Putting s z (a (b f)) at (told (thenOf la la lb) (drop k row) ++ vs) t
+    one : (k at : ℕ) (t : List ℕ) (f : Fmt) (vs : List ℕ) {s : List ℕ} {z : List Bool} → Putting s z (a (b f)) at (told (thenOf la lb) (drop k row) ++ vs) t
         → let o = sa k at t in (o .0 .next ≡ k + la (drop k row)) × Putting s z (b f) (o .0 .at) (told lb (drop (o .0 .next) row) ++ vs) (o .1)
     one k at t f vs {s} {z} p =
         let o = sa k at t in
@@ -70,7 +60,7 @@ puts-decide : (w : ℕ) → w ≤ 32 → (test : Test) (v at : ℕ) (t : List �
 puts-decide w small test v at t a = record { on = λ x. put-number w small opens-choice x refl }
 
 module _ (row : List ℕ) (w : ℕ) (small : w ≤ 32) (test : Test) where
-  pub puts-decided : {a : ℕ → Fmt → Fmt} {la : ℕ → Measure} {sa : ℕ → PutStep} → ((v : ℕ) → Puts row (a v) (la v) (sa v)) → Puts row (λ f. deciding w test λ v. a v f) (decidedOf 1 la) (decidedPut row w sa)
+  pub puts-decided : {a : ℕ → Fmt → Fmt} {la : ℕ → Measure} {sa : ℕ → PutStep} → ((v : ℕ) → Puts row (a v) (la v) (sa v)) → Puts row (λ f. deciding w test λ v. a v f) (decidedOf la) (decidedPut row w sa)
   puts-decided {a} {la} {sa} x = record {
     along = λ k at t. let v = getD row k 0 in put-as (after-one row k la) refl (puts-then (puts-decide w small test v at t a) (x v .along (k + 1) (at + w) (putIn t at w v)));
     next = λ k at t f vs {s} {b} p.
@@ -99,19 +89,19 @@ puts-evenly {row} {item} {l} b x (suc n) =
 
 -- as many as the number before them says
 pub puts-counted : (row : List ℕ) (w : ℕ) → w ≤ 32 → (test : Test) {item : Fmt → Fmt} {l : ℕ} (b : ℕ) {q : (k at : ℕ) → List ℕ → List ℕ} → Puts row item (λ r. l) (λ k at t. (record { at = at + b; next = k + l }, q k at t))
-    → Puts row (counted w test item) (decidedOf 1 (λ n r. n * l)) (countedPut row w l b q)
+    → Puts row (counted w test item) (decidedOf (λ n r. n * l)) (countedPut row w l b q)
 puts-counted row w small test {item} {l} b {q} x = record {
   along = λ k at t. record { on = λ {s} {b = z} {f} {vs} p. subst⁻¹ (λ n. let e = ends k at t n in Putting s z f (e .0 .at) vs (e .1)) (few k at t f vs p) (all .along k at t .on p) };
   next = λ k at t f vs p. ap (λ n. k + 1 + n * l) (few k at t f vs p) ∙ long-one row k (λ n r. n * l);
 }
   where
-    all : Puts row (counted w test item) (decidedOf 1 (λ n r. n * l)) (decidedPut row w (λ n. evenPutStep l b n q))
+    all : Puts row (counted w test item) (decidedOf (λ n r. n * l)) (decidedPut row w (λ n. evenPutStep l b n q))
     all = puts-decided row w small test (λ n. puts-evenly b x n)
 
     ends : (k at : ℕ) (t : List ℕ) (n : ℕ) → Laid × List ℕ
     ends k at t n = evenPutStep l b n q (k + 1) (at + w) (putIn t at w (getD row k 0))
 
-    few : (k at : ℕ) (t : List ℕ) (f : Fmt) (vs : List ℕ) {s : List ℕ} {z : List Bool} → Putting s z (counted w test item f) at (told (decidedOf 1 (λ n r. n * l)) (drop k row) ++ vs) t → getD row k 0 % 2 ^ w ≡ getD row k 0
+    few : (k at : ℕ) (t : List ℕ) (f : Fmt) (vs : List ℕ) {s : List ℕ} {z : List Bool} → Putting s z (counted w test item f) at (told (decidedOf (λ n r. n * l)) (drop k row) ++ vs) t → getD row k 0 % 2 ^ w ≡ getD row k 0
     few k at t f vs {s} {z} p = mod-eq-of-lt (narrow w (subst (λ us. Putting s z (counted w test item f) at (us ++ vs) t) (sym (after-one row k (λ n r. n * l))) p))
 
 -- repeated

@@ -9,8 +9,7 @@ use borrow.Author.Tests.{eq-eqb, ne-eqb}
 use Rattle.walk.specs.declared.walk.Walk.{Walk}
 use Rattle.notice_fields.specs.Areas.{kindOf}
 use Rattle.walk.specs.Groups.{repeatWalked}
-use Rattle.walk.specs.laws.Groups.{walk-turn, walk-end}
-use Rattle.notice_fields.specs.Steps.{openedAs, closedAs, pointStep, insideStep, areaStep, areasWalked}
+use Rattle.notice_fields.specs.Steps.{closedAs, pointStep, areasWalked}
 use Rattle.notice_fields.specs.laws.Walking.{point-turn, area-turn}
 use Rattle.notice_fields.proofs.areas.walk.Statement.{statement}
 use Rattle.notice_fields.proofs.areas.walk.Tie as tie

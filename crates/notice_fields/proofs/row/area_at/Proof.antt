@@ -1,5 +1,5 @@
 -- `area_at` meets its contract: by the number of the kind, as `kindOf` goes.
-use Prim.Native.Nat.{suc, _+_, _-_, _*_}
+use Prim.Native.Nat.{_+_, _-_, _*_}
 use mathlib.Core.Path.{_≡_, sym, ap, _∙_}
 use native.Mathlib.Omega.{arith}
 use borrow.Author.Needs.{needs}
