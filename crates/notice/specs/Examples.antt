@@ -9,7 +9,7 @@ use Rattle.format.specs.Fmt.{accepted, refused, readField, read, writeField, si
 use Rattle.format.specs.Message.{readMessage, writeMessage, correctMessage}
 use Rattle.format.specs.Promises.{readRecord}
 use Rattle.format.specs.Words.{walk, wide, orZero}
-use Rattle.format.specs.Groups.{repeat, first, repeatOf}
+use Rattle.format.specs.Groups.{repeat, repeatOf, repeatTold}
 use Rattle.notice_fields.specs.Parts.{subtypes, subtype}
 use Rattle.text.specs.Text.{english, inLanguage}
 use Rattle.notice.specs.Notice.{notice, notices}
@@ -67,7 +67,7 @@ unfolding readMessage notices notice read readField walk wide orZero subtypes su
 all-read = refl
 
 all-written : writeMessage (notices true) (valuesOf warned) ≡ accepted message
-unfolding writeMessage notices notice write writeField sized walk wide orZero subtypes subtype repeat first repeatOf inLanguage english valuesOf valueOf bit digits bitsOf bytesOf
+unfolding writeMessage notices notice write writeField sized walk wide orZero subtypes subtype repeat repeatOf repeatTold inLanguage english valuesOf valueOf bit digits bitsOf bytesOf
 all-written = refl
 
 -- the sea area's code, field 9, is corrected to 74

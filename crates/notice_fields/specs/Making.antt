@@ -21,12 +21,12 @@ pointsJudged row n = evenJudged 2 n (pointJudged row)
 
 -- what a kind holds; behind a refused count of points these are not walked
 abbrev pub insideJudged : List ℕ → Kind → JudgeStep
-insideJudged row sea = oneJudged row (λ v. valued 8 v 0 255)
-insideJudged row circle = thenJudged (evenStep 2 1 (pointJudged row)) (thenJudged (oneJudged row (λ v. valued 10 v 0 1_023)) (oneJudged row (λ v. valued 2 v 0 3)))
-insideJudged row (several least) = countedJudged row 4 least 15 2 (pointJudged row)
+insideJudged row sea = oneJudged row 0 (λ v. valued 8 v 0 255)
+insideJudged row circle = thenJudged (evenStep 2 1 (pointJudged row)) (thenJudged (oneJudged row 0 (λ v. valued 10 v 0 1_023)) (oneJudged row 0 (λ v. valued 2 v 0 3)))
+insideJudged row (several least) = countedJudged row 0 4 least 15 2 (pointJudged row)
 
 abbrev pub areaJudged : List ℕ → JudgeStep
-areaJudged row = decidedJudged row 3 0 4 (λ k. insideJudged row (kindOf k))
+areaJudged row = decidedJudged row 0 3 0 4 (λ k. insideJudged row (kindOf k))
 
 -- n areas; the first refused one ends it
 abbrev pub areasJudged : List ℕ → ℕ → JudgeStep
@@ -43,12 +43,12 @@ pointsPut row n = evenPut 2 pointBits n (pointPut row)
 
 -- what a kind holds; of a count of points no more than its four bits is put
 abbrev pub insidePut : List ℕ → Kind → PutStep
-insidePut row sea = onePut row 8
-insidePut row circle = thenPut (evenPutStep 2 pointBits 1 (pointPut row)) (thenPut (onePut row 10) (onePut row 2))
-insidePut row (several least) = countedPut row 4 2 pointBits (pointPut row)
+insidePut row sea = onePut row 0 8
+insidePut row circle = thenPut (evenPutStep 2 pointBits 1 (pointPut row)) (thenPut (onePut row 0 10) (onePut row 0 2))
+insidePut row (several least) = countedPut row 0 4 2 pointBits (pointPut row)
 
 abbrev pub areaPut : List ℕ → PutStep
-areaPut row = decidedPut row 3 (λ k. insidePut row (kindOf k))
+areaPut row = decidedPut row 0 3 (λ k. insidePut row (kindOf k))
 
 abbrev pub areasPut : List ℕ → ℕ → PutStep
 areasPut row n = repeatPut n (areaPut row)

@@ -46,19 +46,19 @@ fn judge_area(from: Walk, row: &[u32], k: usize) -> Stepped
     requires { ⌜ k ≤ 255 * longMost ⌝ }
     ensures { λ r. ⌜ r ≡ areaJudged (now (row .entry)) k from ⌝ }
 {
-    let kind = entry(row, k);
+    let kind = entry(row, k, 0);
     let w = from.value(3, kind, 0, 4);
     if kind == SEA {
-        let walk = w.value(8, entry(row, k + 1), 0, 255);
+        let walk = w.value(8, entry(row, k + 1, 0), 0, 255);
         return Stepped { walk, next: k + 2 };
     }
     if kind == CIRCLE {
         let p = judge_points(w, row, k + 1, 1);
-        let q = p.value(10, entry(row, k + 3), 0, 1_023);
-        let walk = q.value(2, entry(row, k + 4), 0, 3);
+        let q = p.value(10, entry(row, k + 3, 0), 0, 1_023);
+        let walk = q.value(2, entry(row, k + 4, 0), 0, 3);
         return Stepped { walk, next: k + 5 };
     }
-    let n = entry(row, k + 1);
+    let n = entry(row, k + 1, 0);
     let c = w.value(4, n, crate::areas::least(kind), 15);
     let points = k + 2;
     if c.code != 0 {
@@ -82,8 +82,8 @@ fn judge_points(from: Walk, row: &[u32], k: usize, n: usize) -> Walk
     let mut w = from;
     let mut j: usize = 0;
     while j < n {
-        let latitude = crate::parts::judged_latitude(w, entry(row, k + j * 2));
-        w = crate::parts::judged_longitude(latitude, entry(row, k + j * 2 + 1));
+        let latitude = crate::parts::judged_latitude(w, entry(row, k + j * 2, 0));
+        w = crate::parts::judged_longitude(latitude, entry(row, k + j * 2 + 1, 0));
         j += 1;
     }
     w
@@ -114,10 +114,10 @@ fn put_area(buf: &mut [u8], at: usize, row: &[u32], k: usize) -> Laid
     requires { ⌜ (k ≤ 255 * longMost) × (at ≤ front + 255 * areaMost) ⌝ }
     ensures { λ r. ⌜ (r, now (buf .exit)) ≡ areaPut (now (row .entry)) k at (now (buf .entry)) ⌝ }
 {
-    let kind = entry(row, k);
+    let kind = entry(row, k, 0);
     bits::put(buf, at, 3, kind);
     if kind == SEA {
-        bits::put(buf, at + 3, 8, entry(row, k + 1));
+        bits::put(buf, at + 3, 8, entry(row, k + 1, 0));
         return Laid {
             at: at + 11,
             next: k + 2,
@@ -125,14 +125,14 @@ fn put_area(buf: &mut [u8], at: usize, row: &[u32], k: usize) -> Laid
     }
     if kind == CIRCLE {
         put_points(buf, at + 3, row, k + 1, 1);
-        bits::put(buf, at + 3 + POINT, 10, entry(row, k + 3));
-        bits::put(buf, at + 3 + POINT + 10, 2, entry(row, k + 4));
+        bits::put(buf, at + 3 + POINT, 10, entry(row, k + 3, 0));
+        bits::put(buf, at + 3 + POINT + 10, 2, entry(row, k + 4, 0));
         return Laid {
             at: at + 3 + POINT + 12,
             next: k + 5,
         };
     }
-    let counted = entry(row, k + 1);
+    let counted = entry(row, k + 1, 0);
     bits::put(buf, at + 3, 4, counted);
     let n = (counted % COUNTS) as usize;
     let points = k + 2;
@@ -150,12 +150,12 @@ fn put_points(buf: &mut [u8], at: usize, row: &[u32], k: usize, n: usize)
 {
     let mut j: usize = 0;
     while j < n {
-        bits::put(buf, at + j * POINT, LATITUDE, entry(row, k + j * 2));
+        bits::put(buf, at + j * POINT, LATITUDE, entry(row, k + j * 2, 0));
         bits::put(
             buf,
             at + j * POINT + LATITUDE,
             LONGITUDE,
-            entry(row, k + j * 2 + 1),
+            entry(row, k + j * 2 + 1, 0),
         );
         j += 1;
     }

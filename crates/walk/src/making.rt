@@ -15,9 +15,13 @@ pub struct Laid {
     pub next: usize,
 }
 
-// A number of the row, 0 past its end.
-pub fn entry(row: &[u32], k: usize) -> u64
-    ensures { λ r. ⌜ r ≡ getD (now (row .entry)) k 0 ⌝ }
+// A number of the row; past its end `missing` counts for it.
+pub fn entry(row: &[u32], k: usize, missing: u64) -> u64
+    ensures { λ r. ⌜ r ≡ getD (now (row .entry)) k missing ⌝ }
 {
-    if k < row.len() { row[k] as u64 } else { 0 }
+    if k < row.len() {
+        row[k] as u64
+    } else {
+        missing
+    }
 }

@@ -13,7 +13,7 @@ use Rattle.format.specs.Fmt.{end, Spot, none, found, spot}
 use Rattle.format.specs.laws.Correct.{none-clash}
 use Rattle.format.specs.laws.Past.{Past, past-filled, past-found, filled-set}
 use Rattle.format.specs.laws.Spots.{spotsAlong, spot-along, eachAt, set-each, each-past, each-from, kept-entry, Unnamed, unnamed}
-use Rattle.format.specs.laws.Groups.{first-take, told-exact, exact-told}
+use Rattle.format.specs.laws.Groups.{told-exact, exact-told}
 use Rattle.notice_fields.specs.laws.Instances.{some-areas}
 use Rattle.notice_fields.specs.Row.{areasLong, areasTold}
 use Rattle.notice_fields.specs.Spots.{areaSpots}
@@ -78,7 +78,7 @@ opening : (n : ℕ) (row us : List ℕ) → areasLong n (row ++ us) ≡ length r
 opening n row us e =
     let all = row ++ us in
     let a = areasLong n all in
-    let is : areasTold n all ≡ row = first-take a all (omega (arith, e, length-append row us)) ∙ take-at row us a (sym e) in
+    let is : areasTold n all ≡ row = some-areas n .fits all (omega (arith, e, length-append row us)) ∙ take-at row us a (sym e) in
     subst (λ l. areasLong n l ≡ length l) is (exact-told (some-areas n) all)
 
 module _ (english : Bool) (n : ℕ) (h row t : List ℕ) (j v : ℕ) {p w : ℕ} (exact : areasLong n row ≡ length row) (there : spot (rest english n) h (row ++ texted t) j ≡ found p w) where

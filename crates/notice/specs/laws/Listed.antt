@@ -12,7 +12,7 @@ use Rattle.format.specs.laws.Extent.{extent-lay}
 use Rattle.format.specs.laws.Legal.{Legal}
 use Rattle.format.specs.laws.Past.{Filled, past-legal, past-counted, legal-filled}
 use Rattle.format.specs.laws.Zero.{Counted}
-use Rattle.format.specs.laws.Groups.{first-take, exact-told}
+use Rattle.format.specs.laws.Groups.{exact-told}
 use Rattle.notice_fields.specs.laws.Instances.{some-areas}
 use Rattle.notice_fields.specs.Areas.{areas}
 use Rattle.notice_fields.specs.Row.{areasLong, areasTold}
@@ -75,7 +75,7 @@ listed english vs h =
     let (enough, y) = some-areas n .filled us (text english end) (legal-filled (rest english n) _ us g) in
     let (size, number, last) = two english (drop (areasLong n us) us) y in
     let row = areasTold n us in
-    let whole : us ≡ row ++ (size ∷ number ∷ []) = sym (take-append-drop (areasLong n us) us) ∙ (λ i. sym (first-take (areasLong n us) us enough) i ++ last i) in
+    let whole : us ≡ row ++ (size ∷ number ∷ []) = sym (take-append-drop (areasLong n us) us) ∙ (λ i. sym (some-areas n .fits us enough) i ++ last i) in
     let (h′, t) = past-legal (rest english n) (text english end) _ row (size ∷ number ∷ []) (some-areas n .past us (text english end)) (subst (Legal (rest english n) _) whole g) in
     record { row = row; size = size; number = number; is = head ∙ ap (headed r) whole; exact = exact-told (some-areas n) us; narrow = t .0; spoken = faultless (inLanguage english (bytesOf size (digits (size * 8) number))) (t .1) }
   where

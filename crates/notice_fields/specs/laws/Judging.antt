@@ -7,7 +7,7 @@ use native.Mathlib.Omega.{arith}
 use lib.Dec.{eqb, lit<, lit≤}
 use lib.ListN.{getD}
 use borrow.Author.Tests.{eqb-true}
-use Rattle.format.specs.Groups.{repeat}
+use Rattle.format.specs.Groups.{repeat, repeatTold}
 use Rattle.walk.specs.Judging.{valued}
 use Rattle.walk.specs.Pieces.{pieced}
 use Rattle.walk.specs.Rows.{evenStep}
@@ -19,29 +19,29 @@ use Rattle.walk.specs.declared.walk.Walk.{Walk}
 use Rattle.notice_fields.specs.Areas.{Kind, sea, circle, several, kindOf, point, inside, area, areas}
 use Rattle.notice_fields.specs.Parts.{latitude, longitude, latitudeBits, longitudeBits, pointBits}
 use Rattle.notice_fields.specs.PartsSteps.{latitudeJudged, longitudeJudged}
-use Rattle.notice_fields.specs.Row.{insideLong, areaLong, longMost, areasLong}
+use Rattle.notice_fields.specs.Row.{insideLong, areaLong, longMost, areasLong, pointTold, insideTold, areaTold, areasTold}
 use Rattle.notice_fields.specs.Standing.{insideMost, areaMost}
 use Rattle.notice_fields.specs.Making.{pointJudged, pointsJudged, insideJudged, areaJudged, areasJudged}
 use Rattle.notice_fields.specs.laws.PartsWalking.{latitude-judged, longitude-judged}
 
 module _ (row : List ℕ) where
-  pub a-point-judged : Judges row point (λ r. 2) pointBits (λ k r. record { walk = pointJudged row k r; next = k + 2 })
+  pub a-point-judged : Judges row point pointTold (λ r. 2) pointBits (λ k r. record { walk = pointJudged row k r; next = k + 2 })
   unfolding pieced
   a-point-judged = judges-as (λ k r. let two : k + 1 + 1 ≡ k + 2 = omega arith in ap (λ n. record { walk = pointJudged row k r; next = n }) two)
       (judges-next
-      (judges-one {item = latitude} latitudeBits latitudeJudged (λ v r reach. record { on = λ x. going (latitude-judged reach (x .is) refl) }) (λ v r. (step-near r latitudeBits true v _ _ refl, step-good r latitudeBits true v _ _ refl)))
-      (judges-one {item = longitude} longitudeBits longitudeJudged (λ v r reach. record { on = λ x. going (longitude-judged reach (x .is) refl) }) (λ v r. (step-near r longitudeBits true v _ _ refl, step-good r longitudeBits true v _ _ refl))))
+      (judges-one {item = latitude} 0 latitudeBits latitudeJudged (λ v r reach. record { on = λ x. going (latitude-judged reach (x .is) refl) }) (λ v r. (step-near r latitudeBits true v _ _ refl, step-good r latitudeBits true v _ _ refl)))
+      (judges-one {item = longitude} 0 longitudeBits longitudeJudged (λ v r reach. record { on = λ x. going (longitude-judged reach (x .is) refl) }) (λ v r. (step-near r longitudeBits true v _ _ refl, step-good r longitudeBits true v _ _ refl))))
 
-  an-inside-judged : (j : Kind) → Judges row (inside j) (insideLong j) insideMost (insideJudged row j)
-  unfolding repeat
-  an-inside-judged sea = judges-most insideMost (lit≤ tt) (judges-number row 8 0 255 (lit< tt))
-  an-inside-judged circle = judges-most insideMost (lit≤ tt) (judges-next (judges-evenly a-point-judged 1) (judges-next (judges-number row 10 0 1_023 (lit< tt)) (judges-number row 2 0 3 (lit< tt))))
-  an-inside-judged (several least) = judges-counted row 4 least 15 (lit< tt) a-point-judged
+  an-inside-judged : (j : Kind) → Judges row (inside j) (insideTold j) (insideLong j) insideMost (insideJudged row j)
+  unfolding repeat repeatTold
+  an-inside-judged sea = judges-most insideMost (lit≤ tt) (judges-number row 0 8 0 255 (lit< tt))
+  an-inside-judged circle = judges-most insideMost (lit≤ tt) (judges-next (judges-evenly a-point-judged 1) (judges-next (judges-number row 0 10 0 1_023 (lit< tt)) (judges-number row 0 2 0 3 (lit< tt))))
+  an-inside-judged (several least) = judges-counted row 0 4 least 15 (lit< tt) a-point-judged
 
-  an-area-judged : Judges row area areaLong areaMost (areaJudged row)
-  an-area-judged = judges-decided row 3 0 4 (lit< tt) insideMost (λ k. an-inside-judged (kindOf k))
+  an-area-judged : Judges row area areaTold areaLong areaMost (areaJudged row)
+  an-area-judged = judges-decided row 0 3 0 4 (lit< tt) insideMost (λ k. an-inside-judged (kindOf k))
 
-  pub areas-judged : (n : ℕ) → Judges row (areas n) (areasLong n) (n * areaMost) (areasJudged row n)
+  pub areas-judged : (n : ℕ) → Judges row (areas n) (areasTold n) (areasLong n) (n * areaMost) (areasJudged row n)
   areas-judged n = judges-repeated an-area-judged n
 
 -- ---- turns of the loops

@@ -10,28 +10,26 @@ use lib.Seq.{getD-drop}
 use Rattle.format.specs.Fmt.{Fmt, Spot, none, found}
 use Rattle.format.specs.Words.{wide}
 use Rattle.format.specs.laws.Spots.{spotsAlong}
-use Rattle.format.specs.Groups.{repeat, first, repeatOf}
-use Rattle.format.specs.laws.Groups.{told-next}
+use Rattle.format.specs.Groups.{repeat, repeatTold}
 use Rattle.notice_fields.specs.Areas.{sea, circle, several, leastOf, kindOf, point, inside, areas}
-use Rattle.notice_fields.specs.Row.{insideLong, areaLong, areasTold}
+use Rattle.notice_fields.specs.Row.{insideLong, areaLong, pointTold, insideTold, areaTold, areasTold}
 use Rattle.notice_fields.specs.Spots.{pointSpots, areaSpots}
 
 -- n points, and what follows them
 points-spots : (n : ℕ) (row : List ℕ) (f : Fmt) (h vs : List ℕ) (at : ℕ) (zs : List Spot) → ((h : List ℕ) → spotsAlong f h vs (at + n * 43) ≡ zs)
-    → spotsAlong (repeat n point f) h (first (n * 2) row ++ vs) at ≡ pointSpots n at ++ zs
-unfolding repeat first pointSpots spotsAlong wide
+    → spotsAlong (repeat n point f) h (repeatTold (λ row. 2) n pointTold row ++ vs) at ≡ pointSpots n at ++ zs
+unfolding repeat repeatTold pointSpots spotsAlong wide
 points-spots zero row f h vs at zs rest = let e : at ≡ at + 0 * 43 = omega arith in ap (spotsAlong f h vs) e ∙ rest h
 points-spots (suc n) row f h vs at zs rest =
-    let two : suc n * 2 ≡ suc (suc (n * 2)) = omega arith in
     let here : at + 0 ≡ at = omega arith in
     let beside : at + 21 + 0 ≡ at + 21 = omega arith in
     let next : at + 21 + 22 ≡ at + 43 = omega arith in
     let behind : at + 43 + n * 43 ≡ at + suc n * 43 = omega arith in
-    let more = drop 1 (drop 1 row) in
+    let more = drop 2 row in
     let h′ = getD (drop 1 row) 0 0 ∷ getD row 0 0 ∷ h in
-    let on : spotsAlong (repeat n point f) h′ (first (n * 2) more ++ vs) (at + 21 + 22) ≡ pointSpots n (at + 43) ++ zs =
-    ap (spotsAlong (repeat n point f) h′ (first (n * 2) more ++ vs)) next ∙ points-spots n more f h′ vs (at + 43) zs (λ h. ap (spotsAlong f h vs) behind ∙ rest h) in
-    ap (λ k. spotsAlong (repeat (suc n) point f) h (first k row ++ vs) at) two ∙ (λ i. found (here i) 21 ∷ found (beside i) 22 ∷ on i)
+    let on : spotsAlong (repeat n point f) h′ (repeatTold (λ row. 2) n pointTold more ++ vs) (at + 21 + 22) ≡ pointSpots n (at + 43) ++ zs =
+    ap (spotsAlong (repeat n point f) h′ (repeatTold (λ row. 2) n pointTold more ++ vs)) next ∙ points-spots n more f h′ vs (at + 43) zs (λ h. ap (spotsAlong f h vs) behind ∙ rest h) in
+    λ i. found (here i) 21 ∷ found (beside i) 22 ∷ on i
 
 -- what an area of n + 1 holds behind its kind, by whether that is 0 and whether it is 3, and what follows it
 module _ (n : ℕ) (row : List ℕ) (f : Fmt) (vs : List ℕ) (zs : List Spot) (rest : (m : ℕ) (h : List ℕ) (at : ℕ) → spotsAlong (areas n f) h (areasTold n (drop m row) ++ vs) at ≡ areaSpots n (drop m row) at ++ zs) where
@@ -47,8 +45,8 @@ module _ (n : ℕ) (row : List ℕ) (f : Fmt) (vs : List ℕ) (zs : List Spot) (
   behind m h {a} {b} e = ap (spotsAlong (areas n f) h (areasTold n (drop m row) ++ vs)) e ∙ rest m h b
 
   inside-spots : (x y : Bool) (l : ℕ) (h : List ℕ) (at : ℕ) → let is = cond x sea (cond y circle (several l)) in let m = insideLong is (drop 1 row) in
-      spotsAlong (inside is (areas n f)) h (first m (drop 1 row) ++ (areasTold n (drop (suc m) row) ++ vs)) (at + 3) ≡ held x y at ++ zs
-  unfolding first spotsAlong wide
+      spotsAlong (inside is (areas n f)) h (insideTold is (drop 1 row) ++ (areasTold n (drop (suc m) row) ++ vs)) (at + 3) ≡ held x y at ++ zs
+  unfolding spotsAlong wide
   inside-spots true y l h at =
       let code : at + 3 + 0 ≡ at + 3 = omega arith in
       let next : at + 3 + 8 ≡ at + 11 = omega arith in
@@ -60,32 +58,31 @@ module _ (n : ℕ) (row : List ℕ) (f : Fmt) (vs : List ℕ) (zs : List Spot) (
       let radius : at + 3 + 21 + 22 + 0 ≡ at + 46 = omega arith in
       let unit : at + 3 + 21 + 22 + 10 + 0 ≡ at + 56 = omega arith in
       let next : at + 3 + 21 + 22 + 10 + 2 ≡ at + 58 = omega arith in
-      let us = first 4 (drop 1 row) in
+      let us = insideTold circle (drop 1 row) in
       let on = behind 5 (getD us 3 0 ∷ getD us 2 0 ∷ getD us 1 0 ∷ getD us 0 0 ∷ h) next in
       λ i. found (latitude i) 21 ∷ found (longitude i) 22 ∷ found (radius i) 10 ∷ found (unit i) 2 ∷ on i
   inside-spots false false l h at =
       let c = getD row 1 0 in
       let c′ = getD (drop 1 row) 0 0 in
       let same : c′ ≡ c = getD-drop 1 row 0 0 in
-      let behind-count : 1 + c′ * 2 ≡ suc (c′ * 2) = omega arith in
-      let two : suc (suc (c′ * 2)) ≡ 2 + c * 2 = omega (arith, same) in
+      let two : suc (1 + c′ * 2) ≡ 2 + c * 2 = omega (arith, same) in
       let first-point : at + 3 + 4 ≡ at + 7 = omega arith in
       let next = at + 7 + c * 43 in
       let more = areasTold n (drop (2 + c * 2) row) ++ vs in
       let on = areaSpots n (drop (2 + c * 2) row) next in
-      ap (λ k. spotsAlong (inside (several l) (areas n f)) h (first k (drop 1 row) ++ (areasTold n (drop (suc k) row) ++ vs)) (at + 3)) behind-count
-      ∙ ap (none ∷_)
-      ((λ i. spotsAlong (repeat (same i) point (areas n f)) (c′ ∷ h) (first (same i * 2) (drop 1 (drop 1 row)) ++ (areasTold n (drop (two i) row) ++ vs)) (first-point i))
+      ap (none ∷_)
+      ((λ i. spotsAlong (repeat (same i) point (areas n f)) (c′ ∷ h) (repeatTold (λ row. 2) (same i) pointTold (drop 1 (drop 1 row)) ++ (areasTold n (drop (two i) row) ++ vs)) (first-point i))
       ∙ points-spots c (drop 1 (drop 1 row)) (areas n f) (c′ ∷ h) more (at + 7) (on ++ zs) (λ h. rest (2 + c * 2) h next)
       ∙ sym (append-assoc (pointSpots c (at + 7)) on zs))
 
 -- all of them, in front of what has its spots wherever it stands
 pub areas-spots : (n : ℕ) (row : List ℕ) (f : Fmt) (h vs : List ℕ) (at : ℕ) (zs : List Spot) → ((h : List ℕ) (at : ℕ) → spotsAlong f h vs at ≡ zs)
     → spotsAlong (areas n f) h (areasTold n row ++ vs) at ≡ areaSpots n row at ++ zs
-unfolding repeat repeatOf first areaSpots spotsAlong
+unfolding repeat repeatTold areaSpots spotsAlong
 areas-spots zero row f h vs at zs rest = rest h at
 areas-spots (suc n) row f h vs at zs rest =
     let k = getD row 0 0 in
     let long : areaLong row ≡ suc (insideLong (kindOf k) (drop 1 row)) = omega arith in
-    ap (λ l. spotsAlong (areas (suc n) f) h l at) (told-next areaLong n row vs) ∙ ap (λ m. spotsAlong (areas (suc n) f) h (first m row ++ (areasTold n (drop m row) ++ vs)) at) long
+    ap (λ l. spotsAlong (areas (suc n) f) h l at) (append-assoc (areaTold row) (areasTold n (drop (areaLong row) row)) vs)
+    ∙ ap (λ m. spotsAlong (areas (suc n) f) h (areaTold row ++ (areasTold n (drop m row) ++ vs)) at) long
     ∙ ap (none ∷_) (inside-spots n row f vs zs (λ m h at. areas-spots n (drop m row) f h vs at zs rest) (eqb k 0) (eqb k 3) (leastOf k) (k ∷ h) at)

@@ -18,7 +18,7 @@ use Rattle.gljc.specs.Gljc.{gljc, gljcs}
 use Rattle.distress.specs.Report.{report, reports, reportOf, valuesOf as reportValues}
 use Rattle.distress.specs.Changed.{changed}
 use Rattle.notice_fields.specs.Parts.{subtypes, subtype}
-use Rattle.format.specs.Groups.{repeat, first, repeatOf, repeatTold}
+use Rattle.format.specs.Groups.{repeat, repeatOf, repeatTold}
 use Rattle.notice.specs.Notice.{notice, notices}
 use Rattle.notice.specs.Record.{headOf, textOf, recordOf as noticeOf, valuesOf as noticeValues}
 use Rattle.packet.specs.Packet.{packet, packets, recordOf as packetOf, valuesOf as packetValues}
@@ -36,7 +36,7 @@ unfolding tally oneMore rank
 all-letters = refl
 
 pub all-stand : standing table ≡ true
-unfolding standing signs replies alike readMessage writeMessage correctMessage read readField write writeField sized spot walk wide orZero valueOf bit digits bitsOf bytesOf fieldAt putAt xorOf intOf spellOf inLanguage english chinese leads txsq txsqs txsqOf gljc gljcs report reports reportOf reportValues changed subtypes subtype repeat first repeatOf notice notices headOf textOf noticeOf noticeValues packet packets packetOf packetValues everyBelow firstFrom goodPlace allApart goodPlaces openAt freeAt firstTests joins received accepting missingBelow answers asking run log firstOf slotsIn slotsFor repeatTold
+unfolding standing signs replies alike readMessage writeMessage correctMessage read readField write writeField sized spot walk wide orZero valueOf bit digits bitsOf bytesOf fieldAt putAt xorOf intOf spellOf inLanguage english chinese leads txsq txsqs txsqOf gljc gljcs report reports reportOf reportValues changed subtypes subtype repeat repeatOf repeatTold notice notices headOf textOf noticeOf noticeValues packet packets packetOf packetValues everyBelow firstFrom goodPlace allApart goodPlaces openAt freeAt firstTests joins received accepting missingBelow answers asking run log firstOf slotsIn slotsFor
 all-stand = refl
 
 -- row i of a table
