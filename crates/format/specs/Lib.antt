@@ -3,6 +3,7 @@ pub mod Fmt
 pub mod Words
 pub mod Groups
 pub mod Message
+pub mod Codes
 pub mod Promises
 pub mod Sealing
 pub mod Settled

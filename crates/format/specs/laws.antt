@@ -9,6 +9,7 @@ pub mod Past
 pub mod Groups
 pub mod Extent
 pub mod First
+pub mod Codes
 pub mod Offsets
 pub mod Spots
 pub mod Lead
