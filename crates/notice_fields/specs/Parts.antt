@@ -23,6 +23,10 @@ moment = part 1 4 (0 ‥ 1) ∷ part 4 4 (1 ‥ 12) ∷ part 5 4 (1 ‥ 31) ∷ 
 abbrev pub expiry : Fmt → Fmt
 expiry = field 21 (orZero 21 (walk moment 0)) free
 
+-- the same parts where all zeros are no time: month 0 is refused
+abbrev pub time : Fmt → Fmt
+time = group moment
+
 -- the bits of a latitude, of a longitude, and of a point: one behind the other
 abbrev pub latitudeBits : ℕ
 latitudeBits = 21

@@ -1,4 +1,4 @@
--- What the code answers: a subtype's limits, and its steps over an expiry and over an angle, read and judged. Assumes nothing.
+-- What the code answers: a subtype's limits, and its steps over an expiry, a time and an angle, read and judged. Assumes nothing.
 use Prim.Native.Nat.{ℕ}
 use mathlib.Core.Bool.{false, _||_, cond}
 use mathlib.Core.List.{List}
@@ -17,10 +17,16 @@ mostSubtype t = cond (eqb t 1) 10 (cond (eqb t 4 || eqb t 6) 13 (cond (eqb t 5) 
 unfoldable pub leastSubtype : ℕ → ℕ
 leastSubtype t = cond (eqb (mostSubtype t) 0) 0 1
 
--- ---- the expiry
+-- ---- the expiry, and a time that is known
+
+abbrev pub momentPieced : ℕ → Pieces
+momentPieced v = pieced 6 0 59 (pieced 5 0 23 (pieced 5 1 31 (pieced 4 1 12 (pieced 1 0 1 (unpieced 21 v)))))
+
+abbrev pub timeJudged : ℕ → Walk → Walk
+timeJudged v r = judgedAs (momentPieced v) r
 
 abbrev pub expiryPieced : ℕ → Pieces
-expiryPieced v = unlessZero (pieced 6 0 59 (pieced 5 0 23 (pieced 5 1 31 (pieced 4 1 12 (pieced 1 0 1 (unpieced 21 v))))))
+expiryPieced v = unlessZero (momentPieced v)
 
 abbrev pub expiryJudged : ℕ → Walk → Walk
 expiryJudged v r = judgedAs (expiryPieced v) r
@@ -31,6 +37,9 @@ momentRead s r = parted s 6 0 59 (parted s 5 0 23 (parted s 5 1 31 (parted s 4 1
 -- by its number where it is there; one that is cut has no 21 zero bits, and its parts are judged
 abbrev pub expiryRead : List ℕ → Walk → Walk
 expiryRead s r = partwise s 21 (expiryPieced (got s (r .at) 21)) (momentRead s r) r
+
+abbrev pub timeRead : List ℕ → Walk → Walk
+timeRead s r = partwise s 21 (momentPieced (got s (r .at) 21)) (momentRead s r) r
 
 -- ---- an angle of n bits, with degrees of d bits
 

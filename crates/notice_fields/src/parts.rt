@@ -2,7 +2,7 @@
 ghost use mathlib.Core.Path.{_≡_};
 ghost use Prim.Native.Nat.{_^_, _<_};
 ghost use Rattle.notice_fields.specs.Parts.{latitudeBits, longitudeBits};
-ghost use Rattle.notice_fields.specs.PartsSteps.{leastSubtype, mostSubtype, momentRead, expiryRead, bare, angleParted, latitudeRead, longitudeRead, expiryJudged, angleJudged, latitudeJudged, longitudeJudged};
+ghost use Rattle.notice_fields.specs.PartsSteps.{leastSubtype, mostSubtype, momentPieced, momentRead, expiryRead, timeRead, bare, angleParted, latitudeRead, longitudeRead, expiryJudged, timeJudged, angleJudged, latitudeJudged, longitudeJudged};
 use walk::pieces::Pieces;
 use walk::walk::Walk;
 
@@ -55,6 +55,18 @@ pub fn expiry(s: &[u8], w: Walk) -> Walk
     let at = w.at;
     if bits::holds(s.len(), at, EXPIRY) {
         return judged_expiry(w, bits::get(s, at, EXPIRY));
+    }
+    let parts = moment(s, w);
+    w.group(s, EXPIRY, parts)
+}
+
+// A time that is known: the expiry's parts, and never all zeros.
+pub fn time(s: &[u8], w: Walk) -> Walk
+    ensures { λ r. ⌜ (r ≡ timeRead (now (s .entry)) w) × (r .v < 2 ^ 21) ⌝ }
+{
+    let at = w.at;
+    if bits::holds(s.len(), at, EXPIRY) {
+        return judged_time(w, bits::get(s, at, EXPIRY));
     }
     let parts = moment(s, w);
     w.group(s, EXPIRY, parts)
@@ -122,11 +134,24 @@ pub fn unsought(at: usize, code: u8, offset: usize) -> Walk
 pub fn judged_expiry(w: Walk, v: u64) -> Walk
     ensures { λ r. ⌜ r ≡ expiryJudged v w ⌝ }
 {
+    w.group_value(judged_moment(v).or_zero())
+}
+
+pub fn judged_time(w: Walk, v: u64) -> Walk
+    ensures { λ r. ⌜ r ≡ timeJudged v w ⌝ }
+{
+    w.group_value(judged_moment(v))
+}
+
+// Next-year bit, month, day, hour and minute of a number.
+fn judged_moment(v: u64) -> Pieces
+    ensures { λ r. ⌜ r ≡ momentPieced v ⌝ }
+{
     let day = Pieces::of(EXPIRY, v)
         .piece(1, 0, 1)
         .piece(4, 1, 12)
         .piece(5, 1, 31);
-    w.group_value(day.piece(5, 0, 23).piece(6, 0, 59).or_zero())
+    day.piece(5, 0, 23).piece(6, 0, 59)
 }
 
 pub fn judged_latitude(w: Walk, v: u64) -> Walk

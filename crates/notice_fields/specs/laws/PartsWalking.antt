@@ -1,4 +1,4 @@
--- An expiry and an angle, read and judged: where the code stands behind it, its value and its offset. Latitude and longitude are one law over the degrees. Assumes nothing.
+-- An expiry, a time and an angle, read and judged: where the code stands behind it, its value and its offset. Latitude and longitude are one law over the degrees. Assumes nothing.
 use mathlib.Core.Path.{_≡_, refl, sym, ap, _∙_}
 use mathlib.Core.Bool.{Bool, true, false}
 use mathlib.Core.List.{List, [], _∷_}
@@ -20,20 +20,23 @@ use Rattle.walk.specs.laws.Pieces.{Pieced, piece-start, piece-step, piece-end, 
 use Rattle.walk.specs.laws.Reading.{got-lt}
 use Rattle.walk.specs.laws.Step.{Reading}
 use Rattle.walk.specs.declared.walk.Walk.{Walk}
-use Rattle.notice_fields.specs.Parts.{moment, expiry, angle, latitude, longitude, latitudeBits, longitudeBits}
-use Rattle.notice_fields.specs.PartsSteps.{expiryPieced, expiryJudged, momentRead, expiryRead, anglePieced, angleJudged, angleParted, bare, angleRead, latitudeRead, longitudeRead, latitudeJudged, longitudeJudged}
+use Rattle.notice_fields.specs.Parts.{moment, expiry, time, angle, latitude, longitude, latitudeBits, longitudeBits}
+use Rattle.notice_fields.specs.PartsSteps.{momentPieced, expiryPieced, expiryJudged, timeJudged, momentRead, expiryRead, timeRead, anglePieced, angleJudged, angleParted, bare, angleRead, latitudeRead, longitudeRead, latitudeJudged, longitudeJudged}
 
 -- ---- the number's parts judged
 
-expiry-pieces : (h : List ℕ) (v : ℕ) → Pieced (orZero 21 (walk moment 0)) h 21 v (expiryPieced v)
+moment-pieces : (h : List ℕ) (v : ℕ) → Pieced (walk moment 0) h 21 v (momentPieced v)
 unfolding wide
-expiry-pieces h v =
+moment-pieces h v =
     let g0 = piece-start 21 v moment h refl refl in
     let g1 = piece-step 1 0 1 g0 refl in
     let g2 = piece-step 4 1 12 g1 refl in
     let g3 = piece-step 5 1 31 g2 refl in
     let g4 = piece-step 5 0 23 g3 refl in
-    piece-zero (piece-end (piece-step 6 0 59 g4 refl)) refl
+    piece-end (piece-step 6 0 59 g4 refl)
+
+expiry-pieces : (h : List ℕ) (v : ℕ) → Pieced (orZero 21 (walk moment 0)) h 21 v (expiryPieced v)
+expiry-pieces h v = piece-zero (moment-pieces h v) refl
 
 angle-pieces : (n d most : ℕ) (h : List ℕ) (v : ℕ) → wide (angle d most) ≡ n → Pieced (walk (angle d most) 0) h n v (anglePieced n d most v)
 angle-pieces n d most h v all =
@@ -46,6 +49,10 @@ angle-pieces n d most h v all =
 module _ {o : Out (List Bool)} {f : Fmt} {h : List ℕ} {at v : ℕ} {vs : List ℕ} {r p : Walk} where
   pub expiry-judged : at + 21 < 2 ^ 64 → Judging o (expiry f) h at (v ∷ vs) r → p ≡ expiryJudged v r → Judging o f (v ∷ h) (at + 21) vs p
   expiry-judged reach e d = judge-group reach (expiry-pieces h v) e d
+
+  pub time-judged : at + 21 < 2 ^ 64 → Judging o (time f) h at (v ∷ vs) r → p ≡ timeJudged v r → Judging o f (v ∷ h) (at + 21) vs p
+  unfolding wide
+  time-judged reach e d = judge-group reach (moment-pieces h v) e d
 
   angle-judged : (n d most : ℕ) → wide (angle d most) ≡ n → at + n < 2 ^ 64 → Judging o (field n (walk (angle d most) 0) free f) h at (v ∷ vs) r → p ≡ angleJudged n d most v r
       → Judging o f (v ∷ h) (at + n) vs p
@@ -86,6 +93,10 @@ module _ {o : Out (List ℕ)} {all : Fmt} {i : ℕ} {s : List ℕ} {h : List ℕ
       step-parts 21 moment (momentRead s r) refl (lit< tt) (lit≤ tt) reach (λ l. zero-cut 21 (walk moment 0) h (take 21 (drop at (bitsOf s))) l)
       (moment-passes s h at r reach (e .here)) (expiry-pieces h (got s (r .at) 21)) e d
 
+  pub time-read : at + 21 < 2 ^ 64 → Reading o all i s (time f) h at k r → q ≡ timeRead s r → Reading o all i s f (q .v ∷ h) (at + 21) (λ vs. k (q .v ∷ vs)) q
+  unfolding wide
+  time-read reach e d = step-parts 21 moment (momentRead s r) refl (lit< tt) (lit≤ tt) reach (λ _. refl) (moment-passes s h at r reach (e .here)) (moment-pieces h (got s (r .at) 21)) e d
+
   angle-read : (n d most : ℕ) → wide (angle d most) ≡ n → 14 + d ≡ n → 0 < d → n ≤ 32 → at + n < 2 ^ 64 → Reading o all i s (field n (walk (angle d most) 0) free f) h at k r
       → q ≡ angleRead s n d most r → Reading o all i s f (q .v ∷ h) (at + n) (λ vs. k (q .v ∷ vs)) q
   angle-read n d most parts long some small reach e x =
@@ -106,6 +117,14 @@ module _ (s : List ℕ) (r : Walk) {q : Walk} where
   pub expiry-v : q ≡ expiryRead s r → q .v ≡ got s (r .at) 21
   unfolding pieced
   expiry-v d = parts-v s 21 (expiryPieced (got s (r .at) 21)) (momentRead s r) r refl d
+
+  pub time-v : q ≡ timeRead s r → q .v ≡ got s (r .at) 21
+  unfolding pieced
+  time-v d = parts-v s 21 (momentPieced (got s (r .at) 21)) (momentRead s r) r refl d
+
+  pub time-at : q ≡ timeRead s r → q .at ≡ (r .at + 21) % 2 ^ 64
+  unfolding pieced
+  time-at d = parts-at s 21 (momentPieced (got s (r .at) 21)) (momentRead s r) r refl d
 
   pub angle-v : (n d most : ℕ) → q ≡ angleRead s n d most r → q .v ≡ got s (r .at) n
   unfolding pieced
@@ -144,8 +163,11 @@ module _ (s : List ℕ) (r : Walk) (n d most : ℕ) {there : Bool} {q : Walk} (i
 angle-numbered : (d most : ℕ) → Numbered (walk (angle d most) 0)
 angle-numbered d most = walk-numbered (angle d most) 0 ((λ z. omega arith), ((λ z. omega arith), ((λ z. omega arith), ((λ z. omega arith), tt))))
 
+pub time-numbered : Numbered (walk moment 0)
+time-numbered = walk-numbered moment 0 ((λ z. omega arith), ((λ z. omega arith), ((λ z. omega arith), ((λ z. omega arith), ((λ z. omega arith), tt)))))
+
 pub expiry-numbered : Numbered (orZero 21 (walk moment 0))
-expiry-numbered = zero-numbered 21 (walk moment 0) (walk-numbered moment 0 ((λ z. omega arith), ((λ z. omega arith), ((λ z. omega arith), ((λ z. omega arith), ((λ z. omega arith), tt))))))
+expiry-numbered = zero-numbered 21 (walk moment 0) time-numbered
 
 pub latitude-numbered : Numbered (walk (angle 7 90) 0)
 latitude-numbered = angle-numbered 7 90

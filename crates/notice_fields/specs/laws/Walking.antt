@@ -21,12 +21,12 @@ use Rattle.notice_fields.specs.Steps.{openedAs, closedAs, pointStep, ins
 use Rattle.notice_fields.specs.laws.PartsWalking.{latitude-read, longitude-read, latitude-v, latitude-at, longitude-v, longitude-at}
 
 module _ (s : List ℕ) where
-  latitude-field : Stretch s latitude (λ at. got s at latitudeBits ∷ []) (λ at. latitudeBits) latitudeBits (single (latitudeRead s))
+  pub latitude-field : Stretch s latitude (λ at. got s at latitudeBits ∷ []) (λ at. latitudeBits) latitudeBits (single (latitudeRead s))
   latitude-field = one-field latitudeBits (latitudeRead s) (λ r reach.
       let q = latitudeRead s r in
       (latitude-at s r refl ∙ mod-eq-of-lt reach, valued (ap (λ v. v ∷ []) (latitude-v s r refl)) (record { on = λ {o} {all} {i} {f} {us} x. go us (q .v) x (λ h y. latitude-read reach y refl) })))
 
-  longitude-field : Stretch s longitude (λ at. got s at longitudeBits ∷ []) (λ at. longitudeBits) longitudeBits (single (longitudeRead s))
+  pub longitude-field : Stretch s longitude (λ at. got s at longitudeBits ∷ []) (λ at. longitudeBits) longitudeBits (single (longitudeRead s))
   longitude-field = one-field longitudeBits (longitudeRead s) (λ r reach.
       let q = longitudeRead s r in
       (longitude-at s r refl ∙ mod-eq-of-lt reach, valued (ap (λ v. v ∷ []) (longitude-v s r refl)) (record { on = λ {o} {all} {i} {f} {us} x. go us (q .v) x (λ h y. longitude-read reach y refl) })))
