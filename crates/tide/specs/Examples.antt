@@ -1,0 +1,111 @@
+-- Tide telegrams, their bits laid down by hand from document 000, 5.4.2 and tables 6, 8 and B.1: read as the record and the numbers that the tables say, written back as the same bytes, their heights, corrections, and refusals that this telegram alone has.
+use Prim.Native.Nat.{ℕ, zero, suc, _+_, _*_}
+use mathlib.Core.Path.{_≡_, refl}
+use mathlib.Core.List.{List, [], _∷_, _++_}
+use lib.IntN.{ℤ, pos, negℤ}
+use lib.ListN.{set}
+use Rattle.bits.specs.Bits.{bit, valueOf, digits, bitsOf, bytesOf, fieldAt}
+use Rattle.format.specs.Codes.{codes, there, headed}
+use Rattle.format.specs.Fmt.{accepted, refused, readField, read, writeField, sized, write, spot}
+use Rattle.format.specs.Groups.{repeat, repeatOf, repeatTold}
+use Rattle.format.specs.Message.{readMessage, writeMessage, correctMessage}
+use Rattle.format.specs.Promises.{readRecord}
+use Rattle.format.specs.Words.{walk, wide}
+use Rattle.tide.specs.Heights.{heightsOf}
+use Rattle.tide.specs.Record.{Whole, valuesOf, recordOf}
+use Rattle.tide.specs.Tide.{placed, tides}
+
+-- table 6: next year or this, month, day, hour, minute
+abbrev at : (year month day hour minute : ℕ) → ℕ
+at year month day hour minute = (((year * 16 + month) * 32 + day) * 32 + hour) * 64 + minute
+
+-- table 8: degrees, minutes and hundredths, north or east
+abbrev angle : (degrees minutes hundredths : ℕ) → ℕ
+angle degrees minutes hundredths = (degrees * 64 + minutes) * 128 + hundredths
+
+-- n times the numbers l
+unfoldable times : ℕ → List ℕ → List ℕ
+times zero l = []
+times (suc n) l = l ++ times n l
+
+-- ---- one port, Shanghai (table B.1: 11), with one level observed: 187 cm on 16 November, 14:30
+
+abbrev observed : Whole
+observed = (record { count = 1 }, 0 ∷ 11 ∷ 0 ∷ 1 ∷ at 0 11 16 14 30 ∷ 1 ∷ 187 ∷ [])
+
+abbrev observedBytes : List ℕ
+observedBytes = 0xE4 ∷ 0x20 ∷ 0x08 ∷ 0xB0 ∷ 0x05 ∷ 0x70 ∷ 0x73 ∷ 0xD2 ∷ 0xEC ∷ []
+
+observed-read : readRecord tides recordOf observedBytes ≡ accepted observed
+unfolding readMessage tides headed codes there placed read readField walk wide repeat recordOf valueOf bit digits bitsOf bytesOf fieldAt
+observed-read = refl
+
+observed-written : writeMessage tides (valuesOf observed) ≡ accepted observedBytes
+unfolding writeMessage tides headed codes placed write writeField sized walk wide repeat repeatOf repeatTold valuesOf valueOf bit digits bitsOf bytesOf
+observed-written = refl
+
+-- ---- a point, N 31°14.50' E 121°29.25', with two levels forecast: 12 cm on 2 January of next year, 5:06, and −305 cm the same day, 11:45
+
+abbrev forecast : Whole
+forecast = (record { count = 1 }, 1 ∷ angle 31 14 50 ∷ angle 121 29 25 ∷ 1 ∷ 2 ∷ at 1 1 2 5 6 ∷ 1 ∷ 12 ∷ at 1 1 2 11 45 ∷ 0 ∷ 305 ∷ [])
+
+abbrev forecastBytes : List ℕ
+forecastBytes =
+    0xE4 ∷ 0x20 ∷ 0x0C ∷ 0x7C ∷ 0xE6 ∷ 0x47 ∷ 0x97 ∷ 0x4C ∷ 0xC0 ∷ 0x51 ∷ 0x11 ∷ 0x46 ∷ 0x81 ∷ 0x91 ∷ 0x12 ∷ 0xED ∷ 0x26 ∷ 0x20 ∷ []
+
+forecast-read : readRecord tides recordOf forecastBytes ≡ accepted forecast
+unfolding readMessage tides headed codes there placed read readField walk wide repeat recordOf valueOf bit digits bitsOf bytesOf fieldAt
+forecast-read = refl
+
+forecast-written : writeMessage tides (valuesOf forecast) ≡ accepted forecastBytes
+unfolding writeMessage tides headed codes placed write writeField sized walk wide repeat repeatOf repeatTold valuesOf valueOf bit digits bitsOf bytesOf
+forecast-written = refl
+
+forecast-heights : heightsOf 1 (forecast .1) ≡ pos 12 ∷ negℤ (pos 305) ∷ []
+unfolding repeatOf repeatTold
+forecast-heights = refl
+
+-- ---- the longest: the same point with fifty such levels, 1,675 bits and a fill of five, so 210 bytes
+
+abbrev longest : Whole
+longest = (record { count = 1 }, 1 ∷ angle 31 14 50 ∷ angle 121 29 25 ∷ 1 ∷ 50 ∷ times 50 (at 1 1 2 5 6 ∷ 1 ∷ 12 ∷ []))
+
+abbrev longestBytes : List ℕ
+longestBytes =
+    0xE4 ∷ 0x20 ∷ 0x0C ∷ 0x7C ∷ 0xE6 ∷ 0x47 ∷ 0x97 ∷ 0x4C ∷ 0xC6 ∷ 0x51 ∷ (times 49 (0x11 ∷ 0x46 ∷ 0x81 ∷ 0x91 ∷ []) ++ (0x11 ∷ 0x46 ∷ 0x81 ∷ 0x80 ∷ []))
+
+longest-read : readRecord tides recordOf longestBytes ≡ accepted longest
+unfolding times readMessage tides headed codes there placed read readField walk wide repeat recordOf valueOf bit digits bitsOf bytesOf fieldAt
+longest-read = refl
+
+longest-written : writeMessage tides (valuesOf longest) ≡ accepted longestBytes
+unfolding times writeMessage tides headed codes placed write writeField sized walk wide repeat repeatOf repeatTold valuesOf valueOf bit digits bitsOf bytesOf
+longest-written = refl
+
+-- fifty-one make 214 bytes: 1, when all fields were good
+longer-refused : writeMessage tides (valuesOf (record { count = 1 }, 1 ∷ angle 31 14 50 ∷ angle 121 29 25 ∷ 1 ∷ 51 ∷ times 51 (at 1 1 2 5 6 ∷ 1 ∷ 12 ∷ []))) ≡ refused 1 0
+unfolding times writeMessage tides headed codes placed write writeField sized walk wide repeat repeatOf repeatTold valuesOf valueOf bit digits bitsOf bytesOf
+longer-refused = refl
+
+-- ---- corrected: the port to Ningbo-Zhoushan (15), the second level's sign and value; and what may not be
+
+port-corrected : correctMessage tides observedBytes 5 15 ≡ accepted (set observedBytes 3 0xF0)
+unfolding correctMessage readMessage writeMessage tides headed codes there placed read readField write writeField sized spot walk wide repeat valueOf bit digits bitsOf bytesOf fieldAt
+port-corrected = refl
+
+sign-corrected : (correctMessage tides forecastBytes 13 1 ≡ accepted (set forecastBytes 16 0xA6)) × (correctMessage tides forecastBytes 14 1 ≡ accepted (set (set forecastBytes 16 0x00) 17 0x20))
+unfolding correctMessage readMessage writeMessage tides headed codes there placed read readField write writeField sized spot walk wide repeat valueOf bit digits bitsOf bytesOf fieldAt
+sign-corrected = (refl, refl)
+
+-- 0 behind sign 0 is refused at the value (bit 129); type, version, class, both counts and a position type stay
+corrections-refused : (correctMessage tides forecastBytes 14 0 ≡ refused 4 129) × (correctMessage tides forecastBytes 3 1 ≡ refused 10 0) × (correctMessage tides forecastBytes 4 1 ≡ refused 10 0) × (correctMessage tides forecastBytes 8 2 ≡ refused 10 0)
+unfolding correctMessage readMessage writeMessage tides headed codes there placed read readField write writeField sized spot walk wide repeat valueOf bit digits bitsOf bytesOf fieldAt
+corrections-refused = (refl, refl, refl, refl)
+
+-- ---- refused: another class; no records; no entries; a time of zeros, at the month; minus nothing, at the value; a fill bit; a byte left over
+
+refusals : (readMessage tides (set observedBytes 1 0x30) ≡ refused 2 0) × (readMessage tides (set observedBytes 2 0x00) ≡ refused 4 12) × (readMessage tides (set observedBytes 4 0x01) ≡ refused 4 29)
+    × (readMessage tides (set (set (set (set observedBytes 4 0x04) 5 0x00) 6 0x00) 7 0x12) ≡ refused 4 39) × (readMessage tides (set (set observedBytes 7 0xC0) 8 0x00) ≡ refused 4 60)
+    × (readMessage tides (set observedBytes 8 0xED) ≡ refused 5 70) × (readMessage tides (observedBytes ++ (0 ∷ [])) ≡ refused 1 72)
+unfolding readMessage tides headed codes there placed read readField walk wide repeat valueOf bit digits bitsOf bytesOf fieldAt
+refusals = (refl, refl, refl, refl, refl, refl, refl)

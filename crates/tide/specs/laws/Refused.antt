@@ -1,0 +1,77 @@
+-- Demand 1 for the tide's calls: a refusal leaves what was lent as it was, and where reading answers 0 the telegram was read and the row had room; no refusal has the number 0. Assumes nothing.
+use mathlib.Core.Path.{_≡_, refl, sym, ap, _∙_}
+use mathlib.Core.Bool.{Bool, true, false}
+use mathlib.Core.List.{List, []}
+use Prim.Native.Nat.{ℕ, _≤_}
+use native.Mathlib.Omega.{arith}
+use lib.Dec.{leb}
+use lib.IntN.{ℤ}
+use lib.ListN.{length}
+use borrow.Author.Tests.{leb-true}
+use Rattle.format.specs.Fmt.{Out, accepted, refused, check, orBad, also}
+use Rattle.format.specs.Message.{into, leaves, ahead}
+use Rattle.format.specs.Promises.{answered, readRecord}
+use Rattle.format.specs.laws.Family.{refused-stands, never-read}
+use Rattle.tide.specs.HeightsPromises.{heightsIn, heightsRead, shown, answerOf as heightsAnswer, Shows}
+use Rattle.tide.specs.Promises.{housed, toldOf, answerOf, numberOf, Reads}
+use Rattle.tide.specs.Record.{Whole, recordOf}
+use Rattle.tide.specs.Tide.{tides}
+use Rattle.tide.specs.WritingPromises.{Lays}
+use Rattle.tide.specs.declared.heights.Answer.the-variants.{Refused as HeightsRefused}
+use Rattle.tide.specs.declared.reading.Answer.{Answer}
+use Rattle.tide.specs.declared.reading.Answer.the-variants.{Good}
+use Rattle.tide.specs.laws.Demands.{family}
+
+-- ---- reading
+
+module _ (s row : List ℕ) (a : Answer) (row′ : List ℕ) (e : Reads s row a row′) where
+  -- A refusal leaves the row.
+  pub refused-reading : (numberOf a ≡ 0 → ⊥) → row′ ≡ row
+  refused-reading h = go (housed (length row) (readRecord tides recordOf s)) (e .0) (e .1)
+    where
+      go : (o : Out Whole) → a ≡ answerOf o → row′ ≡ answered (λ x. ahead (x .1) row) (λ c. row) o → row′ ≡ row
+      go (accepted x) is y = absurd (h (ap numberOf is))
+      go (refused c p) is y = y
+
+  -- 0: the telegram is read, and its numbers find room and stand in front.
+  pub zero-reading : numberOf a ≡ 0 → (x : Whole) × (readRecord tides recordOf s ≡ accepted x) × (length (x .1) ≤ length row) × (a ≡ Good (toldOf x)) × (row′ ≡ ahead (x .1) row)
+  zero-reading z = go (readRecord tides recordOf s) refl (e .0) (e .1)
+    where
+      room : (x : Whole) → readRecord tides recordOf s ≡ accepted x → (b : Bool) → leb (length (x .1)) (length row) ≡ b → a ≡ answerOf (check (orBad b 6) 0 (accepted x))
+          → row′ ≡ answered (λ x. ahead (x .1) row) (λ c. row) (check (orBad b 6) 0 (accepted x)) → (readRecord tides recordOf s ≡ accepted x) × (length (x .1) ≤ length row) × (a ≡ Good (toldOf x)) × (row′ ≡ ahead (x .1) row)
+      room x m true k is y = (m, leb-true (length (x .1)) (length row) k, is, y)
+      room x m false k is y = let n : _≡_ {A = ℕ} 6 0 = sym (ap numberOf is) ∙ z in absurd (omega (arith, n))
+
+      go : (o : Out Whole) → readRecord tides recordOf s ≡ o → a ≡ answerOf (housed (length row) o) → row′ ≡ answered (λ x. ahead (x .1) row) (λ c. row) (housed (length row) o) → (x : Whole) × (readRecord tides recordOf s ≡ accepted x) × (length (x .1) ≤ length row) × (a ≡ Good (toldOf x)) × (row′ ≡ ahead (x .1) row)
+      go (accepted x) m is y = let (m, k, is, y) = room x m (leb (length (x .1)) (length row)) refl is y in (x, m, k, is, y)
+      go (refused c p) m is y = absurd (never-read family s p (m ∙ ap (λ c. refused c p) (sym (ap numberOf is) ∙ z)))
+
+-- ---- writing
+
+-- A refusal leaves the buffer.
+pub refused-laying : (has : Bool) (o : Out (List ℕ)) (s : List ℕ) (code : ℕ) (t : List ℕ) → Lays has o s code t → (code ≡ 0 → ⊥) → t ≡ s
+refused-laying true o s code t (z, x) h = refused-stands (into s o) s t code z x h
+refused-laying false o s code t (z, x) h = x
+
+-- ---- heights
+
+module _ (s : List ℕ) (row t : List ℤ) where
+  -- A refusal leaves the row.
+  pub refused-showing : (c : ℕ) → Shows s row (HeightsRefused c) t → t ≡ row
+  refused-showing c f = go (shown s row) (f .0) (f .1)
+    where
+      go : (o : Out (List ℤ)) → HeightsRefused c ≡ heightsAnswer (also (λ t. length (leaves (heightsRead s) [])) o) → t ≡ leaves o row → t ≡ row
+      go (accepted u) a e = let z : _≡_ {A = ℕ} 0 1 = cc in absurd (omega arith)
+      go (refused d p) a e = e
+
+  -- No refusal has the number 0.
+  pub no-zero-showing : Shows s row (HeightsRefused 0) t → ⊥
+  no-zero-showing f = go (readRecord tides recordOf s) refl (f .0)
+    where
+      full : (b : Bool) (u : List ℤ) → HeightsRefused 0 ≡ heightsAnswer (also (λ t. length (leaves (heightsRead s) [])) (check (orBad b 6) 0 (accepted u))) → ⊥
+      full true u a = let z : _≡_ {A = ℕ} 0 1 = cc in omega arith
+      full false u a = let z : _≡_ {A = ℕ} 0 6 = cc in omega arith
+
+      go : (o : Out Whole) → readRecord tides recordOf s ≡ o → HeightsRefused 0 ≡ heightsAnswer (also (λ t. length (leaves (heightsRead s) [])) (into row (also heightsIn o))) → ⊥
+      go (accepted x) m a = full (leb (length (heightsIn x)) (length row)) _ a
+      go (refused c p) m a = let z : c ≡ 0 = cc in never-read family s p (m ∙ ap (λ c. refused c p) z)

@@ -1,0 +1,29 @@
+// Writing a tide telegram (paper 02, C-11; 000, 5.4) into a lent buffer.
+ghost use mathlib.Core.Path.{_≡_};
+ghost use Rattle.tide.specs.WritingPromises.{TideWrites, roomFor};
+use crate::reading::Tide;
+
+mod making;
+
+// Writes the telegram into the front of a lent buffer: its count and the numbers of its records are judged, then the size that
+// they make (1), then room (6): in the buffer, and that the row has as many numbers as its position types and counts ask for.
+pub fn write(buf: &mut [u8], r: Tide, row: &[u32]) -> u8
+    ensures { λ code. ⌜ TideWrites (now (buf .entry)) r (now (row .entry)) code (now (buf .exit)) ⌝ }
+{
+    let judged = making::judged(r, row);
+    let walk = judged.walk;
+    let room = room(row.len(), judged.next, buf.len());
+    let code = walk.closes(false, Tide::LEAST, Tide::GREATEST, room);
+    if code != 0 {
+        return code;
+    }
+    making::put(buf, r, row);
+    0
+}
+
+// The buffer's room: none where the row has fewer numbers than it should.
+fn room(has: usize, asked: usize, room: usize) -> usize
+    ensures { λ r. ⌜ r ≡ roomFor has asked room ⌝ }
+{
+    if has < asked { 0 } else { room }
+}
