@@ -819,6 +819,94 @@ uint8_t bellnewt_notice_correct(uint8_t *s, size_t len, uint8_t language, size_t
 uint8_t bellnewt_outline(const uint8_t *s, size_t len, uint8_t language, int32_t *row, size_t row_len, size_t *points);
 
 /*
+ * A tide telegram, 9 to 210 bytes: type 0xE4, version 1, data class 0, how many records; the records; a fill of 0 to 7
+ * bits. A record says where, by a port's code or by a point, whether its levels are forecasts, and how many entries it
+ * has; an entry is a level at a time. Records and entries are at least one and at most 511.
+ */
+enum bellnewt_tide_size {
+    BELLNEWT_TIDE_LEAST = 9,
+    BELLNEWT_TIDE_GREATEST = 210,
+    BELLNEWT_TIDE_ROW = 234,   /* the most entries of a row: 33 ports, one of them with two levels */
+    BELLNEWT_TIDE_HEIGHTS = 51 /* the most levels: one port's */
+};
+
+/*
+ * What stands in the row of a telegram: one record behind another.
+ *
+ * position type       PORT or POINT
+ * port                6 bits; of a POINT the latitude, 21 bits, and the longitude, 22, as a notice has them
+ * forecast mark       1 bit: 0 for a level that was observed
+ * how many entries    1 to 511, and then of each
+ *   time              21 bits: next year 1, month 4 (1 to 12), day 5 (1 to 31), hour 5 (0 to 23), minute 6 (0 to 59)
+ *   sign              1 bit: 0 for a level below zero
+ *   value             10 bits, in centimetres: 0 to 1,023, and of sign 0 from 1 on
+ */
+enum bellnewt_tide_position { BELLNEWT_TIDE_PORT = 0, BELLNEWT_TIDE_POINT = 1 };
+
+/*
+ * The numbers of the fields that can be corrected: entry j of the row is FIRST_ENTRY + j. Position types and how many
+ * entries there are decide the layout (10), and so does how many records.
+ */
+enum bellnewt_tide_field { BELLNEWT_TIDE_FIRST_ENTRY = 4 };
+
+/*
+ * Reads a telegram: how many records into *count, how many entries these have in the row into *numbers, and the entries
+ * into the front of the row; those past them stay.
+ *
+ * 1  fewer than 9 bytes
+ * 2  another type, version or data class
+ * 1  more than 210 bytes
+ * 4  no record
+ * 1  the telegram ends before a number of a record, or before a part of a latitude, longitude or time
+ * 4  no entry in a record; a part of a latitude, longitude or time outside its range, and so a time of all zeros; a
+ *    value of 0 behind sign 0
+ * 5  a fill bit isn't zero
+ * 1  bytes are left over
+ * 6  the row is shorter than what it is to hold
+ *
+ * The records are walked in bit order, so that of the 1 and 4 that they give the first comes. A refusal leaves *count,
+ * *numbers and the row as they were.
+ */
+uint8_t bellnewt_tide_read(const uint8_t *s, size_t len, uint16_t *count, size_t *numbers, uint32_t *row,
+                           size_t row_len);
+
+/*
+ * Writes a telegram of `count` records into the front of a buffer; bytes past it stay. It has 21 bits, 17 for a record
+ * with a port and 54 for one with a point, and 32 an entry, rounded up to bytes.
+ *
+ * 4  a value outside its field's range, or wider than the field; no record or entry, or more than 511. Entries that the
+ *    row is too short for count as good here; entries past those of `count` records are not looked at
+ * 1  more than 210 bytes
+ * 6  the buffer is shorter than the telegram, or the row than its records ask
+ *
+ * A refusal leaves the buffer as it was.
+ */
+uint8_t bellnewt_tide_write(uint8_t *buf, size_t buf_len, uint16_t count, const uint32_t *row, size_t row_len);
+
+/*
+ * Corrects one field of a telegram where it stands. The new value is the plain number that the field's bits shall
+ * spell. The buffer is the telegram alone, so there is no 6.
+ *
+ * 1, 2, 4, 5  the telegram itself is refused, in the order of bellnewt_tide_read
+ * 10  the number is below FIRST_ENTRY, that of a position type or of how many entries, or past the last entry
+ * 4   the value is wider than the field or outside its range; sign 0 and value 0 would come together
+ *
+ * A refusal leaves the telegram as it was; otherwise only that field's bits change.
+ */
+uint8_t bellnewt_tide_correct(uint8_t *s, size_t len, size_t field, uint64_t value);
+
+/*
+ * Puts the levels of a telegram into the front of a row, in centimetres, those of sign 0 negative, and how many there
+ * are into *count: all records' in the telegram's order. Entries past them stay.
+ *
+ * 1, 2, 4, 5  the telegram itself is refused, in the order of bellnewt_tide_read
+ * 6  the row is shorter than that
+ *
+ * A refusal leaves the row and *count as they were.
+ */
+uint8_t bellnewt_tide_heights(const uint8_t *s, size_t len, int32_t *heights, size_t heights_len, size_t *count);
+
+/*
  * The desk joins the packets of up to four notices, in whatever order they come. A notice is known by its message
  * number. All that the desk knows is in its places and its store, which every call is lent as the one before left them;
  * an empty desk is places whose marks are 0, and any store.

@@ -303,6 +303,46 @@ static void notice(uint8_t *message, size_t size)
     show_outline(message, size);
 }
 
+static void show_tide(const uint8_t *telegram, size_t size)
+{
+    uint16_t records = 0;
+    size_t numbers = 0, count = 0;
+    uint32_t row[BELLNEWT_TIDE_ROW];
+    int32_t heights[BELLNEWT_TIDE_HEIGHTS];
+
+    printf("read: %d\n", bellnewt_tide_read(telegram, size, &records, &numbers, row, BELLNEWT_TIDE_ROW));
+    printf("  records   %" PRIu16 "\n  row      ", records);
+    for (size_t i = 0; i < numbers; i++)
+        printf(" %" PRIu32, row[i]);
+    printf("\nheights into one entry: %d\n", bellnewt_tide_heights(telegram, size, heights, 1, &count));
+    printf("heights: %d\n", bellnewt_tide_heights(telegram, size, heights, BELLNEWT_TIDE_HEIGHTS, &count));
+    for (size_t i = 0; i < count; i++)
+        printf("  level     %" PRId32 " cm\n", heights[i]);
+}
+
+/* Two levels observed at a port, one below zero; a forecast at a point: written, a level corrected, the heights. */
+static void tide(void)
+{
+    const uint32_t noon = 11 << 16 | 16 << 11 | 12 << 6, evening = 11 << 16 | 16 << 11 | 18 << 6 | 30;
+    const uint32_t north = angle(20, 0, 31, 14, 50), east = angle(21, 0, 121, 29, 25);
+    const uint32_t row[] = {BELLNEWT_TIDE_PORT,  11, 0, 2,    noon, 1, 187, evening, 0, 42,
+                            BELLNEWT_TIDE_POINT, north, east, 1,    1, noon, 1,       250};
+    uint8_t telegram[24]; /* as many as it takes */
+
+    printf("tide\n");
+    printf("write: %d\n",
+           bellnewt_tide_write(telegram, sizeof telegram, 2, row, sizeof row / sizeof row[0]));
+    show_bytes("telegram", telegram, sizeof telegram);
+    show_tide(telegram, sizeof telegram);
+    printf("correct the second level to 60: %d\n",
+           bellnewt_tide_correct(telegram, sizeof telegram, BELLNEWT_TIDE_FIRST_ENTRY + 9, 60));
+    printf("correct the second level to 0, which sign 0 cannot have: %d\n",
+           bellnewt_tide_correct(telegram, sizeof telegram, BELLNEWT_TIDE_FIRST_ENTRY + 9, 0));
+    printf("correct how many entries: %d\n",
+           bellnewt_tide_correct(telegram, sizeof telegram, BELLNEWT_TIDE_FIRST_ENTRY + 3, 1));
+    show_tide(telegram, sizeof telegram);
+}
+
 /* The packet that a notice fits in, and a second one that there is not. */
 static void packet(const uint8_t *content, size_t size)
 {
@@ -394,6 +434,7 @@ int main(void)
     uint8_t message[27]; /* as many as the notice takes */
     notice(message, sizeof message);
     packet(message, sizeof message);
+    tide();
     desk();
     return 0;
 }

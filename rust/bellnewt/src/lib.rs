@@ -12,6 +12,7 @@
 //! | [`ais`] | message 8 with 412/03, message 6 with 412/11 | read, write, correct; count slots |
 //! | [`packet`] | the packet of a notice | read, write, correct; split a notice |
 //! | [`notice`] | the notice | read, write, correct; its points for a chart |
+//! | [`tide`] | the tide telegram | read, write, correct; its heights for a curve |
 //! | [`desk`] | packets that come in any order | accept, ask, drop |
 //!
 //! # Example
@@ -75,6 +76,7 @@ pub mod distress;
 pub mod notice;
 pub mod packet;
 pub mod serial;
+pub mod tide;
 
 #[doc(inline)]
 pub use record::Refusal;

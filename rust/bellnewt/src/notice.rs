@@ -72,7 +72,7 @@ impl Notice {
 }
 
 /// The number that parts of some width spell together. Where one is too wide, it is a number too wide for any field.
-fn spelled(parts: &[(u32, u8)]) -> u32 {
+pub(crate) fn spelled(parts: &[(u32, u8)]) -> u32 {
     let fit = parts.iter().all(|(width, part)| u32::from(*part) >> width == 0);
     if !fit {
         return u32::MAX;

@@ -6,6 +6,7 @@ mod distress;
 mod notice;
 mod packet;
 mod serial;
+mod tide;
 
 use bellnewt::notice::Notice;
 use record::Refusal;
@@ -21,8 +22,11 @@ pub struct Scratch {
     pub bytes: [u8; Notice::GREATEST],
     pub row: [i64; 32],
     pub size: usize,
+    pub count: u16,
+    /// A notice's areas, or a tide telegram's numbers.
     pub areas: [u32; Notice::ENTRIES],
     pub text: [u8; Notice::TEXT],
+    /// The points of a notice, or the heights of a tide telegram.
     pub outline: [i32; 2 * Notice::AREAS * Notice::POINTS],
 }
 
@@ -94,6 +98,7 @@ fn round<T: 'static>(mut messages: Vec<T>, call: impl Fn(&mut T, &mut Scratch) -
         bytes: [0; Notice::GREATEST],
         row: [0; 32],
         size: 0,
+        count: 0,
         areas: [0; Notice::ENTRIES],
         text: [0; Notice::TEXT],
         outline: [0; 2 * Notice::AREAS * Notice::POINTS],
@@ -108,7 +113,7 @@ fn round<T: 'static>(mut messages: Vec<T>, call: impl Fn(&mut T, &mut Scratch) -
 
 /// The rows of every family.
 pub fn rows() -> Vec<Row> {
-    [distress::rows(), serial::rows(), ais::rows(), packet::rows(), notice::rows(), desk::rows()]
+    [distress::rows(), serial::rows(), ais::rows(), packet::rows(), notice::rows(), desk::rows(), tide::rows()]
         .into_iter()
         .flatten()
         .collect()

@@ -9,12 +9,14 @@
 #![forbid(unsafe_code)]
 
 pub mod ais;
+mod bits;
 pub mod daylog;
 pub mod desk;
 pub mod distress;
 pub mod notice;
 pub mod packet;
 pub mod serial;
+pub mod tide;
 
 use record::Refusal;
 

@@ -1,10 +1,9 @@
 //! The notice and its outline (01, "Notice and packet"; 000, 5.2.2.3).
 
-mod area;
-mod bits;
+pub(crate) mod area;
 mod text;
 
-use super::{field, narrow, need};
+use super::{bits, field, narrow, need};
 use area::{walk, Part};
 use bits::Writer;
 use record::{Head, Refusal};

@@ -1,7 +1,7 @@
 //! The families that are compared.
 //!
-//! A new one is a module here. It also needs one in `inputs` and `numbers`, and in each of the crates `record`,
-//! `bellnewt`, `paper` and `bench`.
+//! A new one is a module here. It also needs one in `inputs` and `numbers`, and in each of the crates `bellnewt`,
+//! `paper` and `bench`; in `record` too, if both programs share a type.
 
 pub mod ais;
 pub mod desk;
@@ -9,6 +9,7 @@ pub mod distress;
 pub mod notice;
 pub mod packet;
 pub mod serial;
+pub mod tide;
 
 use crate::harness::{self, Options, Tally};
 
@@ -35,4 +36,5 @@ pub fn run(options: &Options, tally: &mut Tally) {
     harness::run::<packet::Packets>(options, tally);
     harness::run::<notice::Notices>(options, tally);
     desk::run(options, tally);
+    harness::run::<tide::Tides>(options, tally);
 }

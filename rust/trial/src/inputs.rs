@@ -8,6 +8,7 @@ mod field;
 pub mod notice;
 pub mod packet;
 pub mod serial;
+pub mod tide;
 
 /// SplitMix64: one word of state, every seed good.
 pub struct Random(u64);
@@ -132,4 +133,30 @@ pub fn room(random: &mut Random, exact: usize) -> usize {
 pub fn spare(random: &mut Random, exact: usize) -> Vec<u8> {
     let size = room(random, exact);
     random.bytes(size)
+}
+
+/// Sizes that are at least the exact ones, but for one of them at times.
+pub fn rooms<const N: usize>(random: &mut Random, exact: [usize; N]) -> [usize; N] {
+    let mut rooms = exact.map(|exact| if random.one_in(4) { exact + random.below(LONGEST_TAIL) } else { exact });
+    let at = random.below(N);
+    if exact[at] > 0 && random.one_in(3) {
+        rooms[at] = room(random, exact[at]);
+    }
+    rooms
+}
+
+/// A row of numbers to write: mostly the one that is meant, else cut or longer.
+pub fn row_to_write(random: &mut Random, mut row: Vec<u32>) -> Vec<u32> {
+    match random.below(16) {
+        0 => row.truncate(random.below(row.len() + 1)),
+        1 => {
+            row.pop();
+        }
+        2 | 3 => {
+            let more = random.below(LONGEST_TAIL);
+            row.extend((0..more).map(|_| random.word() as u32));
+        }
+        _ => (),
+    }
+    row
 }

@@ -1,4 +1,5 @@
-//! The numbers of 01, "Numbers to stand by", asked of both programs and of the wrapper.
+//! The numbers of 01, "Numbers to stand by", and tide telegrams spelled by hand, asked of both programs and of the
+//! wrapper.
 
 pub mod ais;
 pub mod desk;
@@ -6,6 +7,7 @@ pub mod distress;
 pub mod notice;
 pub mod packet;
 pub mod serial;
+pub mod tide;
 
 use crate::harness::Tally;
 
@@ -16,4 +18,5 @@ pub fn run(tally: &mut Tally) {
     packet::run(tally);
     notice::run(tally);
     desk::run(tally);
+    tide::run(tally);
 }

@@ -1,7 +1,6 @@
 //! The areas of a notice (000, tables 7 to 9).
 
-use super::bits;
-use crate::{field, need};
+use crate::{bits, field, need};
 use record::Refusal;
 
 /// The kinds of area.

@@ -2,7 +2,7 @@
 
 use super::{Paper, Proved};
 use crate::harness::{Call, Family, Guarded};
-use crate::inputs::{notice as inputs, spare, Random};
+use crate::inputs::{notice as inputs, rooms, row_to_write, spare, Random};
 use bellnewt::notice::{Head, Notice};
 use record::code;
 
@@ -111,7 +111,7 @@ fn read_input(random: &mut Random) -> (Input, Lent) {
     let draft = inputs::draft(random);
     let message = inputs::message(random, &draft);
     let mut lent = Lent::new(random, message);
-    let [row, areas, text] = inputs::rooms(random, [Notice::ROW, draft.areas().len(), draft.text.len()]);
+    let [row, areas, text] = rooms(random, [Notice::ROW, draft.areas().len(), draft.text.len()]);
     lent.row = Guarded::any(random, row);
     lent.areas = Guarded::any(random, areas);
     lent.text = Guarded::any(random, text);
@@ -122,7 +122,7 @@ fn write_input(random: &mut Random) -> (Input, Lent) {
     let draft = inputs::draft_to_write(random);
     let buf = spare(random, draft.bytes());
     let mut lent = Lent::new(random, buf);
-    let areas = inputs::areas_to_write(random, &draft);
+    let areas = row_to_write(random, draft.areas());
     lent.areas = Guarded::new(random, areas);
     let input = Input::Write { language: draft.language, head: draft.head(), count: draft.count() };
     lent.text = Guarded::new(random, draft.text);
@@ -139,7 +139,7 @@ fn outline_input(random: &mut Random) -> (Input, Lent) {
     let draft = inputs::draft(random);
     let message = inputs::message(random, &draft);
     let mut lent = Lent::new(random, message);
-    let [outline] = inputs::rooms(random, [2 * draft.points()]);
+    let [outline] = rooms(random, [2 * draft.points()]);
     lent.outline = Guarded::any(random, outline);
     (Input::Outline { language: draft.language }, lent)
 }

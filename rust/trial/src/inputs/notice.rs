@@ -1,13 +1,13 @@
 //! Notices, good and damaged: mostly short ones, some with all areas and points, some of the greatest size.
 
-mod area;
+pub(super) mod area;
 mod draft;
 mod text;
 
 pub use draft::{draft, good_draft_of, Draft};
 
 use super::field::{field_number, put_anywhere};
-use super::{damage, room, Random, LONGEST_TAIL};
+use super::{damage, Random};
 use bellnewt::notice::Field;
 use draft::{good_draft, HEAD};
 
@@ -59,16 +59,6 @@ pub fn correction(random: &mut Random, draft: &Draft) -> (usize, u64) {
     (field_number(random, number), parts.new_value(random))
 }
 
-/// Sizes that are at least the exact ones, but for one of them at times.
-pub fn rooms<const N: usize>(random: &mut Random, exact: [usize; N]) -> [usize; N] {
-    let mut rooms = exact.map(|exact| if random.one_in(4) { exact + random.below(LONGEST_TAIL) } else { exact });
-    let at = random.below(N);
-    if exact[at] > 0 && random.one_in(3) {
-        rooms[at] = room(random, exact[at]);
-    }
-    rooms
-}
-
 /// A notice to write: some of its numbers may be any.
 pub fn draft_to_write(random: &mut Random) -> Draft {
     let mut draft = draft(random);
@@ -84,21 +74,4 @@ pub fn draft_to_write(random: &mut Random) -> Draft {
         _ => (),
     }
     draft
-}
-
-/// The areas of a notice as a row to write: mostly theirs, else cut or longer.
-pub fn areas_to_write(random: &mut Random, draft: &Draft) -> Vec<u32> {
-    let mut areas = draft.areas();
-    match random.below(16) {
-        0 => areas.truncate(random.below(areas.len() + 1)),
-        1 => {
-            areas.pop();
-        }
-        2 | 3 => {
-            let more = random.below(LONGEST_TAIL);
-            areas.extend((0..more).map(|_| random.word() as u32));
-        }
-        _ => (),
-    }
-    areas
 }

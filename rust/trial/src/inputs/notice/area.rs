@@ -14,13 +14,13 @@ pub struct Entry {
 
 const MINUTES: Field = field(6, 0, 60, &[59]);
 const HUNDREDTHS: Field = field(7, 0, 99, &[0]);
-const FLAG: Field = field(1, 0, 1, &[0]);
+pub const FLAG: Field = field(1, 0, 1, &[0]);
 
 static KIND: Parts = Parts(&[field(3, 0, 4, &[4])]);
 static CODE: Parts = Parts(&[field(8, 0, 255, &[0])]);
 static COUNT: Parts = Parts(&[field(4, 1, 15, &[2, 3])]);
-static LATITUDE: Parts = Parts(&[FLAG, field(7, 0, 90, &[0]), MINUTES, HUNDREDTHS]);
-static LONGITUDE: Parts = Parts(&[FLAG, field(8, 0, 180, &[0]), MINUTES, HUNDREDTHS]);
+pub static LATITUDE: Parts = Parts(&[FLAG, field(7, 0, 90, &[0]), MINUTES, HUNDREDTHS]);
+pub static LONGITUDE: Parts = Parts(&[FLAG, field(8, 0, 180, &[0]), MINUTES, HUNDREDTHS]);
 static RADIUS: Parts = Parts(&[field(10, 0, 1_023, &[999])]);
 static UNIT: Parts = Parts(&[field(2, 0, 3, &[2])]);
 

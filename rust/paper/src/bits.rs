@@ -1,4 +1,4 @@
-//! Numbers and bytes at any bit of a notice.
+//! Numbers and bytes at any bit of a message.
 
 use std::slice::IterMut;
 
