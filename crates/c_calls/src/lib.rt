@@ -8,6 +8,7 @@ pub mod outline_calls;
 pub mod packet_calls;
 pub mod report_calls;
 pub mod sentence_calls;
+pub mod tide_calls;
 pub mod txhz_calls;
 pub mod txsq_calls;
 pub mod txxx_calls;

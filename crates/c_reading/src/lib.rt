@@ -11,6 +11,7 @@ ghost use Rattle.c_rows.specs.Warning.{numbersOf as Warning·numbersOf};
 ghost use Rattle.c_rows.specs.Area.{numbersOf as Area·numbersOf};
 ghost use Rattle.c_rows.specs.Packet.{numbersOf as Packet·numbersOf};
 ghost use Rattle.c_rows.specs.Notice.{NoticeFills};
+ghost use Rattle.c_rows.specs.Tide.{TideTold};
 
 // Reads the report into a row of 9: mmsi, longitude, latitude, day, hour, minute, speed, course, kind.
 #[no_mangle]
@@ -89,4 +90,18 @@ pub extern "C" fn bellnewt_notice_read(
     ensures { λ code. ⌜ NoticeFills language (now (s .entry)) (now (row .entry)) (now (areas .entry)) (now (text .entry)) code (now (row .exit)) (now (areas .exit)) (now (text .exit)) ⌝ }
 {
     c_rows::notices::read(s, language, row, areas, text)
+}
+
+// Reads the tide telegram: how many records into `count`, how many numbers these have into `numbers`, and the numbers into the
+// front of the row.
+#[no_mangle]
+pub extern "C" fn bellnewt_tide_read(
+    s: &[u8],
+    count: &mut u16,
+    numbers: &mut usize,
+    row: &mut [u32],
+) -> u8
+    ensures { λ code. ⌜ TideTold (now (s .entry)) (now (count .entry)) (now (numbers .entry)) (now (row .entry)) code (now (count .exit)) (now (numbers .exit)) (now (row .exit)) ⌝ }
+{
+    c_rows::tides::read(s, count, numbers, row)
 }

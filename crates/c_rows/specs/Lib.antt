@@ -15,4 +15,5 @@ pub mod Split
 pub mod Notice
 pub mod Making
 pub mod Told
+pub mod Tide
 pub mod laws

@@ -7,4 +7,5 @@ pub mod Packet
 pub mod Notice
 pub mod Making
 pub mod Refused
+pub mod Tide
 pub mod Readings

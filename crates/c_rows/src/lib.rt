@@ -11,6 +11,7 @@ pub mod reports;
 pub mod sentences;
 mod signed;
 pub mod slots;
+pub mod tides;
 pub mod txhzs;
 pub mod txsqs;
 pub mod txxxs;

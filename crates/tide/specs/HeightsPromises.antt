@@ -4,7 +4,7 @@ use mathlib.Core.Path.{_≡_}
 use mathlib.Core.List.{List, []}
 use lib.IntN.{ℤ}
 use lib.ListN.{length}
-use Rattle.format.specs.Fmt.{Out, also}
+use Rattle.format.specs.Fmt.{Out, accepted, refused, also}
 use Rattle.format.specs.Message.{leaves, into}
 use Rattle.format.specs.Promises.{answered, readRecord}
 use Rattle.tide.specs.Heights.{heightsOf}
@@ -31,6 +31,10 @@ counted s row = also (λ t. length (leaves (heightsRead s) [])) (shown s row)
 
 abbrev pub answerOf : Out ℕ → Answer
 answerOf = answered Good Refused
+
+abbrev pub outOf : Answer → Out ℕ
+outOf (Good n) = accepted n
+outOf (Refused c) = refused c 0
 
 -- the answer, and the row t that is left
 abbrev pub Shows : List ℕ → List ℤ → Answer → List ℤ → Type 0

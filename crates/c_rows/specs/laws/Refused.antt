@@ -41,7 +41,7 @@ use Rattle.c_rows.specs.Told.{OutlineTold}
 use Rattle.c_rows.specs.Txhz.{recordOf, txhzInto, TxhzWrites}
 
 -- an answer 0 that leaves t is an acceptance of t, where nothing is refused by 0
-zero-stands : {A : Type 0} (o : Out A) (s t : A) (code : ℕ) → ((p : ℕ) → o ≡ refused 0 p → ⊥) → code ≡ codeOf o → t ≡ leaves o s → code ≡ 0 → o ≡ accepted t
+pub zero-stands : {A : Type 0} (o : Out A) (s t : A) (code : ℕ) → ((p : ℕ) → o ≡ refused 0 p → ⊥) → code ≡ codeOf o → t ≡ leaves o s → code ≡ 0 → o ≡ accepted t
 zero-stands (accepted u) s t code never z x h = ap accepted (sym x)
 zero-stands (refused c p) s t code never z x h = absurd (never p (ap (λ c. refused c p) (sym z ∙ h)))
 
