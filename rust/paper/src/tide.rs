@@ -6,8 +6,6 @@
 mod correcting;
 mod entry;
 mod opening;
-#[cfg(test)]
-mod tests;
 mod writing;
 
 pub use correcting::correct;
