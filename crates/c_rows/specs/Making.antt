@@ -8,7 +8,8 @@ use Rattle.c_rows.specs.Language.{spoken}
 use Rattle.notice.specs.Notice.{notices}
 use Rattle.notice.specs.Record.{valuesOf}
 use Rattle.notice.specs.declared.reading.Notice.{Notice}
-use Rattle.notice.specs.WritingPromises.{enough, Lays}
+use Rattle.format.specs.Promises.{Lays}
+use Rattle.notice.specs.WritingPromises.{enough}
 
 -- writing: the code, and t left of s
 abbrev pub WritesIn : ℕ → List ℕ → Notice → List ℕ → List ℕ → ℕ → List ℕ → Type 0

@@ -1,8 +1,10 @@
 -- What the calls of a family promise, over any layout: the answer, and what is left of the bytes s that they are lent. Assumes nothing.
 use mathlib.Core.Path.{_≡_}
-use mathlib.Core.List.{List}
+use mathlib.Core.Bool.{Bool, cond}
+use mathlib.Core.List.{List, []}
 use Prim.Native.Nat.{ℕ}
-use Rattle.format.specs.Fmt.{Out, accepted, refused, also}
+use lib.Dec.{ltb}
+use Rattle.format.specs.Fmt.{Out, accepted, refused, orBad, check, also, after}
 use Rattle.format.specs.Message.{Layout, codeOf, leaves, into, readMessage, writeMessage, correctMessage}
 
 -- reading: the record of the message's values, or the refusal
@@ -25,3 +27,17 @@ Writes l s code t vs = (code ≡ codeOf (into s (writeMessage l vs))) × (t ≡ 
 -- correcting field number i to v: the code, and t left of s
 abbrev pub Corrects : Layout → List ℕ → ℕ → ℕ → ℕ → List ℕ → Type 0
 Corrects l s i v code t = (code ≡ codeOf (correctMessage l s i v)) × (t ≡ leaves (correctMessage l s i v) s)
+
+-- ---- calls that are lent a row beside the bytes
+
+-- an answer for which there is room, by a test that comes last: else 6
+abbrev pub tested : {A : Type 0} → (A → Bool) → Out A → Out A
+tested test o = after o (λ x. check (orBad (test x) 6) 0 (accepted x))
+
+-- a buffer's room for what a row of so many numbers tells: none where it has fewer than it is asked for
+abbrev pub roomFor : (has asked room : ℕ) → ℕ
+roomFor has asked room = cond (ltb has asked) 0 room
+
+-- a writing's answer o in the buffer s, where the row that tells its values has enough numbers or not (6, tested last): the code, and t left of s
+abbrev pub Lays : Bool → Out (List ℕ) → List ℕ → ℕ → List ℕ → Type 0
+Lays has o s code t = (code ≡ codeOf (into (cond has s []) o)) × (t ≡ cond has (leaves (into s o) s) s)

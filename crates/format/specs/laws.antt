@@ -19,6 +19,7 @@ pub mod Sealing
 pub mod Correcting
 pub mod Entries
 pub mod Family
+pub mod Lent
 pub mod Settled
 pub mod Corrections
 pub mod Showing

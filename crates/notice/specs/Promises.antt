@@ -5,9 +5,9 @@ use mathlib.Core.List.{List}
 use Prim.Native.Nat.{ℕ}
 use lib.Dec.{leb}
 use lib.ListN.{length}
-use Rattle.format.specs.Fmt.{Out, accepted, check, orBad, after}
+use Rattle.format.specs.Fmt.{Out}
 use Rattle.format.specs.Message.{ahead}
-use Rattle.format.specs.Promises.{answered, readRecord}
+use Rattle.format.specs.Promises.{answered, readRecord, tested}
 use Rattle.notice.specs.Notice.{notices}
 use Rattle.notice.specs.Record.{Whole, recordOf}
 use Rattle.notice.specs.declared.reading.Told.{Told}
@@ -16,7 +16,7 @@ use Rattle.notice.specs.declared.reading.Answer.the-variants.{Good, Refu
 
 -- a record that a row of `areas` and a buffer of `text` entries have room for (6, tested last)
 abbrev pub housed : (areas text : ℕ) → Out Whole → Out Whole
-housed areas text o = after o (λ x. check (orBad (leb (length (x .1 .0)) areas && leb (length (x .1 .1)) text) 6) 0 (accepted x))
+housed areas text = tested (λ x. leb (length (x .1 .0)) areas && leb (length (x .1 .1)) text)
 
 -- what an answer tells of it: the record, and how many numbers its areas and bytes its text have
 abbrev pub toldOf : Whole → Told

@@ -1,7 +1,7 @@
 // The notice telegram (paper 01, "Notice and packet"; 000, 5.2.2): reading, writing and correcting it.
-ghost use Rattle.notice.specs.WritingPromises.{NoticeWrites, roomFor};
-ghost use mathlib.Core.Path.{_≡_};
+ghost use Rattle.notice.specs.WritingPromises.{NoticeWrites};
 use crate::reading::Notice;
+use walk::making::room;
 
 mod making;
 
@@ -19,11 +19,4 @@ pub fn write(buf: &mut [u8], r: Notice, areas: &[u32], text: &[u8], english: boo
     }
     making::put(buf, r, areas, text);
     0
-}
-
-// The buffer's room: none where the row has fewer numbers than it should.
-fn room(has: usize, asked: usize, room: usize) -> usize
-    ensures { λ r. ⌜ r ≡ roomFor has asked room ⌝ }
-{
-    if has < asked { 0 } else { room }
 }

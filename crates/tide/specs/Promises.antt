@@ -4,9 +4,9 @@ use mathlib.Core.List.{List}
 use Prim.Native.Nat.{ℕ}
 use lib.Dec.{leb}
 use lib.ListN.{length}
-use Rattle.format.specs.Fmt.{Out, accepted, check, orBad, after}
+use Rattle.format.specs.Fmt.{Out}
 use Rattle.format.specs.Message.{ahead}
-use Rattle.format.specs.Promises.{answered, readRecord}
+use Rattle.format.specs.Promises.{answered, readRecord, tested}
 use Rattle.tide.specs.Record.{Whole, recordOf}
 use Rattle.tide.specs.Tide.{tides}
 use Rattle.tide.specs.declared.reading.Told.{Told}
@@ -15,7 +15,7 @@ use Rattle.tide.specs.declared.reading.Answer.the-variants.{Good, Refuse
 
 -- a record that a row of `room` entries has room for (6, tested last)
 abbrev pub housed : (room : ℕ) → Out Whole → Out Whole
-housed room o = after o (λ x. check (orBad (leb (length (x .1)) room) 6) 0 (accepted x))
+housed room = tested (λ x. leb (length (x .1)) room)
 
 -- what an answer tells of it: the record, and how many numbers its records have
 abbrev pub toldOf : Whole → Told

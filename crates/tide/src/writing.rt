@@ -1,7 +1,7 @@
 // Writing a tide telegram (paper 02, C-11; 000, 5.4) into a lent buffer.
-ghost use mathlib.Core.Path.{_≡_};
-ghost use Rattle.tide.specs.WritingPromises.{TideWrites, roomFor};
+ghost use Rattle.tide.specs.WritingPromises.{TideWrites};
 use crate::reading::Tide;
+use walk::making::room;
 
 mod making;
 
@@ -19,11 +19,4 @@ pub fn write(buf: &mut [u8], r: Tide, row: &[u32]) -> u8
     }
     making::put(buf, r, row);
     0
-}
-
-// The buffer's room: none where the row has fewer numbers than it should.
-fn room(has: usize, asked: usize, room: usize) -> usize
-    ensures { λ r. ⌜ r ≡ roomFor has asked room ⌝ }
-{
-    if has < asked { 0 } else { room }
 }

@@ -12,6 +12,7 @@ pub mod Groups
 pub mod Rows
 pub mod RowsJudged
 pub mod RowsPut
+pub mod RowsMade
 pub mod Stored
 pub mod Making
 pub mod Flat

@@ -1,6 +1,7 @@
 // Making a message from a lent row of numbers: what judging a stretch of them, or putting it, comes to.
 ghost use mathlib.Core.Path.{_≡_};
 ghost use lib.ListN.{getD};
+ghost use Rattle.format.specs.Promises.{roomFor};
 use crate::walk::Walk;
 
 // The walk behind what was judged, and which number of the row comes next.
@@ -24,4 +25,11 @@ pub fn entry(row: &[u32], k: usize, missing: u64) -> u64
     } else {
         missing
     }
+}
+
+// A buffer's room for what a row tells: none where the row has fewer numbers than it is asked for.
+pub fn room(has: usize, asked: usize, room: usize) -> usize
+    ensures { λ r. ⌜ r ≡ roomFor has asked room ⌝ }
+{
+    if has < asked { 0 } else { room }
 }

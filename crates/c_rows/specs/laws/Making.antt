@@ -15,7 +15,8 @@ use Rattle.format.specs.laws.Settled.{settled-with}
 use Rattle.notice.specs.Changed.{spotOf, changed}
 use Rattle.notice.specs.Notice.{notices}
 use Rattle.notice.specs.Record.{Whole, valuesOf}
-use Rattle.notice.specs.WritingPromises.{enough, Lays, NoticeWrites}
+use Rattle.format.specs.Promises.{Lays}
+use Rattle.notice.specs.WritingPromises.{enough, NoticeWrites}
 use Rattle.notice.specs.laws.Demands.{wholeOf}
 use Rattle.notice.specs.laws.WritingDemands.{corrected as corrected-notice}
 use Rattle.notice.specs.declared.reading.Notice.{Notice}

@@ -10,8 +10,9 @@ use lib.ListN.{length, drop}
 use borrow.Author.Tests.{leb-true, eqb-true}
 use Rattle.format.specs.Fmt.{Out, accepted, refused, orBad, check, also}
 use Rattle.format.specs.Message.{codeOf, leaves, into, writeMessage, correctMessage, ahead}
-use Rattle.format.specs.Promises.{answered, readRecord, Writes, Corrects}
+use Rattle.format.specs.Promises.{answered, readRecord, Writes, Corrects, tested, Lays}
 use Rattle.format.specs.laws.Family.{refused-stands, never-read}
+use Rattle.format.specs.laws.Lent.{zero-stands, tested-zero, refused-laying}
 use Rattle.format.specs.laws.Round.{clash}
 use Rattle.ais.specs.Slots.{firstOf, slotsIn, slotsFor, addressed, broadcast}
 use Rattle.ais.specs.laws.Slots.{first-none}
@@ -19,10 +20,9 @@ use Rattle.distress.specs.declared.reading.Report.{Report}
 use Rattle.notice.specs.Notice.{notices}
 use Rattle.notice.specs.Promises.{housed, toldOf}
 use Rattle.notice.specs.Record.{Whole, recordOf as wholeOf, valuesOf as noticeValues}
-use Rattle.notice.specs.WritingPromises.{enough, Lays, NoticeWrites}
+use Rattle.notice.specs.WritingPromises.{enough, NoticeWrites}
 use Rattle.notice.specs.declared.reading.Notice.{Notice}
 use Rattle.notice.specs.laws.Demands.{family as noticeFamily}
-use Rattle.notice.specs.laws.Refused.{tested, tested-zero, refused-laying}
 use Rattle.outline.specs.Promises.{drawn, counted, answerOf as outlined, Outlines}
 use Rattle.outline.specs.declared.Answer.the-variants.{Good}
 use Rattle.outline.specs.laws.Outlines.{no-zero-outline}
@@ -39,11 +39,6 @@ use Rattle.c_rows.specs.Slots.{SlotsTold}
 use Rattle.c_rows.specs.Split.{splittingIn, SplitsIn}
 use Rattle.c_rows.specs.Told.{OutlineTold}
 use Rattle.c_rows.specs.Txhz.{recordOf, txhzInto, TxhzWrites}
-
--- an answer 0 that leaves t is an acceptance of t, where nothing is refused by 0
-pub zero-stands : {A : Type 0} (o : Out A) (s t : A) (code : ℕ) → ((p : ℕ) → o ≡ refused 0 p → ⊥) → code ≡ codeOf o → t ≡ leaves o s → code ≡ 0 → o ≡ accepted t
-zero-stands (accepted u) s t code never z x h = ap accepted (sym x)
-zero-stands (refused c p) s t code never z x h = absurd (never p (ap (λ c. refused c p) (sym z ∙ h)))
 
 -- ---- a reading in a row (a refusal: Row `refused-filling`)
 

@@ -13,6 +13,7 @@ use Rattle.format.specs.Message.{codeOf, fault, leaves, readMessage, ahead}
 use Rattle.format.specs.Promises.{answered, readRecord, Corrects}
 use Rattle.format.specs.Settled.{SettledBy}
 use Rattle.format.specs.laws.Family.{never-read}
+use Rattle.format.specs.laws.Lent.{zero-stands}
 use Rattle.tide.specs.Changed.{changed, spotOf}
 use Rattle.tide.specs.HeightsPromises.{heightsRead, shown, counted, answerOf as heightsAnswer, Shows}
 use Rattle.tide.specs.Promises.{housed, toldOf, answerOf, Reads}
@@ -26,7 +27,6 @@ use Rattle.tide.specs.laws.Demands.{family, wholeOf}
 use Rattle.tide.specs.laws.Refused.{no-zero-showing}
 use Rattle.tide.specs.laws.WritingDemands.{corrected as corrected-tide}
 use Rattle.c_rows.specs.Tide.{Tells, TideTold, HeightsTold}
-use Rattle.c_rows.specs.laws.Refused.{zero-stands}
 
 -- what the two lent numbers tell
 abbrev pub toldIn : ℕ → ℕ → Told

@@ -1,39 +1,22 @@
--- Demand 1 for the notice's calls over a row and a buffer: a refusal leaves both as they were, and where reading answers 0 the notice was read and both had room. What is tested last, room, is one law over any test. Assumes nothing.
+-- Demand 1 for reading a notice into a row and a buffer: a refusal leaves both as they were, and where 0 is answered the notice was read and both had room. (Writing: `refused-laying` in format.) Assumes nothing.
 use mathlib.Core.Path.{_≡_, refl, sym, ap, _∙_}
-use mathlib.Core.Bool.{Bool, true, false, _&&_, and-eq-true-iff}
+use mathlib.Core.Bool.{Bool, _&&_, and-eq-true-iff}
 use mathlib.Core.List.{List}
 use Prim.Native.Nat.{ℕ, _≤_}
-use native.Mathlib.Omega.{arith}
 use lib.Dec.{leb}
 use lib.ListN.{length}
 use borrow.Author.Tests.{leb-true}
-use Rattle.format.specs.Fmt.{Out, accepted, refused, orBad, check, after}
-use Rattle.format.specs.Message.{codeOf, into, ahead}
+use Rattle.format.specs.Fmt.{Out, accepted, refused}
+use Rattle.format.specs.Message.{codeOf, ahead}
 use Rattle.format.specs.Promises.{answered, readRecord}
-use Rattle.format.specs.laws.Family.{refused-stands, never-read}
+use Rattle.format.specs.laws.Family.{never-read}
+use Rattle.format.specs.laws.Lent.{tested-zero}
 use Rattle.notice.specs.Notice.{notices}
 use Rattle.notice.specs.Promises.{housed, toldOf, answerOf, numberOf, Reads}
 use Rattle.notice.specs.Record.{Whole, recordOf}
-use Rattle.notice.specs.WritingPromises.{Lays}
 use Rattle.notice.specs.declared.reading.Answer.{Answer}
 use Rattle.notice.specs.declared.reading.Answer.the-variants.{Good}
 use Rattle.notice.specs.laws.Demands.{family}
-
--- ---- a test that comes last and is 6
-
-abbrev pub tested : {A : Type 0} → (A → Bool) → Out A → Out A
-tested test o = after o (λ x. check (orBad (test x) 6) 0 (accepted x))
-
--- where 0 is answered, what was tested was accepted, and the test held
-pub tested-zero : {A : Type 0} (test : A → Bool) (o : Out A) → ((p : ℕ) → o ≡ refused 0 p → ⊥) → codeOf (tested test o) ≡ 0 → (x : A) × (o ≡ accepted x) × (test x ≡ true) × (tested test o ≡ accepted x)
-tested-zero test (accepted x) never z = go (test x) refl z
-  where
-    go : (b : Bool) → test x ≡ b → codeOf (check (orBad b 6) 0 (accepted x)) ≡ 0 → (y : _) × (accepted x ≡ accepted y) × (test y ≡ true) × (tested test (accepted x) ≡ accepted y)
-    go true e z = (x, refl, e, rw e refl)
-    go false e z = absurd (omega (arith, z))
-tested-zero test (refused c p) never z = absurd (never p (ap (λ c. refused c p) z))
-
--- ---- reading
 
 module _ (english : Bool) (s areas text : List ℕ) (a : Answer) (areas′ text′ : List ℕ) (e : Reads english s areas text a areas′ text′) where
   abbrev read : Out Whole
@@ -65,10 +48,3 @@ module _ (english : Bool) (s areas text : List ℕ) (a : Answer) (areas′ text�
       number : (o : Out Whole) → numberOf (answerOf o) ≡ 0 → codeOf o ≡ 0
       number (accepted x) q = refl
       number (refused c p) q = q
-
--- ---- writing
-
--- A refusal leaves the buffer.
-pub refused-laying : (has : Bool) (o : Out (List ℕ)) (s : List ℕ) (code : ℕ) (t : List ℕ) → Lays has o s code t → (code ≡ 0 → ⊥) → t ≡ s
-refused-laying true o s code t (z, x) h = refused-stands (into s o) s t code z x h
-refused-laying false o s code t (z, x) h = x

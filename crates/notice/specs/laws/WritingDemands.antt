@@ -1,28 +1,27 @@
 -- Demands 2 and 3 of the notice, of the promises that its reading, writing and correcting make: a row with the numbers that its areas ask for is written as every layout's values are. Assumes nothing.
-use mathlib.Core.Path.{_≡_, refl, sym, _∙_, subst, subst⁻¹}
-use mathlib.Core.Bool.{Bool, true, false, cond}
-use mathlib.Core.List.{List, [], _∷_, _++_}
+use mathlib.Core.Path.{_≡_, sym, ap, _∙_, subst}
+use mathlib.Core.Bool.{Bool, true, false}
+use mathlib.Core.List.{List, _++_}
 use Prim.Native.Nat.{ℕ, _≤_}
 use native.Mathlib.Omega.{arith}
 use borrow.Author.Tests.{le-leb}
 use lib.ListN.{length, take, drop, length-append}
 use Rattle.bits.specs.Bits.{Bytes}
-use Rattle.bits.specs.laws.Answers.{one-answer}
-use Rattle.format.specs.Fmt.{Out, accepted, refused, check, also}
-use Rattle.format.specs.Message.{fault, codeOf, leaves, into, readMessage, writeMessage, ahead}
+use Rattle.format.specs.Fmt.{accepted, refused, check}
+use Rattle.format.specs.Message.{fault, codeOf, readMessage, writeMessage, ahead}
 use Rattle.format.specs.Promises.{plain, readRecord, Writes, Corrects}
-use Rattle.format.specs.laws.Family.{never-read, read-values, written-read}
+use Rattle.format.specs.laws.Family.{never-read, never-written, read-values}
 use Rattle.format.specs.Settled.{SettledBy}
 use Rattle.format.specs.laws.Answers.{plain-good, code-plain}
 use Rattle.format.specs.laws.Settled.{settled-with, settled}
-use Rattle.format.specs.laws.Round.{clash}
 use Rattle.format.specs.laws.Groups.{exact-told, exact-more}
+use Rattle.format.specs.laws.Lent.{same-code, enough-lays, accepted-lays, one-laying}
 use Rattle.notice_fields.specs.laws.Instances.{some-areas}
 use Rattle.notice_fields.specs.Row.{areasLong, areasTold}
 use Rattle.notice.specs.Changed.{spotOf, changed}
 use Rattle.notice.specs.Notice.{notice, notices}
 use Rattle.notice.specs.Promises.{toldOf, Reads}
-use Rattle.notice.specs.Record.{Whole, valuesOf, recordOf}
+use Rattle.notice.specs.Record.{valuesOf, recordOf}
 use Rattle.notice.specs.declared.reading.Answer.the-variants.{Good}
 use Rattle.notice.specs.declared.reading.Notice.{Notice}
 use Rattle.notice.specs.declared.reading.Told.{Told}
@@ -34,33 +33,19 @@ use Rattle.notice.specs.WritingPromises.{enough, NoticeWrites}
 
 pub enough-writes : (english : Bool) (s : List ℕ) (r : Notice) (row t : List ℕ) (code : ℕ) (u : List ℕ) → enough r row ≡ true → NoticeWrites english s r row t code u
     → Writes (notices english) s code u (valuesOf (r, (row, t)))
-enough-writes english s r row t code u e x =
-    let o = writeMessage (notices english) (valuesOf (r, (row, t))) in
-    subst (λ b. (code ≡ codeOf (into (cond b s []) o)) × (u ≡ cond b (leaves (into s o) s) s)) e x
-
--- no notice has no bytes
-some-bytes : (english : Bool) (m : List ℕ) {x : Whole} → length m ≤ 0 → readRecord (notices english) recordOf m ≡ accepted x → ⊥
-unfolding readMessage notices
-some-bytes english [] l e = clash e
-some-bytes english (b ∷ m) l e = omega arith
+enough-writes english s r row t code u = enough-lays (notices english) (valuesOf (r, (row, t))) s (enough r row) code u
 
 -- where it answered 0, the row had enough
 pub accepted-writes : (english : Bool) (s : List ℕ) (r : Notice) (row t u : List ℕ) → Bytes t → NoticeWrites english s r row t 0 u → (enough r row ≡ true) × Writes (notices english) s 0 u (valuesOf (r, (row, t)))
-accepted-writes english s r row t u fine x = go (enough r row) refl
+unfolding notices
+accepted-writes english s r row t u fine = accepted-lays (notices english) (valuesOf (r, (row, t))) s (enough r row) u (omega arith) never
   where
-    o : Out (List ℕ)
-    o = writeMessage (notices english) (valuesOf (r, (row, t)))
-
-    go : (b : Bool) → enough r row ≡ b → (enough r row ≡ true) × Writes (notices english) s 0 u (valuesOf (r, (row, t)))
-    go true e = (e, enough-writes english s r row t 0 u e x)
-    go false e =
-        let w : Writes (notices english) [] 0 (leaves (into [] o) []) (valuesOf (r, (row, t))) = (subst (λ b. 0 ≡ codeOf (into (cond b s []) o)) e (x .0), refl) in
-        let y = written-read (family english) [] (r, (areasTold (r .count) row, t)) _ (exact-told (some-areas (r .count)) row, fine) (subst⁻¹ (Writes (notices english) [] 0 _) (asked-row r row t) w) in
-        absurd (some-bytes english (y .message) (y .room) (y .reads))
+    never : (p : ℕ) → writeMessage (notices english) (valuesOf (r, (row, t))) ≡ refused 0 p → ⊥
+    never p e = never-written (family english) (r, (areasTold (r .count) row, t)) p (exact-told (some-areas (r .count)) row, fine) (ap (writeMessage (notices english)) (asked-row r row t) ∙ e)
 
 -- two answers that it allows are equal
 pub one-writing : (english : Bool) (s : List ℕ) (r : Notice) (row t : List ℕ) (c d : ℕ) (u w : List ℕ) → NoticeWrites english s r row t c u → NoticeWrites english s r row t d w → (c ≡ d) × (u ≡ w)
-one-writing english s r row t c d u w = one-answer (λ c. cond (enough r row) (leaves (into s (writeMessage (notices english) (valuesOf (r, (row, t))))) s) s)
+one-writing english s r row t = one-laying (enough r row) (writeMessage (notices english) (valuesOf (r, (row, t)))) s
 
 -- ---- demand 2
 
@@ -88,10 +73,6 @@ module _ (english : Bool) (s row text : List ℕ) (a : Told) (row′ text′ : L
 
 -- ---- demand 3
 
-same-code : (o : Out (List ℕ)) → codeOf o ≡ codeOf (also recordOf o)
-same-code (accepted vs) = refl
-same-code (refused c p) = refl
-
 -- Every correction of a notice, by any number and any value. Its own refusal is c; where that is 0, a, row′ and text′ are what reading it gave.
 pub corrected : (english : Bool) (s row text : List ℕ) (a : Told) (row′ text′ : List ℕ) → Bytes s → (c : ℕ) → c ≡ codeOf (readMessage (notices english) s) → (c ≡ 0 → Reads english s row text (Good a) row′ text′)
     → (i v code : ℕ) (t : List ℕ) → Corrects (notices english) s i v code t
@@ -100,7 +81,7 @@ unfolding notices
 corrected english s row text a row′ text′ fine c own reads i v code t corrects =
     let q = readRecord (notices english) recordOf s in
     let o = check (fault c) 0 (accepted (wholeOf a row′ text′)) in
-    let told : o ≡ plain q = code-plain q c (wholeOf a row′ text′) (own ∙ same-code (readMessage (notices english) s)) (never-read (family english) s) (λ z. good english s row text a row′ text′ (reads z)) in
+    let told : o ≡ plain q = code-plain q c (wholeOf a row′ text′) (own ∙ same-code recordOf (readMessage (notices english) s)) (never-read (family english) s) (λ z. good english s row text a row′ text′ (reads z)) in
     settled-with (λ x. spotOf x i) false s v (λ x u d y. Writes (notices english) u d y (valuesOf (changed i v x))) _ o code t
     (λ x p w is there u d y wrote.
     let lent = read-values (family english) s x fine (plain-good q (sym told ∙ is)) .1 in

@@ -1,4 +1,4 @@
--- Demand 1 for the tide's calls: a refusal leaves what was lent as it was, and where reading answers 0 the telegram was read and the row had room; no refusal has the number 0. Assumes nothing.
+-- Demand 1 for reading a tide telegram and its heights: a refusal leaves the row as it was, and where reading answers 0 the telegram was read and the row had room; no refusal has the number 0. (Writing: `refused-laying` in format.) Assumes nothing.
 use mathlib.Core.Path.{_≡_, refl, sym, ap, _∙_}
 use mathlib.Core.Bool.{Bool, true, false}
 use mathlib.Core.List.{List, []}
@@ -9,14 +9,14 @@ use lib.IntN.{ℤ}
 use lib.ListN.{length}
 use borrow.Author.Tests.{leb-true}
 use Rattle.format.specs.Fmt.{Out, accepted, refused, check, orBad, also}
-use Rattle.format.specs.Message.{into, leaves, ahead}
+use Rattle.format.specs.Message.{codeOf, into, leaves, ahead}
 use Rattle.format.specs.Promises.{answered, readRecord}
-use Rattle.format.specs.laws.Family.{refused-stands, never-read}
+use Rattle.format.specs.laws.Family.{never-read}
+use Rattle.format.specs.laws.Lent.{tested-zero}
 use Rattle.tide.specs.HeightsPromises.{heightsIn, heightsRead, shown, answerOf as heightsAnswer, Shows}
 use Rattle.tide.specs.Promises.{housed, toldOf, answerOf, numberOf, Reads}
 use Rattle.tide.specs.Record.{Whole, recordOf}
 use Rattle.tide.specs.Tide.{tides}
-use Rattle.tide.specs.WritingPromises.{Lays}
 use Rattle.tide.specs.declared.heights.Answer.the-variants.{Refused as HeightsRefused}
 use Rattle.tide.specs.declared.reading.Answer.{Answer}
 use Rattle.tide.specs.declared.reading.Answer.the-variants.{Good}
@@ -35,23 +35,13 @@ module _ (s row : List ℕ) (a : Answer) (row′ : List ℕ) (e : Reads s row a 
 
   -- 0: the telegram is read, and its numbers find room and stand in front.
   pub zero-reading : numberOf a ≡ 0 → (x : Whole) × (readRecord tides recordOf s ≡ accepted x) × (length (x .1) ≤ length row) × (a ≡ Good (toldOf x)) × (row′ ≡ ahead (x .1) row)
-  zero-reading z = go (readRecord tides recordOf s) refl (e .0) (e .1)
+  zero-reading z =
+      let (x, is, fits, all) = tested-zero (λ x. leb (length (x .1)) (length row)) (readRecord tides recordOf s) (never-read family s) (number (housed (length row) (readRecord tides recordOf s)) (ap numberOf (sym (e .0)) ∙ z)) in
+      (x, is, leb-true (length (x .1)) (length row) fits, e .0 ∙ ap answerOf all, e .1 ∙ ap (answered (λ x. ahead (x .1) row) (λ c. row)) all)
     where
-      room : (x : Whole) → readRecord tides recordOf s ≡ accepted x → (b : Bool) → leb (length (x .1)) (length row) ≡ b → a ≡ answerOf (check (orBad b 6) 0 (accepted x))
-          → row′ ≡ answered (λ x. ahead (x .1) row) (λ c. row) (check (orBad b 6) 0 (accepted x)) → (readRecord tides recordOf s ≡ accepted x) × (length (x .1) ≤ length row) × (a ≡ Good (toldOf x)) × (row′ ≡ ahead (x .1) row)
-      room x m true k is y = (m, leb-true (length (x .1)) (length row) k, is, y)
-      room x m false k is y = let n : _≡_ {A = ℕ} 6 0 = sym (ap numberOf is) ∙ z in absurd (omega (arith, n))
-
-      go : (o : Out Whole) → readRecord tides recordOf s ≡ o → a ≡ answerOf (housed (length row) o) → row′ ≡ answered (λ x. ahead (x .1) row) (λ c. row) (housed (length row) o) → (x : Whole) × (readRecord tides recordOf s ≡ accepted x) × (length (x .1) ≤ length row) × (a ≡ Good (toldOf x)) × (row′ ≡ ahead (x .1) row)
-      go (accepted x) m is y = let (m, k, is, y) = room x m (leb (length (x .1)) (length row)) refl is y in (x, m, k, is, y)
-      go (refused c p) m is y = absurd (never-read family s p (m ∙ ap (λ c. refused c p) (sym (ap numberOf is) ∙ z)))
-
--- ---- writing
-
--- A refusal leaves the buffer.
-pub refused-laying : (has : Bool) (o : Out (List ℕ)) (s : List ℕ) (code : ℕ) (t : List ℕ) → Lays has o s code t → (code ≡ 0 → ⊥) → t ≡ s
-refused-laying true o s code t (z, x) h = refused-stands (into s o) s t code z x h
-refused-laying false o s code t (z, x) h = x
+      number : (o : Out Whole) → numberOf (answerOf o) ≡ 0 → codeOf o ≡ 0
+      number (accepted x) q = refl
+      number (refused c p) q = q
 
 -- ---- heights
 

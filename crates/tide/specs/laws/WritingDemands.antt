@@ -1,26 +1,25 @@
 -- Demands 2 and 3 of the tide telegram, of the promises that its reading, writing and correcting make: a row with the numbers that its records ask for is written as every layout's values are. Assumes nothing.
-use mathlib.Core.Path.{_≡_, refl, sym, _∙_, subst, subst⁻¹}
-use mathlib.Core.Bool.{Bool, true, false, cond}
-use mathlib.Core.List.{List, [], _∷_, _++_}
+use mathlib.Core.Path.{_≡_, sym, ap, _∙_, subst, subst⁻¹}
+use mathlib.Core.Bool.{true, false}
+use mathlib.Core.List.{List, _++_}
 use Prim.Native.Nat.{ℕ, _≤_}
 use native.Mathlib.Omega.{arith}
 use borrow.Author.Tests.{le-leb}
 use lib.ListN.{length, take, drop, length-append}
 use Rattle.bits.specs.Bits.{Bytes}
-use Rattle.bits.specs.laws.Answers.{one-answer}
 use Rattle.format.specs.Codes.{headed}
-use Rattle.format.specs.Fmt.{Out, accepted, refused, check, also}
-use Rattle.format.specs.Message.{fault, codeOf, leaves, into, readMessage, writeMessage, ahead}
+use Rattle.format.specs.Fmt.{accepted, refused, check}
+use Rattle.format.specs.Message.{fault, codeOf, readMessage, writeMessage, ahead}
 use Rattle.format.specs.Promises.{plain, readRecord, Writes, Corrects}
 use Rattle.format.specs.Settled.{SettledBy}
 use Rattle.format.specs.laws.Answers.{plain-good, code-plain}
-use Rattle.format.specs.laws.Family.{never-read, read-values, written-read, read-written}
+use Rattle.format.specs.laws.Family.{never-read, read-values, written-read, read-written, never-written}
 use Rattle.format.specs.laws.Groups.{exact-told, exact-more}
-use Rattle.format.specs.laws.Round.{clash}
+use Rattle.format.specs.laws.Lent.{same-code, enough-lays, accepted-lays, one-laying}
 use Rattle.format.specs.laws.Settled.{settled-with, settled}
 use Rattle.tide.specs.Changed.{spotOf, changed}
 use Rattle.tide.specs.Promises.{toldOf, Reads}
-use Rattle.tide.specs.Record.{Whole, valuesOf, recordOf}
+use Rattle.tide.specs.Record.{valuesOf, recordOf}
 use Rattle.tide.specs.Row.{recordsLong, recordsTold}
 use Rattle.tide.specs.Tide.{tides}
 use Rattle.tide.specs.WritingPromises.{enough, TideWrites}
@@ -35,33 +34,19 @@ use Rattle.tide.specs.laws.Told.{reads-good}
 -- ---- what writing a tide telegram promises, where the row has enough, is what every layout's writing does
 
 pub enough-writes : (s : List ℕ) (r : Tide) (row : List ℕ) (code : ℕ) (u : List ℕ) → enough r row ≡ true → TideWrites s r row code u → Writes tides s code u (valuesOf (r, row))
-enough-writes s r row code u e x =
-    let o = writeMessage tides (valuesOf (r, row)) in
-    subst (λ b. (code ≡ codeOf (into (cond b s []) o)) × (u ≡ cond b (leaves (into s o) s) s)) e x
-
--- no telegram has no bytes
-some-bytes : (m : List ℕ) {x : Whole} → length m ≤ 0 → readRecord tides recordOf m ≡ accepted x → ⊥
-unfolding readMessage tides headed
-some-bytes [] l e = clash e
-some-bytes (b ∷ m) l e = omega arith
+enough-writes s r row code u = enough-lays tides (valuesOf (r, row)) s (enough r row) code u
 
 -- where it answered 0, the row had enough
 pub accepted-writes : (s : List ℕ) (r : Tide) (row u : List ℕ) → TideWrites s r row 0 u → (enough r row ≡ true) × Writes tides s 0 u (valuesOf (r, row))
-accepted-writes s r row u x = go (enough r row) refl
+unfolding tides headed
+accepted-writes s r row u = accepted-lays tides (valuesOf (r, row)) s (enough r row) u (omega arith) never
   where
-    o : Out (List ℕ)
-    o = writeMessage tides (valuesOf (r, row))
-
-    go : (b : Bool) → enough r row ≡ b → (enough r row ≡ true) × Writes tides s 0 u (valuesOf (r, row))
-    go true e = (e, enough-writes s r row 0 u e x)
-    go false e =
-        let w : Writes tides [] 0 (leaves (into [] o) []) (valuesOf (r, row)) = (subst (λ b. 0 ≡ codeOf (into (cond b s []) o)) e (x .0), refl) in
-        let y = written-read family [] (r, recordsTold (r .count) row) _ (exact-told (many (r .count)) row) (subst⁻¹ (Writes tides [] 0 _) (asked-row r row) w) in
-        absurd (some-bytes (y .message) (y .room) (y .reads))
+    never : (p : ℕ) → writeMessage tides (valuesOf (r, row)) ≡ refused 0 p → ⊥
+    never p e = never-written family (r, recordsTold (r .count) row) p (exact-told (many (r .count)) row) (ap (writeMessage tides) (asked-row r row) ∙ e)
 
 -- two answers that it allows are equal
 pub one-writing : (s : List ℕ) (r : Tide) (row : List ℕ) (c d : ℕ) (u w : List ℕ) → TideWrites s r row c u → TideWrites s r row d w → (c ≡ d) × (u ≡ w)
-one-writing s r row c d u w = one-answer (λ c. cond (enough r row) (leaves (into s (writeMessage tides (valuesOf (r, row)))) s) s)
+one-writing s r row = one-laying (enough r row) (writeMessage tides (valuesOf (r, row))) s
 
 -- ---- demand 2
 
@@ -90,10 +75,6 @@ module _ (s row : List ℕ) (a : Told) (row′ : List ℕ) (fine : Bytes s) (rea
 
 -- ---- demand 3
 
-same-code : (o : Out (List ℕ)) → codeOf o ≡ codeOf (also recordOf o)
-same-code (accepted vs) = refl
-same-code (refused c p) = refl
-
 -- Every correction of a tide telegram, by any number and any value. Its own refusal is c; where that is 0, a and row′ are what reading it gave.
 pub corrected : (s row : List ℕ) (a : Told) (row′ : List ℕ) → Bytes s → (c : ℕ) → c ≡ codeOf (readMessage tides s) → (c ≡ 0 → Reads s row (Good a) row′)
     → (i v code : ℕ) (t : List ℕ) → Corrects tides s i v code t
@@ -102,7 +83,7 @@ unfolding tides headed
 corrected s row a row′ fine c own reads i v code t corrects =
     let q = readRecord tides recordOf s in
     let o = check (fault c) 0 (accepted (wholeOf a row′)) in
-    let told : o ≡ plain q = code-plain q c (wholeOf a row′) (own ∙ same-code (readMessage tides s)) (never-read family s) (λ z. good s row a row′ (reads z)) in
+    let told : o ≡ plain q = code-plain q c (wholeOf a row′) (own ∙ same-code recordOf (readMessage tides s)) (never-read family s) (λ z. good s row a row′ (reads z)) in
     settled-with (λ x. spotOf x i) false s v (λ x u d y. Writes tides u d y (valuesOf (changed i v x))) _ o code t
     (λ x p w is there u d y wrote.
     let lent = read-values family s x fine (plain-good q (sym told ∙ is)) .1 in

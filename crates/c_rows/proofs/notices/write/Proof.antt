@@ -6,7 +6,8 @@ use Prim.Native.Nat.{ℕ}
 use native.Mathlib.Omega.{arith}
 use borrow.Author.Tests.{le-leb, lt-leb}
 use Rattle.format.specs.Fmt.{refused}
-use Rattle.notice.specs.WritingPromises.{enough, Lays}
+use Rattle.format.specs.Promises.{Lays}
+use Rattle.notice.specs.WritingPromises.{enough}
 use borrow.Author.Needs.{needs}
 use Rattle.c_rows.proofs.notices.write.Statement.{statement}
 use Rattle.c_rows.proofs.notices.write.Tie as tie

@@ -1,10 +1,10 @@
--- `room` meets its contract.
+-- `room` is no room where the row has too few numbers, else the buffer's.
 use Prim.Native.Nat.{_-_}
 use mathlib.Core.Path.{refl}
 use native.Mathlib.Omega.{arith}
 use borrow.Author.Tests.{lt-ltb, le-ltb}
-use Rattle.tide.proofs.writing.room.Statement.{statement}
-use Rattle.tide.proofs.writing.room.Tie as tie
+use Rattle.walk.proofs.making.room.Statement.{statement}
+use Rattle.walk.proofs.making.room.Tie as tie
 
 returns : tie.Need-returns
 returns c = let a = c .before .args in rw (lt-ltb (a .has) (a .asked) (c .if1 .taken)) refl
