@@ -5,6 +5,7 @@ use mathlib.Core.List.{List, [], _∷_, _++_}
 use lib.Dec.{eqb, leb}
 use lib.ListN.{drop, getD, set}
 use Rattle.format.specs.Fmt.{Spot, none, found}
+use Rattle.tide.specs.Limits.{firstEntry}
 use Rattle.tide.specs.Record.{Whole}
 
 -- n entries, each a time of 21 bits, a sign of 1 and a value of 10
@@ -32,4 +33,4 @@ spotOf x i = getD (none ∷ none ∷ none ∷ none ∷ recordSpots (x .0 .count)
 
 -- how many records there are stays
 unfoldable pub changed : ℕ → ℕ → Whole → Whole
-changed i v x = (x .0, cond (leb 4 i) (set (x .1) (i - 4) v) (x .1))
+changed i v x = (x .0, cond (leb firstEntry i) (set (x .1) (i - firstEntry) v) (x .1))

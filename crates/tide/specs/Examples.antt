@@ -1,17 +1,18 @@
--- Tide telegrams, their bits laid down by hand from document 000, 5.4.2 and tables 6, 8 and B.1: read as the record and the numbers that the tables say, written back as the same bytes, their heights, corrections, and refusals that this telegram alone has.
+-- Tide telegrams, their bits laid down by hand from document 000, 5.4.2 and tables 6, 8 and B.1: read as the record and the numbers that the tables say, written back as the same bytes, their heights, the longest ones, corrections, and refusals that this telegram alone has.
 use Prim.Native.Nat.{ℕ, zero, suc, _+_, _*_}
 use mathlib.Core.Path.{_≡_, refl}
 use mathlib.Core.List.{List, [], _∷_, _++_}
-use lib.IntN.{ℤ, pos, negℤ}
-use lib.ListN.{set}
+use lib.IntN.{pos, negℤ}
+use lib.ListN.{length, set}
 use Rattle.bits.specs.Bits.{bit, valueOf, digits, bitsOf, bytesOf, fieldAt}
 use Rattle.format.specs.Codes.{codes, there, headed}
-use Rattle.format.specs.Fmt.{accepted, refused, readField, read, writeField, sized, write, spot}
+use Rattle.format.specs.Fmt.{accepted, refused, also, after, readField, read, writeField, sized, write, spot}
 use Rattle.format.specs.Groups.{repeat, repeatOf, repeatTold}
 use Rattle.format.specs.Message.{readMessage, writeMessage, correctMessage}
 use Rattle.format.specs.Promises.{readRecord}
 use Rattle.format.specs.Words.{walk, wide}
 use Rattle.tide.specs.Heights.{heightsOf}
+use Rattle.tide.specs.Limits.{mostNumbers, mostHeights}
 use Rattle.tide.specs.Record.{Whole, valuesOf, recordOf}
 use Rattle.tide.specs.Tide.{placed, tides}
 
@@ -86,6 +87,38 @@ longest-written = refl
 longer-refused : writeMessage tides (valuesOf (record { count = 1 }, 1 ∷ angle 31 14 50 ∷ angle 121 29 25 ∷ 1 ∷ 51 ∷ times 51 (at 1 1 2 5 6 ∷ 1 ∷ 12 ∷ []))) ≡ refused 1 0
 unfolding times writeMessage tides headed codes placed write writeField sized walk wide repeat repeatOf repeatTold valuesOf valueOf bit digits bitsOf bytesOf
 longer-refused = refl
+
+-- ---- the most levels: one port with fifty-one; and the most numbers: thirty-three ports, the last with two levels. Each is 1,670 bits, 209 bytes
+
+abbrev mostLevels : Whole
+mostLevels = (record { count = 1 }, 0 ∷ 11 ∷ 0 ∷ mostHeights ∷ times mostHeights (at 0 11 16 14 30 ∷ 1 ∷ 187 ∷ []))
+
+most-levels-many : length (heightsOf 1 (mostLevels .1)) ≡ mostHeights
+unfolding times repeatOf repeatTold
+most-levels-many = refl
+
+most-levels-written : also length (writeMessage tides (valuesOf mostLevels)) ≡ accepted 209
+unfolding times writeMessage tides headed codes placed write writeField sized walk wide repeat repeatOf repeatTold valuesOf valueOf bit digits bitsOf bytesOf
+most-levels-written = refl
+
+most-levels-read : after (writeMessage tides (valuesOf mostLevels)) (readRecord tides recordOf) ≡ accepted mostLevels
+unfolding times readMessage writeMessage tides headed codes there placed read readField write writeField sized walk wide repeat repeatOf repeatTold valuesOf recordOf valueOf bit digits bitsOf bytesOf fieldAt
+most-levels-read = refl
+
+abbrev mostRow : Whole
+mostRow = (record { count = 33 }, times 32 (0 ∷ 11 ∷ 0 ∷ 1 ∷ at 0 11 16 14 30 ∷ 1 ∷ 187 ∷ []) ++ (0 ∷ 15 ∷ 0 ∷ 2 ∷ times 2 (at 0 11 16 14 30 ∷ 1 ∷ 187 ∷ [])))
+
+most-row-many : length (mostRow .1) ≡ mostNumbers
+unfolding times
+most-row-many = refl
+
+most-row-written : also length (writeMessage tides (valuesOf mostRow)) ≡ accepted 209
+unfolding times writeMessage tides headed codes placed write writeField sized walk wide repeat repeatOf repeatTold valuesOf valueOf bit digits bitsOf bytesOf
+most-row-written = refl
+
+most-row-read : after (writeMessage tides (valuesOf mostRow)) (readRecord tides recordOf) ≡ accepted mostRow
+unfolding times readMessage writeMessage tides headed codes there placed read readField write writeField sized walk wide repeat repeatOf repeatTold valuesOf recordOf valueOf bit digits bitsOf bytesOf fieldAt
+most-row-read = refl
 
 -- ---- corrected: the port to Ningbo-Zhoushan (15), the second level's sign and value; and what may not be
 

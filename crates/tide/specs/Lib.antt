@@ -2,6 +2,7 @@
 pub mod Tide
 pub mod Row
 pub mod Record
+pub mod Limits
 pub mod Changed
 pub mod Promises
 pub mod WritingPromises

@@ -15,3 +15,5 @@ pub mod WritingDemands
 pub mod Refused
 pub mod OneForm
 pub mod Shown
+pub mod Most
+pub mod Room

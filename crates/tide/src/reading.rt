@@ -45,8 +45,11 @@ impl Tide {
 
     pub const GREATEST: usize = 210;
 
-    // The number of the field that stands in the row first.
-    pub const FIRST_ENTRY: usize = 4;
+    // The most numbers of a telegram's records.
+    pub const ROW: usize = 234;
+
+    // The most levels.
+    pub const HEIGHTS: usize = 51;
 }
 
 // Type, version and data class.

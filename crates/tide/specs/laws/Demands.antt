@@ -2,14 +2,14 @@
 use mathlib.Core.Path.{_≡_, refl, sym, ap, ap₂, _∙_, subst}
 use mathlib.Core.Bool.{Bool, true, false}
 use mathlib.Core.List.{List, [], _∷_, _++_, append-nil}
-use Prim.Native.Nat.{ℕ, zero, suc, _-_}
+use Prim.Native.Nat.{ℕ, zero, suc, _+_, _-_}
 use native.Mathlib.Omega.{arith}
 use borrow.Author.Tests.{le-leb}
 use lib.Dec.{leb}
-use lib.ListN.{length, take, drop, set, length-drop}
+use lib.ListN.{length, take, drop, getD, set, length-drop}
 use lib.Seq.{take-at}
 use Rattle.format.specs.Codes.{codes, headed}
-use Rattle.format.specs.Fmt.{Out, accepted, refused, check, orBad, end, found, spot}
+use Rattle.format.specs.Fmt.{Out, accepted, refused, check, orBad, end, none, found, spot}
 use Rattle.format.specs.Groups.{repeat}
 use Rattle.format.specs.Message.{ahead}
 use Rattle.format.specs.Promises.{answered, readRecord}
@@ -19,7 +19,8 @@ use Rattle.format.specs.laws.Groups.{told-exact, told-again}
 use Rattle.format.specs.laws.Legal.{Legal, exactly}
 use Rattle.format.specs.laws.Past.{Filled, past-counted, past-filled, legal-filled, filled-set}
 use Rattle.format.specs.laws.Zero.{Counted}
-use Rattle.tide.specs.Changed.{changed}
+use Rattle.tide.specs.Changed.{recordSpots, spotOf, changed}
+use Rattle.tide.specs.Limits.{firstEntry}
 use Rattle.tide.specs.Promises.{housed, toldOf, answerOf, Reads}
 use Rattle.tide.specs.Record.{Whole, leading, valuesOf, recordOf}
 use Rattle.tide.specs.Row.{recordsLong, recordsTold}
@@ -98,6 +99,18 @@ unfolding changed
 changed-is x i v =
     let e : suc (suc (suc (suc i))) - 4 ≡ i = omega arith in
     rw (le-leb 4 (suc (suc (suc (suc i)))) (omega arith), e) refl
+
+-- The row's number j is field firstEntry + j: it is what a correction of that field changes,
+pub entry-changed : (x : Whole) (j v : ℕ) → changed (firstEntry + j) v x ≡ (x .0, set (x .1) j v)
+entry-changed x j v =
+    let e : firstEntry + j ≡ suc (suc (suc (suc j))) = omega arith in
+    ap (λ i. changed i v x) e ∙ changed-is x j v
+
+-- and it stands where the table of the records' numbers says
+pub entry-stands : (x : Whole) (j : ℕ) → spotOf x (firstEntry + j) ≡ getD (recordSpots (x .0 .count) (x .1) 21) j none
+entry-stands x j =
+    let e : firstEntry + j ≡ suc (suc (suc (suc j))) = omega arith in
+    ap (spotOf x) e
 
 -- The changed record has the changed list of values: what may be corrected is no count and no position type, so the row has as many numbers as before.
 pub changes : (x : Whole) (i v p w : ℕ) → Lent x → spot (tides .fmt) [] (valuesOf x) i ≡ found p w → (valuesOf (changed i v x) ≡ set (valuesOf x) i v) × Lent (changed i v x)

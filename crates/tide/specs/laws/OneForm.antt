@@ -152,7 +152,7 @@ records-one (suc n) h k (p ∷ us) (q ∷ vs) x y e =
 -- ---- telegrams
 
 -- the numbers that were read are accepted ones
-read-legal : (s : List ℕ) (x : Whole) → Bytes s → readRecord tides recordOf s ≡ accepted x → Legal (repeat (x .0 .count) tideRecord end) (x .0 .count ∷ 0 ∷ 1 ∷ 0xE4 ∷ []) (x .1)
+pub read-legal : (s : List ℕ) (x : Whole) → Bytes s → readRecord tides recordOf s ≡ accepted x → Legal (repeat (x .0 .count) tideRecord end) (x .0 .count ∷ 0 ∷ 1 ∷ 0xE4 ∷ []) (x .1)
 unfolding tides headed codes valuesOf
 read-legal s x fine e =
     let (m, lent) = read-values family s x fine e in
