@@ -16,4 +16,3 @@ pub mod Refused
 pub mod OneForm
 pub mod Shown
 pub mod Most
-pub mod Room

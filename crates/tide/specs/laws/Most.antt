@@ -1,17 +1,19 @@
--- No telegram that reading accepts has more than 234 numbers in its row, nor more than 51 levels: by the bits that each record takes, of the 1,659 that 210 bytes have behind the head. Assumes nothing.
+-- No telegram that reading accepts has more than 234 numbers in its row, nor more than 51 levels: by the bits that each record takes, of the 1,659 that 210 bytes have behind the head. So rows of that length are never too short. Assumes nothing.
 use Prim.Native.Nat.{ℕ, zero, suc, _+_, _*_, _≤_}
-use mathlib.Core.Path.{_≡_, sym, ap, ap₂, _∙_, subst}
+use mathlib.Core.Path.{_≡_, refl, sym, ap, ap₂, _∙_, subst}
 use mathlib.Core.Bool.{Bool, true, false, cond}
 use mathlib.Core.List.{List, [], _∷_, _++_}
 use native.Mathlib.Omega.{arith}
 use lib.Dec.{eqb}
 use lib.IntN.{ℤ}
 use lib.ListN.{length, drop, getD, length-append}
+use borrow.Author.Tests.{le-leb}
 use Rattle.bits.specs.Bits.{Bytes, bitsOf}
 use Rattle.bits.specs.laws.Bytes.{length-bits}
 use Rattle.format.specs.Codes.{codes, headed}
-use Rattle.format.specs.Fmt.{accepted, Fmt, end}
+use Rattle.format.specs.Fmt.{Out, accepted, refused, Fmt, end, also}
 use Rattle.format.specs.Groups.{repeat, counted, repeatTold}
+use Rattle.format.specs.Message.{into, leaves}
 use Rattle.format.specs.Promises.{readRecord}
 use Rattle.format.specs.Words.{_‥_, num, wide}
 use Rattle.format.specs.laws.Extent.{extent, extent-laid}
@@ -22,10 +24,13 @@ use Rattle.format.specs.laws.Round.{read-write}
 use Rattle.format.specs.laws.Whole.{was, within-sizes}
 use Rattle.notice_fields.specs.Areas.{point}
 use Rattle.tide.specs.Heights.{entryOf, entriesOf, heightsOf}
-use Rattle.tide.specs.HeightsPromises.{heightsIn}
+use Rattle.tide.specs.HeightsPromises.{heightsIn, heightsRead, answerOf as heightsAnswer, Shows}
 use Rattle.tide.specs.Limits.{mostNumbers, mostHeights}
+use Rattle.tide.specs.Promises.{housed, answerOf, Reads}
 use Rattle.tide.specs.Record.{Whole, valuesOf, recordOf}
 use Rattle.tide.specs.Tide.{placed, entry, tideRecord, tides}
+use Rattle.tide.specs.declared.heights.Answer.{Answer as HeightsAnswer}
+use Rattle.tide.specs.declared.reading.Answer.{Answer}
 use Rattle.tide.specs.laws.Demands.{row-is, family}
 use Rattle.tide.specs.laws.OneForm.{read-legal}
 use Rattle.tide.specs.laws.Sound.{sound}
@@ -142,3 +147,20 @@ module _ (s : List ℕ) (x : Whole) (fine : Bytes s) (e : readRecord tides recor
   -- and 51 levels
   pub most-levels : length (heightsIn x) ≤ mostHeights
   most-levels = let (numbers, few, bits) = within in omega (arith, bits, read-bits s x fine e)
+
+-- ---- said of the calls: the answer is reading's own, and never for want of room
+
+module _ (s : List ℕ) (fine : Bytes s) where
+  pub room-enough : (row : List ℕ) (a : Answer) (row′ : List ℕ) → Reads s row a row′ → mostNumbers ≤ length row → a ≡ answerOf (readRecord tides recordOf s)
+  room-enough row a row′ e room = e .0 ∙ ap answerOf (go (readRecord tides recordOf s) refl)
+    where
+      go : (o : Out Whole) → readRecord tides recordOf s ≡ o → housed (length row) o ≡ o
+      go (accepted x) m = rw (le-leb (length (x .1)) (length row) (omega (arith, most-numbers s x fine m, room))) refl
+      go (refused c p) m = refl
+
+  pub room-enough-heights : (row : List ℤ) (a : HeightsAnswer) (t : List ℤ) → Shows s row a t → mostHeights ≤ length row → a ≡ heightsAnswer (also length (heightsRead s))
+  room-enough-heights row a t e room = e .0 ∙ ap heightsAnswer (go (readRecord tides recordOf s) refl)
+    where
+      go : (o : Out Whole) → readRecord tides recordOf s ≡ o → also (λ t. length (leaves (also heightsIn o) [])) (into row (also heightsIn o)) ≡ also length (also heightsIn o)
+      go (accepted x) m = rw (le-leb (length (heightsIn x)) (length row) (omega (arith, most-levels s x fine m, room))) refl
+      go (refused c p) m = refl
