@@ -53,6 +53,7 @@ add-first-2 c =
     let few = subst⁻¹ (λ (p : Stepped). p .next ≤ a .k + 1 + 2) (jp .judge-place .ensures) (place-small (a .row .now) (e .entry .result) (a .k + 1) (v .value .result)) in
     omega (arith, few, st .pre)
 
+-- before `returns`: a build that lets a count of 0 pass is wrong here, and there it is not
 returns-2 : tie.Need-returns-2
 returns-2 c =
     let v3 = c .before .before .before in

@@ -11,6 +11,7 @@ use borrow.Author.Needs.{needs}
 use Rattle.tide.proofs.writing.making.judged.Statement.{statement}
 use Rattle.tide.proofs.writing.making.judged.Tie as tie
 
+-- before `returns`: a build that lets a count of 0 pass is wrong here, and there it is not
 returns-2 : tie.Need-returns-2
 unfolding tides headed codes
 returns-2 c =
