@@ -6,7 +6,6 @@ use lib.ListN.{length, length-set}
 use lib.Seq.{sets}
 use Rattle.walk.specs.Groups.{repeatAt}
 use Rattle.walk.specs.laws.Reading.{got-lt}
-use Rattle.tide.specs.Row.{entryBits}
 use Rattle.tide.specs.Standing.{entriesAt}
 use Rattle.tide.specs.laws.Rows.{entries-turn}
 use borrow.Author.Needs.{needs}
@@ -42,7 +41,7 @@ cast-row : tie.Need-cast-row Inv-loop μ-loop
 cast-row c =
     let l = c .before .before in
     let a = l .before .before .before .args in
-    omega (arith, got-lt (a .s .now) (a .at + l .loop .j * entryBits) 21 (c .get .ensures))
+    omega (arith, got-lt (a .s .now) _ 21 (c .get .ensures))
 
 mul-row : tie.Need-mul-row Inv-loop μ-loop
 mul-row c = omega arith
@@ -60,7 +59,7 @@ cast-row-2 : tie.Need-cast-row-2 Inv-loop μ-loop
 cast-row-2 c =
     let l = c .before .before .before in
     let a = l .before .before .before .args in
-    omega (arith, got-lt (a .s .now) (a .at + l .loop .j * entryBits + 21) 1 (c .get2 .ensures))
+    omega (arith, got-lt (a .s .now) _ 1 (c .get2 .ensures))
 
 add-row : tie.Need-add-row Inv-loop μ-loop
 add-row c = omega arith
@@ -84,7 +83,7 @@ cast-row-3 : tie.Need-cast-row-3 Inv-loop μ-loop
 cast-row-3 c =
     let l = c .before .before .before .before in
     let a = l .before .before .before .args in
-    omega (arith, got-lt (a .s .now) (a .at + l .loop .j * entryBits + 21 + 1) 10 (c .get3 .ensures))
+    omega (arith, got-lt (a .s .now) _ 10 (c .get3 .ensures))
 
 add-row-2 : tie.Need-add-row-2 Inv-loop μ-loop
 add-row-2 c = omega arith

@@ -15,7 +15,7 @@ use Rattle.tide.proofs.row.fill_place.Tie as tie
 cast-row : tie.Need-cast-row
 cast-row c =
     let a = c .before .before .before .before .args in
-    omega (arith, got-lt (a .s .now) (a .at) 6 (c .get .ensures))
+    omega (arith, got-lt (a .s .now) _ 6 (c .get .ensures))
 
 slice-write-row : tie.Need-slice-write-row
 slice-write-row c =
@@ -33,7 +33,7 @@ returns c =
 cast-row-2 : tie.Need-cast-row-2
 cast-row-2 c =
     let a = c .before .before .before .before .args in
-    omega (arith, got-lt (a .s .now) (a .at) latitudeBits (c .get2 .ensures))
+    omega (arith, got-lt (a .s .now) _ latitudeBits (c .get2 .ensures))
 
 slice-write-row-2 : tie.Need-slice-write-row-2
 slice-write-row-2 c =
@@ -45,7 +45,7 @@ slice-write-row-2 c =
 cast-row-3 : tie.Need-cast-row-3
 cast-row-3 c =
     let a = c .before .before .before .before .before .args in
-    omega (arith, got-lt (a .s .now) (a .at + latitudeBits) longitudeBits (c .get3 .ensures))
+    omega (arith, got-lt (a .s .now) _ longitudeBits (c .get3 .ensures))
 
 slice-write-row-3 : tie.Need-slice-write-row-3
 slice-write-row-3 c =

@@ -59,9 +59,8 @@ add-next-2 c = let (wide, long, same, room, k, at) = behind (c .before .before) 
 
 cast-row-2 : tie.Need-cast-row-2
 cast-row-2 c =
-    let p = c .before .before .before in
-    let a = p .before .before .before .before .before .before .before .before .args in
-    omega (arith, got-lt (a .s .now) (a .at + 1 + p .place-of .result .wide) 1 (c .get2 .ensures))
+    let a = c .before .before .before .before .before .before .before .before .before .before .before .args in
+    omega (arith, got-lt (a .s .now) _ 1 (c .get2 .ensures))
 
 mul-row-2 : tie.Need-mul-row-2
 mul-row-2 c = let (wide, long, same, room, k, at) = behind (c .before .before .before) in omega (arith, wide, long, same, room, k, at)
