@@ -3,7 +3,7 @@ use Prim.Native.Nat.{ℕ, zero, suc, _+_, _*_}
 use mathlib.Core.Path.{_≡_, refl}
 use mathlib.Core.List.{List, [], _∷_, _++_}
 use lib.IntN.{pos, negℤ}
-use lib.ListN.{length, set}
+use lib.ListN.{take, length, set}
 use Rattle.bits.specs.Bits.{bit, valueOf, digits, bitsOf, bytesOf, fieldAt}
 use Rattle.format.specs.Codes.{codes, there, headed}
 use Rattle.format.specs.Fmt.{accepted, refused, also, after, readField, read, writeField, sized, write, spot}
@@ -134,6 +134,12 @@ sign-corrected = (refl, refl)
 corrections-refused : (correctMessage tides forecastBytes 14 0 ≡ refused 4 129) × (correctMessage tides forecastBytes 3 1 ≡ refused 10 0) × (correctMessage tides forecastBytes 4 1 ≡ refused 10 0) × (correctMessage tides forecastBytes 8 2 ≡ refused 10 0)
 unfolding correctMessage readMessage writeMessage tides headed codes there placed read readField write writeField sized spot walk wide repeat valueOf bit digits bitsOf bytesOf fieldAt
 corrections-refused = (refl, refl, refl, refl)
+
+-- ---- sizes: 8 bytes of a telegram are 1, 211 zero bytes are 2 and behind good codes 1
+
+sizes : (readMessage tides (take 8 observedBytes) ≡ refused 1 0) × (readMessage tides (times 211 (0 ∷ [])) ≡ refused 2 0) × (readMessage tides (0xE4 ∷ 0x20 ∷ times 209 (0 ∷ [])) ≡ refused 1 0)
+unfolding times readMessage tides headed codes there placed read readField walk wide repeat valueOf bit digits bitsOf bytesOf fieldAt
+sizes = (refl, refl, refl)
 
 -- ---- refused: another class; no records; no entries; a time of zeros, at the month; minus nothing, at the value; a fill bit; a byte left over
 
