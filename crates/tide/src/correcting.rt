@@ -1,18 +1,12 @@
 // Correcting a field of a tide telegram (paper 02, C-11), in its own bytes.
 ghost use Rattle.format.specs.Promises.{Corrects};
 ghost use Rattle.tide.specs.Tide.{tides};
-use crate::reading::Tide;
 use crate::reading::fields;
 use crate::reading::walked;
 use change::correcting::Spot;
 
-impl Tide {
-    // The number of the field that stands in the row first.
-    pub const FIRST_ENTRY: usize = 4;
-}
-
-// Makes field number `field` of the telegram be `value`, or leaves every byte. From `Tide::FIRST_ENTRY` on the fields are the numbers
-// of its records as they stand in the row; those that may be corrected are ports, latitudes, longitudes, forecast marks, times, signs and values.
+// Makes field number `field` of the telegram be `value`, or leaves every byte. From 4 on (`FIRST_ENTRY`) the fields are the numbers of
+// its records as they stand in the row; those that may be corrected are ports, latitudes, longitudes, forecast marks, times, signs and values.
 pub fn correct(buf: &mut [u8], field: usize, value: u64) -> u8
     ensures { λ code. ⌜ Corrects tides (now (buf .entry)) field value code (now (buf .exit)) ⌝ }
 {

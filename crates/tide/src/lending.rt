@@ -3,11 +3,20 @@ ghost use mathlib.Core.Path.{_≡_};
 ghost use Rattle.tide.specs.Limits.{limits};
 use crate::reading::Tide;
 
+impl Tide {
+    // The most numbers of a telegram's records, and the most levels.
+    pub const ROW: usize = 234;
+
+    pub const HEIGHTS: usize = 51;
+
+    // The number of the field that stands in the row first.
+    pub const FIRST_ENTRY: usize = 4;
+}
+
+// A row of `numbers` entries has room for any telegram's numbers, and one of `heights` for its heights.
 pub struct Bounds {
-    // A row of so many entries has room for any telegram's numbers, and one of so many for its heights.
     pub numbers: usize,
     pub heights: usize,
-    // The number of the field that stands in the row first.
     pub first_entry: usize,
 }
 

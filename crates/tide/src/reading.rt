@@ -44,12 +44,6 @@ impl Tide {
     pub const LEAST: usize = 9;
 
     pub const GREATEST: usize = 210;
-
-    // The most numbers of a telegram's records.
-    pub const ROW: usize = 234;
-
-    // The most levels.
-    pub const HEIGHTS: usize = 51;
 }
 
 // Type, version and data class.
