@@ -1,5 +1,5 @@
 -- A tide's records put: an entry, a position by its type, a record, and all of them, by the laws on what a row tells. And one turn of each loop, with the code's own numbers. Assumes nothing.
-use Prim.Native.Nat.{ℕ, suc, _+_, _*_, _%_, _≤_}
+use Prim.Native.Nat.{ℕ, suc, _+_, _%_, _≤_}
 use mathlib.Core.Path.{_≡_, refl, sym, ap, ap₂, _∙_, subst⁻¹}
 use mathlib.Core.Bool.{Bool, true, false, cond}
 use mathlib.Core.List.{List}
@@ -10,7 +10,7 @@ use Rattle.format.specs.Correcting.{putIn}
 use Rattle.format.specs.Groups.{repeat, oneTold}
 use Rattle.format.specs.Words.{_‥_, num, wide}
 use Rattle.walk.specs.Rows.{Put, onePut, evenPutStep}
-use Rattle.walk.specs.laws.RowsPut.{Puts, puts-one, puts-next, puts-decided, puts-as, puts-counted, puts-repeated, puts-near, even-put-turn}
+use Rattle.walk.specs.laws.RowsPut.{Puts, puts-one, puts-next, puts-decided, puts-as, puts-counted, puts-repeated, even-put-turn}
 use Rattle.notice_fields.specs.Areas.{point}
 use Rattle.notice_fields.specs.Making.{pointPut}
 use Rattle.notice_fields.specs.Parts.{pointBits}
@@ -73,6 +73,3 @@ record-small row k at t d =
     let kind = getD row k 0 in
     let (a, b) = place-small row kind (k + 1) (at + 1) (putIn t at 1 kind) refl in
     subst⁻¹ (λ (a : Put). (a .0 .at ≤ at + recordMost) × (a .0 .next ≤ k + longMost)) d (omega (arith, a), omega (arith, b))
-
-pub records-near : (row : List ℕ) (n k at : ℕ) (t : List ℕ) → recordsPut row n k at t .0 .at ≤ at + n * recordMost
-records-near row = puts-near (recordPut row) recordMost (λ k at t. record-small row k at t refl .0)
