@@ -51,3 +51,12 @@ two-packets : listing (part 0x40 (part 0x41 []))
     ≡ head ++ ((0x31 ∷ 0x20 ∷ packet ++ (0x20 ∷ 0x30 ∷ 0x20 ∷ 0x35 ∷ 0x0a ∷ [])) ++ (0x32 ∷ 0x20 ∷ packet ++ (0x20 ∷ 0x34 ∷ 0x20 ∷ 0x35 ∷ 0x0a ∷ [])))
 unfolding listing listingFrom records recordsBy front lines after-all sizeOf entryLine line decimal digitsBy word codeOf readMessage packets layout read readField walk fieldAt valueOf bit digits bitsOf
 two-packets = refl
+
+-- a tide telegram, which has no kind of its own, under kind 2 and under one that 01 does not list: `1 packet 2 9`, `2 unknown 2 9`
+abbrev tide : ℕ → List ℕ → List ℕ
+tide kind rest = 0x0D ∷ 0x00 ∷ kind ∷ 0x00 ∷ 0xE4 ∷ 0x20 ∷ 0x08 ∷ 0xB0 ∷ 0x05 ∷ 0x70 ∷ 0x73 ∷ 0xD2 ∷ 0xEC ∷ rest
+
+two-tides : listing (tide 2 (tide 5 []))
+    ≡ head ++ ((0x31 ∷ 0x20 ∷ packet ++ (0x20 ∷ 0x32 ∷ 0x20 ∷ 0x39 ∷ 0x0a ∷ [])) ++ (0x32 ∷ 0x20 ∷ unknown ++ (0x20 ∷ 0x32 ∷ 0x20 ∷ 0x39 ∷ 0x0a ∷ [])))
+unfolding listing listingFrom records recordsBy front lines after-all sizeOf entryLine line decimal digitsBy word codeOf readMessage packets layout read readField walk fieldAt valueOf bit digits bitsOf
+two-tides = refl
