@@ -9,6 +9,7 @@ pub mod WritingPromises
 pub mod Standing
 pub mod Shapes
 pub mod Steps
+pub mod Entries
 pub mod Heights
 pub mod HeightsPromises
 pub mod Said

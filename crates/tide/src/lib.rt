@@ -10,6 +10,7 @@ pub use crate::reading::refusal;
 pub use crate::writing::write;
 
 pub mod correcting;
+pub mod entries;
 pub mod heights;
 pub mod lending;
 pub mod reading;

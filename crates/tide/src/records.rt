@@ -28,11 +28,12 @@ pub(crate) fn walk(s: &[u8], from: Walk, count: u16) -> Walk
         let n = w.v;
         let mut j: u64 = 0;
         'entries: while j < n {
-            w = entry(s, w);
+            let run = crate::entries::pass(s, w, n - j);
+            w = run.walk;
             if w.code != 0 {
                 break 'records;
             }
-            j += 1;
+            j += run.count;
         }
         i += 1;
     }
@@ -60,7 +61,7 @@ fn position(s: &[u8], kind: Walk) -> Walk
 }
 
 // Time, sign and value.
-fn entry(s: &[u8], w: Walk) -> Walk
+pub(crate) fn entry(s: &[u8], w: Walk) -> Walk
     ensures { λ r. ⌜ r ≡ entryRead (now (s .entry)) w ⌝ }
 {
     let sign = notice_fields::parts::time(s, w).num(s, 1, 0, 1);

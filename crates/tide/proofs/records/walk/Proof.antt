@@ -8,7 +8,7 @@ use borrow.Author.Tests.{eq-eqb, ne-eqb}
 use Rattle.walk.specs.Groups.{repeatWalked}
 use Rattle.walk.specs.declared.walk.Walk.{Walk}
 use Rattle.tide.specs.Steps.{entryStep, recordsWalked}
-use Rattle.tide.specs.laws.Turns.{record-turn, entry-turn}
+use Rattle.tide.specs.laws.Turns.{record-turn}
 use borrow.Author.Needs.{needs}
 use Rattle.tide.proofs.records.walk.Statement.{statement}
 use Rattle.tide.proofs.records.walk.Tie as tie
@@ -18,7 +18,7 @@ abbrev next : List ℕ → ℕ → ℕ → Walk → Walk
 next s count i w = recordsWalked s (count - (i + 1)) w
 
 abbrev Inv-entries : tie.InvT-entries
-Inv-entries s count most w₀ i n j₀ w j = (j ≤ n) × (repeatWalked n (entryStep s) (next s count i) w₀ ≡ repeatWalked (n - j) (entryStep s) (next s count i) w)
+Inv-entries s count most w₀ i n j₀ w j = (j ≤ n) × (repeatWalked n (entryStep s) (next s count i) w₀ ≡ repeatWalked (n - j) (entryStep s) (next s count i) w) × (w .code ≡ 0)
 
 abbrev μ-entries : tie.MeasureT-entries
 μ-entries s count most w₀ i n j₀ w j = n - j
@@ -42,29 +42,39 @@ entries-holds c =
     let a = l .before .before .args in
     let n = o .open-record .result .v in
     let e : n ≡ n - 0 = omega arith in
-    (omega arith, ap (λ m. repeatWalked m (entryStep (a .s .now)) (next (a .s .now) (a .count) (l .records .i)) (o .open-record .result)) e)
+    (omega arith, ap (λ m. repeatWalked m (entryStep (a .s .now)) (next (a .s .now) (a .count) (l .records .i)) (o .open-record .result)) e, c .if1 .left)
 
-entry-requires : tie.Need-entry-requires Inv-entries μ-entries Inv-records μ-records
-entry-requires c κs = search needs
+sub-pass : tie.Need-sub-pass Inv-entries μ-entries Inv-records μ-records
+sub-pass c = omega arith
+
+pass-requires : tie.Need-pass-requires Inv-entries μ-entries Inv-records μ-records
+pass-requires c κs = (omega arith, c .before .entries .inv .2)
 
 add-j : tie.Need-add-j Inv-entries μ-entries Inv-records μ-records
-add-j c = let o = c .before .before .before .before .before .before .before in omega (arith, o .open-record .ok)
+add-j c =
+    let g = c .before .before .before .before in
+    let o = g .before .before .before .before .before in
+    omega (arith, g .pass .ensures .1, o .open-record .ok)
 
 entries-less : tie.Need-entries-less Inv-entries μ-entries Inv-records μ-records
-entries-less c = omega arith
+entries-less c = let g = c .before .before .before .before in omega (arith, g .pass .ensures .0, g .pass .ensures .1)
 
 entries-again : tie.Need-entries-again Inv-entries μ-entries Inv-records μ-records
 entries-again c =
-    let g = c .before .before in
+    let i = c .before in
+    let g = i .before .before .before in
     let p = g .before .before in
     let o = p .before .before .before in
     let l = o .before .before in
     let a = l .before .before .args in
     let s = a .s .now in
     let on = next s (a .count) (l .records .i) in
-    let n = o .open-record .result .v - (p .entries .j + 1) in
-    let w = g .entry .result in
-    (omega arith, p .entries .inv .1 ∙ entry-turn s on n (p .entries .w) (omega arith) (g .entry .ensures) ∙ ap (λ b. cond b (repeatWalked n (entryStep s) on w) w) (eq-eqb (w .code) 0 (c .if2 .left)))
+    let n = o .open-record .result .v - p .entries .j in
+    let x = g .pass .result in
+    let w = x .walk in
+    let (some, few, so) = g .pass .ensures in
+    let left : n - x .count ≡ o .open-record .result .v - (p .entries .j + x .count) = omega (arith, few) in
+    (omega (arith, few), p .entries .inv .1 ∙ so on ∙ ap (λ b. cond b (repeatWalked (n - x .count) (entryStep s) on w) w) (eq-eqb (w .code) 0 (i .if2 .left)) ∙ ap (λ n. repeatWalked n (entryStep s) on w) left, i .if2 .left)
 
 add-i : tie.Need-add-i Inv-entries μ-entries Inv-records μ-records
 add-i c = omega arith
@@ -111,7 +121,7 @@ returns-2 c =
 
 returns-3 : tie.Need-returns-3 Inv-entries μ-entries Inv-records μ-records
 returns-3 c =
-    let g = c .before .before in
+    let g = c .before .before .before in
     let p = g .before .before in
     let i = p .before in
     let o = i .before .before in
@@ -121,12 +131,12 @@ returns-3 c =
     let m = a .count - (l .records .i + 1) in
     let on = recordsWalked s m in
     let u = o .open-record .result in
-    let n = u .v - (p .entries .j + 1) in
-    let w = g .entry .result in
+    let n = u .v - p .entries .j in
+    let x = g .pass .result in
+    let w = x .walk in
     sym (l .records .inv .1 ∙ record-turn s m (l .records .w) (omega arith) (o .open-record .ensures)
     ∙ ap (λ b. cond b (repeatWalked (u .v) (entryStep s) on u) u) (eq-eqb (u .code) 0 (i .if1 .left))
-    ∙ p .entries .inv .1
-    ∙ entry-turn s on n (p .entries .w) (omega arith) (g .entry .ensures) ∙ ap (λ b. cond b (repeatWalked n (entryStep s) on w) w) (ne-eqb (w .code) 0 (c .if2 .taken)))
+    ∙ p .entries .inv .1 ∙ g .pass .ensures .2 on ∙ ap (λ b. cond b (repeatWalked (n - x .count) (entryStep s) on w) w) (ne-eqb (w .code) 0 (c .if2 .taken)))
 
 pub walk-spec : {M : Type 1} → statement M
 walk-spec =
@@ -139,7 +149,8 @@ walk-spec =
     records-holds
     open-record-requires
     entries-holds
-    entry-requires
+    sub-pass
+    pass-requires
     add-j
     entries-less
     entries-again

@@ -1,0 +1,210 @@
+-- Good entries that are walked one by one, field by field, are passed at once: an entry's fields are parts of its 32 bits, and then by induction. Assumes nothing.
+use Prim.Native.Nat.{ℕ, zero, suc, _+_, _-_, _*_, _/_, _%_, _^_, _≤_, _<_}
+use mathlib.Core.Path.{_≡_, refl, sym, ap, _∙_, subst, subst⁻¹}
+use mathlib.Core.Bool.{Bool, true, false, cond, _&&_}
+use mathlib.Core.List.{List}
+use native.Mathlib.Omega.{arith}
+use native.Mathlib.Nat.{zero-add, mod-eq-of-lt}
+use lib.Dec.{leb, ltb, eqb, lit≤}
+use lib.ListN.{length}
+use borrow.Author.Tests.{le-leb, lt-ltb, eq-eqb, ne-eqb, leb-true, ltb-true, ltb-false, eqb-true}
+use Rattle.bits.specs.Answers.{got}
+use Rattle.bits.specs.laws.Answers.{within-fits, got-fits}
+use Rattle.bits.specs.laws.Fields.{field-lt, field-join}
+use Rattle.walk.specs.Faults.{ranging}
+use Rattle.walk.specs.Groups.{repeatWalked}
+use Rattle.walk.specs.Pieces.{unpieced, pieced}
+use Rattle.walk.specs.Reading.{ranged, judgedAs, grouped}
+use Rattle.walk.specs.Walk.{onward}
+use Rattle.walk.specs.declared.pieces.Pieces.{Pieces}
+use Rattle.walk.specs.declared.walk.Walk.{Walk}
+use Rattle.notice_fields.specs.PartsSteps.{momentPieced, momentRead, timeRead}
+use Rattle.tide.specs.Entries.{Good, AllGood, Unsought, passed, Passes}
+use Rattle.tide.specs.Row.{entryBits}
+use Rattle.tide.specs.Steps.{levelRead, entryRead, entryStep}
+use Rattle.tide.specs.Tide.{leastOf}
+use Rattle.tide.specs.laws.Turns.{entry-turn}
+
+-- ---- one step, where nothing was refused before and the field is not sought
+
+abbrev moved : ℕ → ℕ → ℕ → Walk → Walk
+moved w v i r = record { at = r .at + w; code = 0; offset = r .at + i; v = v; seek = r .seek; left = r .left - 1; spot = r .spot; width = r .width }
+
+onward-good : (w v i c : ℕ) (r : Walk) → r .code ≡ 0 → c ≡ 0 → i ≤ w → r .at + w < 2 ^ 64 → Unsought 1 r → onward w true v c i r ≡ moved w v i r
+unfolding onward
+onward-good w v i c r z y l reach u = go (r .seek) refl
+  where
+    go : (b : Bool) → r .seek ≡ b → onward w true v c i r ≡ moved w v i r
+    go true e =
+        let n : 1 ≤ r .left = u e in
+        rw (z, y, e, ne-eqb (r .left) 0 (λ z. omega arith), mod-eq-of-lt reach, mod-eq-of-lt {n = r .at + i} {m = 2 ^ 64} (omega arith)) refl
+    go false e = rw (z, y, e, mod-eq-of-lt reach, mod-eq-of-lt {n = r .at + i} {m = 2 ^ 64} (omega arith)) refl
+
+-- a number between its limits has no fault
+between : (v lo hi : ℕ) → lo ≤ v → v ≤ hi → _≡_ {A = ℕ} (cond (leb lo v && leb v hi) 0 4) 0
+between v lo hi l h = rw (le-leb lo v l, le-leb v hi h) refl
+
+ranged-good : (s : List ℕ) (w lo hi : ℕ) (r : Walk) → w ≤ 32 → r .at + w ≤ length s * 8 → r .at + w < 2 ^ 64 → lo ≤ got s (r .at) w → got s (r .at) w ≤ hi → r .code ≡ 0 → Unsought 1 r
+    → ranged s w true lo hi 4 r ≡ moved w (got s (r .at) w) 0 r
+ranged-good s w lo hi r small fits reach l h z u =
+    let v = got s (r .at) w in
+    onward-good w v 0 (ranging s (r .at) w lo hi 4) r z
+    (ap (λ b. cond b (cond (leb lo v && leb v hi) 0 4) 1) (within-fits (length s) (r .at) w small fits) ∙ between v lo hi l h) (omega arith) reach u
+
+-- ---- a time
+
+piece-good : (w lo hi : ℕ) (g : Pieces) → g .code ≡ 0 → lo ≤ g .v / 2 ^ (g .left - w) % 2 ^ w → g .v / 2 ^ (g .left - w) % 2 ^ w ≤ hi → pieced w lo hi g .code ≡ 0
+unfolding pieced
+piece-good w lo hi g z l h = ap (λ c. cond (eqb c 0) (cond (leb lo u && leb u hi) 0 4) c) z ∙ between u lo hi l h
+  where
+    u : ℕ
+    u = g .v / 2 ^ (g .left - w) % 2 ^ w
+
+-- no part has a fault, and the last begins 15 bits in
+moment-good : (v : ℕ) → v < 2 ^ 21 → 1 ≤ v / 2 ^ 16 % 16 → v / 2 ^ 16 % 16 ≤ 12 → 1 ≤ v / 2 ^ 11 % 32 → v / 2 ^ 6 % 32 ≤ 23 → v % 64 ≤ 59 → (momentPieced v .code ≡ 0) × (momentPieced v .into ≡ 15)
+unfolding pieced
+moment-good v small m1 m2 d h n =
+    let g = unpieced 21 v in
+    let g1 = pieced 1 0 1 g in
+    let g2 = pieced 4 1 12 g1 in
+    let g3 = pieced 5 1 31 g2 in
+    let g4 = pieced 5 0 23 g3 in
+    let a : g1 .code ≡ 0 = piece-good 1 0 1 g (ap (λ b. cond b 0 4) (lt-ltb v (2 ^ 21) small)) (omega arith) (omega arith) in
+    let b : g2 .code ≡ 0 = piece-good 4 1 12 g1 a m1 m2 in
+    let c : g3 .code ≡ 0 = piece-good 5 1 31 g2 b d (omega arith) in
+    let e : g4 .code ≡ 0 = piece-good 5 0 23 g3 c (omega arith) h in
+    let last : v / 2 ^ 0 % 2 ^ 6 ≤ 59 = omega arith in
+    (piece-good 6 0 59 g4 e (omega arith) last, ap (λ c. cond (eqb c 0) 15 (g4 .into)) e)
+
+-- ---- an entry
+
+module _ (s : List ℕ) where
+  -- what is good is there, since what is not there counts as 0
+  good-there : (at : ℕ) → Good (got s at 32) → at + 32 ≤ length s * 8
+  good-there at g = go (leb (at + 32) (length s * 8)) refl
+    where
+      go : (x : Bool) → leb (at + 32) (length s * 8) ≡ x → at + 32 ≤ length s * 8
+      go true e = leb-true (at + 32) (length s * 8) e
+      go false e = let z : got s at 32 ≡ 0 = rw e refl in absurd (omega (arith, g, z))
+
+  -- its fields are parts of its 32 bits
+  record Parts (at : ℕ) : Type 0 where
+    time : got s at 32 ≡ got s at 21 * 2_048 + (got s (at + 21) 1 * 1_024 + got s (at + 21 + 1) 10)
+    one : got s at 21 < 2 ^ 21
+    two : got s (at + 21) 1 < 2
+    three : got s (at + 21 + 1) 10 < 1_024
+
+  parts : (at : ℕ) → at + 32 ≤ length s * 8 → Parts at
+  parts at fits =
+      let a = got-fits s at 32 (lit≤ tt) fits in
+      let b = got-fits s at 21 (lit≤ tt) (omega arith) in
+      let c = got-fits s (at + 21) 1 (lit≤ tt) (omega arith) in
+      let d = got-fits s (at + 21 + 1) 10 (lit≤ tt) (omega arith) in
+      let j = field-join s at 21 11 fits in
+      let k = field-join s (at + 21) 1 10 (omega arith) in
+      record {
+        time = omega (arith, a, b, c, d, j, k);
+        one = omega (arith, b, field-lt s at 21);
+        two = omega (arith, c, field-lt s (at + 21) 1);
+        three = omega (arith, d, field-lt s (at + 21 + 1) 10);
+      }
+
+  least-good : (sign v : ℕ) → 1 ≤ sign * 1_024 + v → leastOf sign ≤ v
+  least-good sign v l = go (eqb sign 0) refl
+    where
+      go : (x : Bool) → eqb sign 0 ≡ x → leastOf sign ≤ v
+      go true e = rw e (omega (arith, eqb-true sign 0 e))
+      go false e = rw e (omega arith)
+
+  module _ (r : Walk) (z : r .code ≡ 0) (reach : r .at + 32 < 2 ^ 64) (g : Good (got s (r .at) 32)) (u : Unsought 3 r) where
+    abbrev timed : Walk
+    timed = moved 21 (got s (r .at) 21) 15 r
+
+    abbrev signed : Walk
+    signed = moved 1 (got s (timed .at) 1) 0 timed
+
+    fits : r .at + 32 ≤ length s * 8
+    fits = good-there (r .at) g
+
+    time-good : timeRead s r ≡ timed
+    unfolding pieced
+    time-good =
+        let p = parts (r .at) fits in
+        let v = got s (r .at) 21 in
+        let m = moment-good v (p .one) (omega (arith, p .time, g, p .two, p .three)) (omega (arith, p .time, g, p .two, p .three)) (omega (arith, p .time, g, p .two, p .three)) (omega (arith, p .time, g, p .two, p .three)) (omega (arith, p .time, g, p .two, p .three)) in
+        ap (λ b. cond b (judgedAs (momentPieced v) r) (grouped s 21 (momentRead s r) r)) (within-fits (length s) (r .at) 21 (lit≤ tt) (omega (arith, fits)))
+        ∙ ap (λ i. onward 21 true v (momentPieced v .code) i r) (m .1) ∙ onward-good 21 v 15 (momentPieced v .code) r z (m .0) (lit≤ tt) (omega arith) (λ e. let n = u e in omega arith)
+
+    pub entry-good : entryRead s r ≡ moved 10 (got s (signed .at) 10) 0 signed
+    entry-good =
+        let p = parts (r .at) fits in
+        let sign = got s (r .at + 21) 1 in
+        let v = got s (r .at + 21 + 1) 10 in
+        ap (levelRead s) time-good
+        ∙ ap (λ (q : Walk). ranged s 10 true (leastOf (q .v)) 1_023 4 q) (ranged-good s 1 0 1 timed (lit≤ tt) (omega (arith, fits)) (omega arith) (omega arith) (omega (arith, p .two)) refl (λ e. let n = u e in omega arith))
+        ∙ ranged-good s 10 (leastOf sign) 1_023 signed (lit≤ tt) (omega (arith, fits)) (omega arith) (least-good sign v (omega (arith, p .time, g))) (omega (arith, p .three)) refl (λ e. let n = u e in omega arith)
+
+  -- ---- many
+
+  -- where the walk stands behind m entries
+  record Behind (m : ℕ) (r q : Walk) : Type 0 where
+    here : q .at ≡ r .at + m * entryBits
+    clear : q .code ≡ 0
+    seeking : q .seek ≡ r .seek
+    fewer : q .left ≡ r .left - m * 3
+    spot : q .spot ≡ r .spot
+    width : q .width ≡ r .width
+
+  behind : (m : ℕ) (r : Walk) → r .code ≡ 0 → Behind m r (passed s m r)
+  unfolding passed
+  behind zero r z = record { here = omega arith; clear = z; seeking = refl; fewer = omega arith; spot = refl; width = refl }
+  behind (suc m) r z = record { here = refl; clear = refl; seeking = refl; fewer = refl; spot = refl; width = refl }
+
+  one-more : (m : ℕ) (r : Walk) → r .code ≡ 0 → r .at + suc m * entryBits < 2 ^ 64 → Good (got s (r .at + m * entryBits) 32) → Unsought (suc m * 3) r → entryRead s (passed s m r) ≡ passed s (suc m) r
+  unfolding passed
+  one-more m r z reach g u =
+      let q = passed s m r in
+      let b = behind m r z in
+      let at : q .at + 21 + 1 + 10 ≡ r .at + suc m * entryBits = omega (arith, b .here) in
+      let last : q .at + 21 + 1 + 0 ≡ r .at + m * entryBits + 22 = omega (arith, b .here) in
+      let value : q .at + 21 + 1 ≡ r .at + m * entryBits + 22 = omega (arith, b .here) in
+      let left : q .left - 1 - 1 - 1 ≡ r .left - suc m * 3 = omega (arith, b .fewer) in
+      entry-good q (b .clear) (omega (arith, b .here)) (subst⁻¹ (λ p. Good (got s p 32)) (b .here) g) (λ e. let n = u (sym (b .seeking) ∙ e) in omega (arith, b .fewer))
+      ∙ (λ i. record { at = at i; code = 0; offset = last i; v = got s (value i) 10; seek = b .seeking i; left = left i; spot = b .spot i; width = b .width i })
+
+  -- m good entries, and k behind them
+  pub all-passed : (next : Walk → Walk) (m k : ℕ) (r : Walk) → r .code ≡ 0 → r .at + m * entryBits < 2 ^ 64 → AllGood s (r .at) m → Unsought (m * 3) r
+      → repeatWalked (m + k) (entryStep s) next r ≡ repeatWalked k (entryStep s) next (passed s m r)
+  unfolding passed
+  all-passed next zero k r z reach g u = ap (λ n. repeatWalked n (entryStep s) next r) (zero-add k)
+  all-passed next (suc m) k r z reach g u =
+      let same : suc m + k ≡ m + suc k = omega arith in
+      let q = passed s (suc m) r in
+      ap (λ n. repeatWalked n (entryStep s) next r) same
+      ∙ all-passed next m (suc k) r z (omega arith) (λ i l. g i (omega arith)) (λ e. let n = u e in omega arith)
+      ∙ entry-turn s next k (passed s m r) refl (sym (one-more m r z reach (g m (omega arith)) u))
+
+  -- the same as the code makes it
+  pub passed-as : (m : ℕ) (r : Walk) {v left : ℕ} → 1 ≤ m → v ≡ got s (r .at + m * entryBits - 10) 10 → left ≡ r .left - m * 3
+      → record { at = r .at + m * entryBits; code = 0; offset = r .at + m * entryBits - 10; v = v; seek = r .seek; left = left; spot = r .spot; width = r .width } ≡ passed s m r
+  unfolding passed
+  passed-as zero r l x y = absurd (omega arith)
+  passed-as (suc m) r l x y =
+      let last : r .at + suc m * entryBits - 10 ≡ r .at + m * entryBits + 22 = omega arith in
+      λ i. record { at = r .at + suc m * entryBits; code = 0; offset = last i; v = (x ∙ ap (λ p. got s p 10) last) i; seek = r .seek; left = y i; spot = r .spot; width = r .width }
+
+  pub run-passes : (n m : ℕ) (r : Walk) {q : Walk} → 1 ≤ m → m ≤ n → r .code ≡ 0 → r .at + m * entryBits < 2 ^ 64 → AllGood s (r .at) m → Unsought (m * 3) r → q ≡ passed s m r → Passes s n r (record { walk = q; count = m })
+  run-passes n m r {q} some few z reach g u e = (
+    some,
+    few,
+    λ next. ap (λ n. repeatWalked n (entryStep s) next r) (omega arith) ∙ all-passed next m (n - m) r z reach g u ∙ ap (repeatWalked (n - m) (entryStep s) next) (sym e)
+        ∙ sym (ap (λ b. cond b (repeatWalked (n - m) (entryStep s) next q) q) (eq-eqb (q .code) 0 (ap (λ (q : Walk). q .code) e ∙ behind m r z .clear))),
+  )
+
+  -- one good entry more
+  pub good-more : (at j : ℕ) {v : ℕ} → AllGood s at j → v ≡ got s (at + j * entryBits) 32 → Good v → AllGood s at (j + 1)
+  good-more at j a e g i l = go (ltb i j) refl
+    where
+      go : (x : Bool) → ltb i j ≡ x → Good (got s (at + i * entryBits) 32)
+      go true t = a i (ltb-true i j t)
+      go false t = let is : j ≡ i = omega (arith, ltb-false i j t) in subst (λ v. Good v) (e ∙ ap (λ i. got s (at + i * entryBits) 32) is) g
