@@ -12,6 +12,8 @@ use crate::records::HIGHEST;
 use crate::records::MOST;
 use crate::records::PORT;
 use crate::row::ENTRY;
+use crate::writing::entries::all_good;
+use crate::writing::entries::pass;
 use crate::writing::entries::put_entry;
 use notice_fields::parts::LATITUDE;
 use notice_fields::parts::LONGITUDE;
@@ -105,11 +107,14 @@ fn judge_place(w: Walk, row: &[u32], k: usize, kind: u64) -> Stepped
     Stepped { walk, next: k + 2 }
 }
 
-// Time, sign and value of n entries.
+// Time, sign and value of n entries: one by one only where one of them is refused.
 fn judge_entries(from: Walk, row: &[u32], k: usize, n: usize) -> Walk
     requires { ⌜ (n ≤ 511) × (k ≤ 2 ^ 41) ⌝ }
     ensures { λ r. ⌜ r ≡ entriesJudged (now (row .entry)) n k from ⌝ }
 {
+    if all_good(from, row, k, n) {
+        return pass(from, row, k, n);
+    }
     let mut w = from;
     let mut j: usize = 0;
     while j < n {
