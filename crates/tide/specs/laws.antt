@@ -9,6 +9,8 @@ pub mod Told
 pub mod Spots
 pub mod Demands
 pub mod Judging
+pub mod Whole
+pub mod Packed
 pub mod Putting
 pub mod Writing
 pub mod Heights

@@ -3,6 +3,7 @@ ghost use Rattle.tide.specs.WritingPromises.{TideWrites};
 use crate::reading::Tide;
 use walk::making::room;
 
+mod entries;
 mod making;
 
 // Writes the telegram into the front of a lent buffer: its count and the numbers of its records are judged, then the size that

@@ -1,5 +1,5 @@
 -- A tide's records put: an entry, a position by its type, a record, and all of them, by the laws on what a row tells. And one turn of each loop, with the code's own numbers. Assumes nothing.
-use Prim.Native.Nat.{ℕ, suc, _+_, _%_, _≤_}
+use Prim.Native.Nat.{ℕ, _+_, _%_, _≤_}
 use mathlib.Core.Path.{_≡_, refl, sym, ap, ap₂, _∙_, subst⁻¹}
 use mathlib.Core.Bool.{Bool, true, false, cond}
 use mathlib.Core.List.{List}
@@ -10,13 +10,13 @@ use Rattle.format.specs.Correcting.{putIn}
 use Rattle.format.specs.Groups.{repeat, oneTold}
 use Rattle.format.specs.Words.{_‥_, num, wide}
 use Rattle.walk.specs.Rows.{Put, onePut, evenPutStep}
-use Rattle.walk.specs.laws.RowsPut.{Puts, puts-one, puts-next, puts-decided, puts-as, puts-counted, puts-repeated, even-put-turn}
+use Rattle.walk.specs.laws.RowsPut.{Puts, puts-one, puts-next, puts-decided, puts-as, puts-counted, puts-repeated}
 use Rattle.notice_fields.specs.Areas.{point}
 use Rattle.notice_fields.specs.Making.{pointPut}
 use Rattle.notice_fields.specs.Parts.{pointBits}
 use Rattle.notice_fields.specs.Row.{pointTold}
 use Rattle.notice_fields.specs.laws.Putting.{a-point-put}
-use Rattle.tide.specs.Making.{entryPut, entriesPut, placedPut, recordPut, recordsPut}
+use Rattle.tide.specs.Making.{entryPut, placedPut, recordPut, recordsPut}
 use Rattle.tide.specs.Row.{placedLong, entryBits, longMost, recordMost, recordsLong, placedTold, someTime, entryTold, recordsTold}
 use Rattle.tide.specs.Tide.{placed, entry, tideRecord}
 
@@ -43,12 +43,6 @@ module _ (row : List ℕ) where
   records-put n = puts-repeated (puts-next (puts-decided row 0 1 (lit≤ tt) _ a-place-put) (puts-next (puts-one 0 1 _ _ (lit≤ tt)) (puts-counted row 1 9 (lit≤ tt) _ entryBits an-entry-put))) n
 
 -- ---- turns of the loops
-
-pub entry-turn : (row : List ℕ) (n k at : ℕ) {m k′ at′ a b c : ℕ} (t : List ℕ) {p q u : List ℕ} → m ≡ suc n → k′ ≡ k + 3 → at′ ≡ at + entryBits → a ≡ getD row k someTime → b ≡ getD row (k + 1) 1 → c ≡ getD row (k + 2) 1
-    → p ≡ putIn t at 21 a → q ≡ putIn p (at + 21) 1 b → u ≡ putIn q (at + 21 + 1) 10 c → entriesPut row m k at t ≡ entriesPut row n k′ at′ u
-entry-turn row n k at t e f h ea eb ec d g y =
-    even-put-turn 3 entryBits n (entryPut row) k at t e f h
-    (y ∙ ap₂ (λ q c. putIn q (at + 21 + 1) 10 c) (g ∙ ap₂ (λ p b. putIn p (at + 21) 1 b) (d ∙ ap (λ a. putIn t at 21 a) ea) eb) ec)
 
 pub record-turn : (row : List ℕ) (k at : ℕ) (t : List ℕ) {kind c : ℕ} {u m v : List ℕ} {p : Put} → kind ≡ getD row k 0 → u ≡ putIn t at 1 kind → p ≡ placedPut row kind (k + 1) (at + 1) u
     → m ≡ putIn (p .1) (p .0 .at) 1 (getD row (p .0 .next) 0) → c ≡ getD row (p .0 .next + 1) 1 → v ≡ putIn m (p .0 .at + 1) 9 c

@@ -12,7 +12,9 @@ use crate::records::HIGHEST;
 use crate::records::MOST;
 use crate::records::PORT;
 use crate::row::ENTRY;
-use crate::row::TIME;
+use crate::writing::entries::all_good;
+use crate::writing::entries::pass;
+use crate::writing::entries::put_entry;
 use notice_fields::parts::LATITUDE;
 use notice_fields::parts::LONGITUDE;
 use notice_fields::parts::POINT;
@@ -26,7 +28,7 @@ const COUNTS: u64 = 512;
 
 // What counts for a number that the row has not is good: of a time 1 January, 0:00. So a row that is too short is refused for
 // that alone (6, last).
-const SOME_TIME: u64 = 0x1_0800;
+pub(crate) const SOME_TIME: u64 = 0x1_0800;
 
 // ---- judging
 
@@ -105,11 +107,14 @@ fn judge_place(w: Walk, row: &[u32], k: usize, kind: u64) -> Stepped
     Stepped { walk, next: k + 2 }
 }
 
-// Time, sign and value of n entries.
+// Time, sign and value of n entries: one by one only where one of them is refused.
 fn judge_entries(from: Walk, row: &[u32], k: usize, n: usize) -> Walk
     requires { ⌜ (n ≤ 511) × (k ≤ 2 ^ 41) ⌝ }
     ensures { λ r. ⌜ r ≡ entriesJudged (now (row .entry)) n k from ⌝ }
 {
+    if all_good(from, row, k, n) {
+        return pass(from, row, k, n);
+    }
     let mut w = from;
     let mut j: usize = 0;
     while j < n {
@@ -221,11 +226,7 @@ fn put_entries(buf: &mut [u8], at: usize, row: &[u32], k: usize, n: usize)
 {
     let mut j: usize = 0;
     while j < n {
-        let here = at + j * ENTRY;
-        let from = k + j * 3;
-        bits::put(buf, here, TIME, entry(row, from, SOME_TIME));
-        bits::put(buf, here + TIME, 1, entry(row, from + 1, 1));
-        bits::put(buf, here + TIME + 1, 10, entry(row, from + 2, 1));
+        put_entry(buf, at + j * ENTRY, row, k + j * 3);
         j += 1;
     }
 }

@@ -3,12 +3,10 @@ use Prim.Native.Nat.{_+_, _-_, _*_, _≤_}
 use mathlib.Core.Path.{_≡_, refl, sym, ap, _∙_}
 use native.Mathlib.Omega.{arith}
 use lib.ListN.{length}
-use Rattle.format.specs.Correcting.{put-in}
 use Rattle.walk.specs.Rows.{evenPut}
-use Rattle.tide.specs.Making.{entriesPut}
+use Rattle.walk.specs.laws.RowsPut.{even-put-turn}
+use Rattle.tide.specs.Making.{entryPut, entriesPut}
 use Rattle.tide.specs.Row.{entryBits}
-use Rattle.tide.specs.laws.Putting.{entry-turn}
-use borrow.Author.Needs.{needs}
 use Rattle.tide.proofs.writing.making.put_entries.Statement.{statement}
 use Rattle.tide.proofs.writing.making.put_entries.Tie as tie
 
@@ -26,50 +24,20 @@ loop-holds c =
     let at : a .at ≡ a .at + 0 * entryBits = omega arith in
     (omega arith, refl, λ i. entriesPut (a .row .now) (m i) (k i) (at i) (a .buf .now))
 
-mul-here : tie.Need-mul-here Inv-loop μ-loop
-mul-here c = omega arith
+mul-put-entry : tie.Need-mul-put-entry Inv-loop μ-loop
+mul-put-entry c = omega arith
 
-add-here : tie.Need-add-here Inv-loop μ-loop
-add-here c = omega arith
+add-put-entry : tie.Need-add-put-entry Inv-loop μ-loop
+add-put-entry c = omega arith
 
-mul-from : tie.Need-mul-from Inv-loop μ-loop
-mul-from c = omega arith
+mul-put-entry-2 : tie.Need-mul-put-entry-2 Inv-loop μ-loop
+mul-put-entry-2 c = omega arith
 
-add-from : tie.Need-add-from Inv-loop μ-loop
-add-from c = omega arith
+add-put-entry-2 : tie.Need-add-put-entry-2 Inv-loop μ-loop
+add-put-entry-2 c = omega arith
 
-entry-requires : tie.Need-entry-requires Inv-loop μ-loop
-entry-requires c κs = search needs
-
-put-requires : tie.Need-put-requires Inv-loop μ-loop
-put-requires c κs = search needs
-
-add-put : tie.Need-add-put Inv-loop μ-loop
-add-put c = omega arith
-
-add-entry : tie.Need-add-entry Inv-loop μ-loop
-add-entry c = omega arith
-
-entry-requires-2 : tie.Need-entry-requires-2 Inv-loop μ-loop
-entry-requires-2 c κs = search needs
-
-put-requires-2 : tie.Need-put-requires-2 Inv-loop μ-loop
-put-requires-2 c κs = search needs
-
-add-put-2 : tie.Need-add-put-2 Inv-loop μ-loop
-add-put-2 c = omega arith
-
-add-put-3 : tie.Need-add-put-3 Inv-loop μ-loop
-add-put-3 c = omega arith
-
-add-entry-2 : tie.Need-add-entry-2 Inv-loop μ-loop
-add-entry-2 c = omega arith
-
-entry-requires-3 : tie.Need-entry-requires-3 Inv-loop μ-loop
-entry-requires-3 c κs = search needs
-
-put-requires-3 : tie.Need-put-requires-3 Inv-loop μ-loop
-put-requires-3 c κs = search needs
+put-entry-requires : tie.Need-put-entry-requires Inv-loop μ-loop
+put-entry-requires c κs = (omega arith, omega arith)
 
 add-j : tie.Need-add-j Inv-loop μ-loop
 add-j c = omega arith
@@ -79,20 +47,13 @@ loop-less c = omega arith
 
 loop-again : tie.Need-loop-again Inv-loop μ-loop
 loop-again c =
-    let p3 = c .before .before in
-    let e3 = p3 .before in
-    let p2 = e3 .before .before .before .before in
-    let e2 = p2 .before in
-    let p1 = e2 .before .before .before .before in
-    let e1 = p1 .before in
-    let l = e1 .before .before .before in
+    let p = c .before .before in
+    let l = p .before .before .before in
     let a = l .before .before .before .args in
-    let j = l .loop .j in
-    let here = a .at + j * entryBits in (
+    let j = l .loop .j in (
       omega arith,
-      p3 .put3 .kept .0 ∙ p2 .put2 .kept .0 ∙ p1 .put .kept .0 ∙ l .loop .inv .1,
-      l .loop .inv .2 ∙ entry-turn (a .row .now) (a .n - (j + 1)) (a .k + j * 3) here (l .loop .buf) (omega arith) (omega arith) (omega arith) (e1 .entry .ensures) (e2 .entry2 .ensures) (e3 .entry3 .ensures)
-          (put-in (l .loop .buf) here 21 (e1 .entry .result) (p1 .put .ensures)) (put-in _ (here + 21) 1 (e2 .entry2 .result) (p2 .put2 .ensures)) (put-in _ (here + 21 + 1) 10 (e3 .entry3 .result) (p3 .put3 .ensures)),
+      p .put-entry .kept .0 ∙ l .loop .inv .1,
+      l .loop .inv .2 ∙ even-put-turn 3 entryBits (a .n - (j + 1)) (entryPut (a .row .now)) (a .k + j * 3) (a .at + j * entryBits) (l .loop .buf) (omega arith) (omega arith) (omega arith) (p .put-entry .ensures),
     )
 
 same-length : tie.Need-same-length Inv-loop μ-loop
@@ -113,21 +74,11 @@ put-entries-spec =
     Inv-loop
     μ-loop
     loop-holds
-    mul-here
-    add-here
-    mul-from
-    add-from
-    entry-requires
-    put-requires
-    add-put
-    add-entry
-    entry-requires-2
-    put-requires-2
-    add-put-2
-    add-put-3
-    add-entry-2
-    entry-requires-3
-    put-requires-3
+    mul-put-entry
+    add-put-entry
+    mul-put-entry-2
+    add-put-entry-2
+    put-entry-requires
     add-j
     loop-less
     loop-again

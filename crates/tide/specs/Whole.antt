@@ -1,0 +1,37 @@
+-- Entries that are good as they stand, and the walk behind them. Assumes nothing.
+use Prim.Native.Nat.{ℕ, _+_, _*_, _/_, _%_, _^_, _≤_, _<_}
+use mathlib.Core.Bool.{false}
+use mathlib.Core.Path.{_≡_}
+use mathlib.Core.List.{List}
+use lib.ListN.{getD}
+use Rattle.walk.specs.declared.walk.Walk.{Walk}
+use Rattle.tide.specs.Row.{someTime}
+use Rattle.tide.specs.Tide.{leastOf}
+
+-- a sign, and a value of at most ten bits that is not 0 behind sign 0
+abbrev pub GoodLevel : ℕ → ℕ → Type 0
+GoodLevel sign value = (sign ≤ 1) × (leastOf sign ≤ value) × (value ≤ 1_023)
+
+-- an entry's three numbers
+pub record GoodEntry (time sign value : ℕ) : Type 0 where
+  pub narrow : time < 2 ^ 21
+  pub month : (1 ≤ time / 2 ^ 16 % 2 ^ 4) × (time / 2 ^ 16 % 2 ^ 4 ≤ 12)
+  pub day : 1 ≤ time / 2 ^ 11 % 2 ^ 5
+  pub hour : time / 2 ^ 6 % 2 ^ 5 ≤ 23
+  pub minute : time % 2 ^ 6 ≤ 59
+  pub level : GoodLevel sign value
+
+-- n entries, from number k of the row on
+abbrev pub GoodEntries : List ℕ → ℕ → ℕ → Type 0
+GoodEntries row n k = (j : ℕ) → j < n → let i = k + j * 3 in GoodEntry (getD row i someTime) (getD row (i + 1) 1) (getD row (i + 2) 1)
+
+-- a walk that has refused nothing and seeks no field
+abbrev pub quiet : (at offset v spot width : ℕ) → Walk
+quiet at offset v spot width = record { at = at; code = 0; offset = offset; v = v; seek = false; left = 0; spot = spot; width = width }
+
+-- such a walk may pass n entries at once
+pub record Passes (row : List ℕ) (n k : ℕ) (w : Walk) : Type 0 where
+  pub is : w ≡ quiet (w .at) (w .offset) (w .v) (w .spot) (w .width)
+  pub near : w .at < 2 ^ 32
+  pub some : 1 ≤ n
+  pub good : GoodEntries row n k

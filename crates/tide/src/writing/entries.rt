@@ -1,0 +1,160 @@
+// The entries of a tide telegram that is written: good ones are judged as a whole, and each is put as one number of 32 bits.
+ghost use mathlib.Core.Bool.{true};
+ghost use mathlib.Core.Path.{_≡_};
+ghost use Prim.Native.Nat.{_+_, _*_, _^_, _≤_, _<_};
+ghost use Rattle.tide.specs.Making.{entriesJudged, entryPut};
+ghost use Rattle.tide.specs.Whole.{GoodLevel, GoodEntry, GoodEntries, Passes};
+use crate::row::ENTRY;
+use crate::row::TIME;
+use crate::writing::making::SOME_TIME;
+use walk::choosing::both;
+use walk::making::entry;
+use walk::walk::Walk;
+
+// No message comes near this bit.
+const FAR: usize = 0x1_0000_0000;
+
+// ---- judging
+
+// Whether n entries, at least one, are all in the row and good, and the walk has refused nothing and seeks no field. Where not, they are judged one by one.
+pub(crate) fn all_good(w: Walk, row: &[u32], k: usize, n: usize) -> bool
+    requires { ⌜ (n ≤ 511) × (k ≤ 2 ^ 41) ⌝ }
+    ensures { λ r. ⌜ (r ≡ true → Passes (now (row .entry)) n k w) ⌝ }
+{
+    if w.code != 0 {
+        return false;
+    }
+    if w.seek {
+        return false;
+    }
+    if w.left != 0 {
+        return false;
+    }
+    if w.at >= FAR {
+        return false;
+    }
+    if n == 0 {
+        return false;
+    }
+    good_entries(row, k, n)
+}
+
+// The walk behind n good entries.
+pub(crate) fn pass(w: Walk, row: &[u32], k: usize, n: usize) -> Walk
+    requires { ⌜ (n ≤ 511) × (k ≤ 2 ^ 41) × (Passes (now row) n k w) ⌝ }
+    ensures { λ r. ⌜ r ≡ entriesJudged (now (row .entry)) n k w ⌝ }
+{
+    let end = w.at + n * ENTRY;
+    Walk {
+        at: end,
+        code: 0,
+        offset: end - 10,
+        v: entry(row, k + n * 3 - 1, 1),
+        seek: false,
+        left: 0,
+        spot: w.spot,
+        width: w.width,
+    }
+}
+
+// Whether n entries are in the row and good.
+fn good_entries(row: &[u32], k: usize, n: usize) -> bool
+    requires { ⌜ (n ≤ 511) × (k ≤ 2 ^ 41) ⌝ }
+    ensures { λ r. ⌜ (r ≡ true → GoodEntries (now (row .entry)) n k) ⌝ }
+{
+    if row.len() < k + n * 3 {
+        return false;
+    }
+    let mut j: usize = 0;
+    while j < n {
+        let i = k + j * 3;
+        if !good_entry(row[i], row[i + 1], row[i + 2]) {
+            return false;
+        }
+        j += 1;
+    }
+    true
+}
+
+// An entry that no number of is refused.
+fn good_entry(time: u32, sign: u32, value: u32) -> bool
+    ensures { λ r. ⌜ (r ≡ true → GoodEntry time sign value) ⌝ }
+{
+    let month = time / 0x1_0000 % 16;
+    if time >= 0x20_0000 {
+        return false;
+    }
+    if month == 0 {
+        return false;
+    }
+    if month > 12 {
+        return false;
+    }
+    if time / 0x800 % 32 == 0 {
+        return false;
+    }
+    if time / 64 % 32 > 23 {
+        return false;
+    }
+    if time % 64 > 59 {
+        return false;
+    }
+    good_level(sign, value)
+}
+
+// A sign and a value: 0 centimetres have one form.
+fn good_level(sign: u32, value: u32) -> bool
+    ensures { λ r. ⌜ (r ≡ true → GoodLevel sign value) ⌝ }
+{
+    if sign > 1 {
+        return false;
+    }
+    if value > 1_023 {
+        return false;
+    }
+    if sign + value == 0 {
+        return false;
+    }
+    true
+}
+
+// ---- putting
+
+// Time, sign and value that begin with number k, at bit `at`: in one put where all three fit, and where the buffer holds them.
+pub(crate) fn put_entry(buf: &mut [u8], at: usize, row: &[u32], k: usize)
+    requires { ⌜ (k ≤ 2 ^ 42) × (at ≤ 2 ^ 42) ⌝ }
+    ensures { λ _. ⌜ now (buf .exit) ≡ entryPut (now (row .entry)) k at (now (buf .entry)) ⌝ }
+{
+    let time = entry(row, k, SOME_TIME);
+    let sign = entry(row, k + 1, 1);
+    let value = entry(row, k + 2, 1);
+    if both(fit(time, sign, value), bits::holds(buf.len(), at, ENTRY)) {
+        let all = packed(time, sign, value);
+        bits::put(buf, at, ENTRY, all);
+        return;
+    }
+    bits::put(buf, at, TIME, time);
+    bits::put(buf, at + TIME, 1, sign);
+    bits::put(buf, at + TIME + 1, 10, value);
+}
+
+// Whether an entry's three numbers have no more bits than their fields.
+fn fit(time: u64, sign: u64, value: u64) -> bool
+    ensures { λ r. ⌜ (r ≡ true → (time < 2 ^ 21) × (sign < 2 ^ 1) × (value < 2 ^ 10)) ⌝ }
+{
+    if time >= 0x20_0000 {
+        return false;
+    }
+    if sign >= 2 {
+        return false;
+    }
+    value < 1_024
+}
+
+// An entry's 32 bits, as one number.
+fn packed(time: u64, sign: u64, value: u64) -> u64
+    requires { ⌜ (time < 2 ^ 21) × (sign < 2 ^ 1) × (value < 2 ^ 10) ⌝ }
+    ensures { λ r. ⌜ r ≡ (time * 2 ^ 1 + sign) * 2 ^ 10 + value ⌝ }
+{
+    (time * 2 + sign) * 1_024 + value
+}
