@@ -15,6 +15,10 @@ use Rattle.tide.specs.declared.entries.Run.{Run}
 abbrev pub Good : ℕ → Type 0
 Good v = (1 ≤ v / 2 ^ 27 % 16) × (v / 2 ^ 27 % 16 ≤ 12) × (1 ≤ v / 2 ^ 22 % 32) × (v / 2 ^ 17 % 32 ≤ 23) × (v / 2 ^ 11 % 64 ≤ 59) × (1 ≤ v % 2_048)
 
+-- the fields of an entry, time, sign and value, as one number
+abbrev pub wordAt : List ℕ → ℕ → ℕ
+wordAt s at = got s at 21 * 2_048 + (got s (at + 21) 1 * 1_024 + got s (at + 21 + 1) 10)
+
 -- n entries from a bit on
 abbrev pub AllGood : List ℕ → ℕ → ℕ → Type 0
 AllGood s at n = (i : ℕ) → i < n → Good (got s (at + i * entryBits) 32)

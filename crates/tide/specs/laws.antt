@@ -2,6 +2,7 @@
 pub mod Sound
 pub mod Walking
 pub mod Turns
+pub mod Word
 pub mod Entries
 pub mod Shapes
 pub mod Rows

@@ -1,14 +1,19 @@
 // Entries of a tide record (paper 02, C-11): good ones are passed many at once, each by its 32 bits; any other is walked by its fields.
 ghost use mathlib.Core.Bool.{true};
 ghost use mathlib.Core.Path.{_≡_};
-ghost use Prim.Native.Nat.{_+_, _-_, _*_, _≤_, _<_};
-ghost use Rattle.tide.specs.Entries.{Good, AllGood, Unsought, Passes};
+ghost use Prim.Native.Nat.{_+_, _-_, _*_, _/_, _^_, _≤_, _<_};
+ghost use lib.ListN.{length};
+ghost use Rattle.tide.specs.Entries.{Good, wordAt, AllGood, Unsought, Passes};
 use crate::reading::Tide;
 use crate::row::ENTRY;
+use crate::row::TIME;
 use walk::walk::Walk;
 
 // The bits of a value, which ends an entry.
 pub const VALUE: usize = 10;
+
+// An entry is as long as so many bytes.
+pub const BYTES: usize = ENTRY / 8;
 
 // The walk behind some entries, and how many they are.
 pub struct Run {
@@ -49,17 +54,18 @@ pub(crate) fn pass(s: &[u8], w: Walk, n: u64) -> Run
     }
 }
 
-// How many of n entries from bit `at` on there may be, in a message that is not too long for a telegram.
+// How many of n entries from bit `at` on have five bytes each that hold them, in a message that is not too long for a telegram.
 fn reach(len: usize, at: usize, n: u64) -> usize
-    ensures { λ r. ⌜ (r ≤ n) × (r * 32 ≤ 1_680 - at) ⌝ }
+    ensures { λ r. ⌜ (r ≤ n) × (r * 4 ≤ 210 - (at / 8 + 1)) × (r * 4 ≤ len - (at / 8 + 1)) ⌝ }
 {
+    let first = at / 8 + 1;
     if len > Tide::GREATEST {
         return 0;
     }
-    if len * 8 < at {
+    if len < first {
         return 0;
     }
-    let there = (len * 8 - at) / ENTRY;
+    let there = (len - first) / BYTES;
     if n < there as u64 {
         return n as usize;
     }
@@ -81,18 +87,59 @@ fn unsought(w: Walk, n: usize) -> usize
 
 // How many of n entries from bit `at` on are good, up to the first that is not.
 fn good_from(s: &[u8], at: usize, n: usize) -> usize
-    requires { ⌜ n * 32 ≤ 1_680 - at ⌝ }
+    requires { ⌜ n * 4 ≤ length (now s) - (at / 8 + 1) ⌝ }
     ensures { λ r. ⌜ (r ≤ n) × AllGood (now (s .entry)) at r ⌝ }
 {
+    let from = at / 8;
+    let skip = at % 8;
     let mut j: usize = 0;
     while j < n {
-        let bits = bits::get(s, at + j * ENTRY, ENTRY);
+        let bits = word_of_five(s, from + j * BYTES, skip);
         if !good(bits) {
             return j;
         }
         j += 1;
     }
     j
+}
+
+// Time, sign and value of the entry that begins `skip` bits into byte `from`, as one number; what is not there is 0.
+pub(crate) fn word(s: &[u8], from: usize, skip: usize) -> u64
+    requires { ⌜ (from ≤ 2 ^ 32) × (skip < 8) ⌝ }
+    ensures { λ r. ⌜ r ≡ wordAt (now (s .entry)) (from * 8 + skip) ⌝ }
+{
+    if s.len() < from + 5 {
+        return word_at_end(s, from * 8 + skip);
+    }
+    word_of_five(s, from, skip)
+}
+
+// The same, where five bytes hold it.
+fn word_of_five(s: &[u8], from: usize, skip: usize) -> u64
+    requires { ⌜ (from + 5 ≤ length (now s)) × (skip < 8) ⌝ }
+    ensures { λ r. ⌜ r ≡ wordAt (now (s .entry)) (from * 8 + skip) ⌝ }
+{
+    let all = spelled(s[from], s[from + 1], s[from + 2], s[from + 3], s[from + 4]);
+    (all >> (8 - skip)) % 4_294_967_296
+}
+
+// The same, where no fifth byte holds it, or where it is cut.
+fn word_at_end(s: &[u8], at: usize) -> u64
+    requires { ⌜ at ≤ 2 ^ 36 ⌝ }
+    ensures { λ r. ⌜ r ≡ wordAt (now (s .entry)) at ⌝ }
+{
+    let time = bits::get(s, at, TIME);
+    let sign = bits::get(s, at + TIME, 1);
+    let value = bits::get(s, at + TIME + 1, VALUE);
+    time * 2_048 + (sign * 1_024 + value)
+}
+
+// The number that five bytes spell, highest first: the first four in such a form that the compiler loads them at once.
+fn spelled(a: u8, b: u8, c: u8, d: u8, e: u8) -> u64
+    ensures { λ r. ⌜ r ≡ (((a * 256 + b) * 256 + c) * 256 + d) * 256 + e ⌝ }
+{
+    let high = a as u64 * 16_777_216 + b as u64 * 65_536 + c as u64 * 256 + d as u64;
+    high * 256 + e as u64
 }
 
 // Whether the 32 bits of an entry are good.
@@ -118,6 +165,7 @@ fn good(v: u64) -> bool
     v % 2_048 >= 1
 }
 
+// n less m, and 0 where m is more.
 fn less(n: usize, m: usize) -> usize
     ensures { λ r. ⌜ r ≡ n - m ⌝ }
 {

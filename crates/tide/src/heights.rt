@@ -6,9 +6,8 @@ ghost use lib.Seq.{sets};
 ghost use Rattle.tide.specs.Heights.{heightOf, entriesShown, heightsAt};
 ghost use Rattle.tide.specs.HeightsPromises.{Shows};
 ghost use Rattle.tide.specs.Standing.{front};
+use crate::entries::BYTES;
 use crate::reading::Tide;
-use crate::row::ENTRY;
-use crate::row::TIME;
 
 // How many heights, or the refusal.
 pub enum Answer {
@@ -59,12 +58,12 @@ fn show_entries(s: &[u8], at: usize, n: usize, row: &mut [i32], k: usize)
     requires { ⌜ (at ≤ 2 ^ 33) × (n ≤ 511) × (k + n ≤ length (now row)) ⌝ }
     ensures { λ _. ⌜ now (row .exit) ≡ sets (now (row .entry)) k (entriesShown (now (s .entry)) n at) ⌝ }
 {
+    let from = at / 8;
+    let skip = at % 8;
     let mut j: usize = 0;
     while j < n {
-        let here = at + j * ENTRY;
-        let sign = bits::get(s, here + TIME, 1);
-        let value = bits::get(s, here + TIME + 1, 10);
-        row[k + j] = height(sign, value);
+        let word = crate::entries::word(s, from + j * BYTES, skip);
+        row[k + j] = height(word / 1_024 % 2, word % 1_024);
         j += 1;
     }
 }

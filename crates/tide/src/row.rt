@@ -6,6 +6,7 @@ ghost use lib.Seq.{sets};
 ghost use Rattle.tide.specs.Row.{placedLong};
 ghost use Rattle.tide.specs.Standing.{front, placedAt, entriesAt, recordAt, recordsAt};
 ghost use Rattle.tide.specs.Shapes.{placeOf, shapeAt, extentAt, filled};
+use crate::entries::BYTES;
 use crate::reading::Tide;
 use crate::records::PORT;
 use notice_fields::parts::EXPIRY;
@@ -157,13 +158,15 @@ fn fill_entries(s: &[u8], at: usize, n: usize, row: &mut [u32], k: usize)
     requires { ⌜ (at ≤ 2 ^ 33) × (n ≤ 511) × (k + n * 3 ≤ length (now row)) ⌝ }
     ensures { λ _. ⌜ now (row .exit) ≡ sets (now (row .entry)) k (entriesAt (now (s .entry)) n at) ⌝ }
 {
+    let from = at / 8;
+    let skip = at % 8;
     let mut j: usize = 0;
     while j < n {
-        let here = at + j * ENTRY;
+        let word = crate::entries::word(s, from + j * BYTES, skip);
         let to = k + j * 3;
-        row[to] = bits::get(s, here, TIME) as u32;
-        row[to + 1] = bits::get(s, here + TIME, 1) as u32;
-        row[to + 2] = bits::get(s, here + TIME + 1, 10) as u32;
+        row[to] = (word / 2_048) as u32;
+        row[to + 1] = (word / 1_024 % 2) as u32;
+        row[to + 2] = (word % 1_024) as u32;
         j += 1;
     }
 }

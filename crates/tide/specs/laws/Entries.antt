@@ -9,21 +9,22 @@ use lib.Dec.{leb, ltb, eqb, lit≤}
 use lib.ListN.{length}
 use borrow.Author.Tests.{le-leb, lt-ltb, eq-eqb, ne-eqb, leb-true, ltb-true, ltb-false, eqb-true}
 use Rattle.bits.specs.Answers.{got}
-use Rattle.bits.specs.laws.Answers.{within-fits, got-fits}
-use Rattle.bits.specs.laws.Fields.{field-lt, field-join}
+use Rattle.bits.specs.laws.Answers.{within-fits}
 use Rattle.walk.specs.Faults.{ranging}
 use Rattle.walk.specs.Groups.{repeatWalked}
 use Rattle.walk.specs.Pieces.{unpieced, pieced}
 use Rattle.walk.specs.Reading.{ranged, judgedAs, grouped}
 use Rattle.walk.specs.Walk.{onward}
+use Rattle.walk.specs.laws.Reading.{got-lt}
 use Rattle.walk.specs.declared.pieces.Pieces.{Pieces}
 use Rattle.walk.specs.declared.walk.Walk.{Walk}
 use Rattle.notice_fields.specs.PartsSteps.{momentPieced, momentRead, timeRead}
-use Rattle.tide.specs.Entries.{Good, AllGood, Unsought, passed, Passes}
+use Rattle.tide.specs.Entries.{Good, wordAt, AllGood, Unsought, passed, Passes}
 use Rattle.tide.specs.Row.{entryBits}
 use Rattle.tide.specs.Steps.{levelRead, entryRead, entryStep}
 use Rattle.tide.specs.Tide.{leastOf}
 use Rattle.tide.specs.laws.Turns.{entry-turn}
+use Rattle.tide.specs.laws.Word.{word-there}
 
 -- ---- one step, where nothing was refused before and the field is not sought
 
@@ -87,28 +88,6 @@ module _ (s : List ℕ) where
       go true e = leb-true (at + 32) (length s * 8) e
       go false e = let z : got s at 32 ≡ 0 = rw e refl in absurd (omega (arith, g, z))
 
-  -- its fields are parts of its 32 bits
-  record Parts (at : ℕ) : Type 0 where
-    time : got s at 32 ≡ got s at 21 * 2_048 + (got s (at + 21) 1 * 1_024 + got s (at + 21 + 1) 10)
-    one : got s at 21 < 2 ^ 21
-    two : got s (at + 21) 1 < 2
-    three : got s (at + 21 + 1) 10 < 1_024
-
-  parts : (at : ℕ) → at + 32 ≤ length s * 8 → Parts at
-  parts at fits =
-      let a = got-fits s at 32 (lit≤ tt) fits in
-      let b = got-fits s at 21 (lit≤ tt) (omega arith) in
-      let c = got-fits s (at + 21) 1 (lit≤ tt) (omega arith) in
-      let d = got-fits s (at + 21 + 1) 10 (lit≤ tt) (omega arith) in
-      let j = field-join s at 21 11 fits in
-      let k = field-join s (at + 21) 1 10 (omega arith) in
-      record {
-        time = omega (arith, a, b, c, d, j, k);
-        one = omega (arith, b, field-lt s at 21);
-        two = omega (arith, c, field-lt s (at + 21) 1);
-        three = omega (arith, d, field-lt s (at + 21 + 1) 10);
-      }
-
   least-good : (sign v : ℕ) → 1 ≤ sign * 1_024 + v → leastOf sign ≤ v
   least-good sign v l = go (eqb sign 0) refl
     where
@@ -129,20 +108,22 @@ module _ (s : List ℕ) where
     time-good : timeRead s r ≡ timed
     unfolding pieced
     time-good =
-        let p = parts (r .at) fits in
+        let word = word-there s (r .at) fits in
         let v = got s (r .at) 21 in
-        let m = moment-good v (p .one) (omega (arith, p .time, g, p .two, p .three)) (omega (arith, p .time, g, p .two, p .three)) (omega (arith, p .time, g, p .two, p .three)) (omega (arith, p .time, g, p .two, p .three)) (omega (arith, p .time, g, p .two, p .three)) in
+        let sign = got-lt s (r .at + 21) 1 refl in
+        let value = got-lt s (r .at + 21 + 1) 10 refl in
+        let m = moment-good v (got-lt s (r .at) 21 refl) (omega (arith, word, g, sign, value)) (omega (arith, word, g, sign, value)) (omega (arith, word, g, sign, value)) (omega (arith, word, g, sign, value)) (omega (arith, word, g, sign, value)) in
         ap (λ b. cond b (judgedAs (momentPieced v) r) (grouped s 21 (momentRead s r) r)) (within-fits (length s) (r .at) 21 (lit≤ tt) (omega (arith, fits)))
         ∙ ap (λ i. onward 21 true v (momentPieced v .code) i r) (m .1) ∙ onward-good 21 v 15 (momentPieced v .code) r z (m .0) (lit≤ tt) (omega arith) (λ e. let n = u e in omega arith)
 
     pub entry-good : entryRead s r ≡ moved 10 (got s (signed .at) 10) 0 signed
     entry-good =
-        let p = parts (r .at) fits in
+        let word = word-there s (r .at) fits in
         let sign = got s (r .at + 21) 1 in
         let v = got s (r .at + 21 + 1) 10 in
         ap (levelRead s) time-good
-        ∙ ap (λ (q : Walk). ranged s 10 true (leastOf (q .v)) 1_023 4 q) (ranged-good s 1 0 1 timed (lit≤ tt) (omega (arith, fits)) (omega arith) (omega arith) (omega (arith, p .two)) refl (λ e. let n = u e in omega arith))
-        ∙ ranged-good s 10 (leastOf sign) 1_023 signed (lit≤ tt) (omega (arith, fits)) (omega arith) (least-good sign v (omega (arith, p .time, g))) (omega (arith, p .three)) refl (λ e. let n = u e in omega arith)
+        ∙ ap (λ (q : Walk). ranged s 10 true (leastOf (q .v)) 1_023 4 q) (ranged-good s 1 0 1 timed (lit≤ tt) (omega (arith, fits)) (omega arith) (omega arith) (omega (arith, got-lt s (r .at + 21) 1 refl)) refl (λ e. let n = u e in omega arith))
+        ∙ ranged-good s 10 (leastOf sign) 1_023 signed (lit≤ tt) (omega (arith, fits)) (omega arith) (least-good sign v (omega (arith, word, g))) (omega (arith, got-lt s (r .at + 21 + 1) 10 refl)) refl (λ e. let n = u e in omega arith)
 
   -- ---- many
 
@@ -202,9 +183,9 @@ module _ (s : List ℕ) where
   )
 
   -- one good entry more
-  pub good-more : (at j : ℕ) {v : ℕ} → AllGood s at j → v ≡ got s (at + j * entryBits) 32 → Good v → AllGood s at (j + 1)
-  good-more at j a e g i l = go (ltb i j) refl
+  pub good-more : (at j : ℕ) {v : ℕ} → AllGood s at j → at + j * entryBits + 32 ≤ length s * 8 → v ≡ wordAt s (at + j * entryBits) → Good v → AllGood s at (j + 1)
+  good-more at j a there e g i l = go (ltb i j) refl
     where
       go : (x : Bool) → ltb i j ≡ x → Good (got s (at + i * entryBits) 32)
       go true t = a i (ltb-true i j t)
-      go false t = let is : j ≡ i = omega (arith, ltb-false i j t) in subst (λ v. Good v) (e ∙ ap (λ i. got s (at + i * entryBits) 32) is) g
+      go false t = let is : j ≡ i = omega (arith, ltb-false i j t) in subst (λ v. Good v) (e ∙ sym (word-there s (at + j * entryBits) there) ∙ ap (λ i. got s (at + i * entryBits) 32) is) g

@@ -1,5 +1,5 @@
 -- `show_entries` meets its contract: the first j heights stand in the row.
-use Prim.Native.Nat.{_+_, _-_, _*_, _≤_}
+use Prim.Native.Nat.{_+_, _-_, _*_, _/_, _%_, _≤_}
 use mathlib.Core.Path.{_≡_, refl, ap, ap₂, _∙_}
 use native.Mathlib.Omega.{arith}
 use lib.ListN.{length, length-set}
@@ -7,49 +7,35 @@ use lib.Seq.{sets}
 use Rattle.bits.specs.Answers.{got}
 use Rattle.walk.specs.Groups.{repeatAt}
 use Rattle.walk.specs.laws.Reading.{got-lt}
+use Rattle.tide.specs.Entries.{wordAt}
 use Rattle.tide.specs.Heights.{heightOf, entriesShown}
 use Rattle.tide.specs.Row.{entryBits}
 use Rattle.tide.specs.laws.Heights.{entry-turn, height-stored}
-use borrow.Author.Needs.{needs}
+use Rattle.tide.specs.laws.Word.{word-fields}
 use Rattle.tide.proofs.heights.show_entries.Statement.{statement}
 use Rattle.tide.proofs.heights.show_entries.Tie as tie
 
 abbrev Inv-loop : tie.InvT-loop
-Inv-loop s at n row₀ k j₀ row j = (j ≤ n) × (length row ≡ length row₀) × (row ≡ sets row₀ k (entriesShown s j at))
+Inv-loop s at n row₀ k from skip j₀ row j = (j ≤ n) × (length row ≡ length row₀) × (row ≡ sets row₀ k (entriesShown s j at))
 
 abbrev μ-loop : tie.MeasureT-loop
-μ-loop s at n row₀ k j₀ row j = n - j
+μ-loop s at n row₀ k from skip j₀ row j = n - j
 
 loop-holds : tie.Need-loop-holds Inv-loop μ-loop
 unfolding repeatAt
 loop-holds c = (omega arith, refl, refl)
 
-mul-here : tie.Need-mul-here Inv-loop μ-loop
-mul-here c = omega arith
+mul-word : tie.Need-mul-word Inv-loop μ-loop
+mul-word c = omega arith
 
-add-here : tie.Need-add-here Inv-loop μ-loop
-add-here c = omega arith
+add-word : tie.Need-add-word Inv-loop μ-loop
+add-word c = omega arith
 
-add-get : tie.Need-add-get Inv-loop μ-loop
-add-get c = omega arith
-
-get-requires : tie.Need-get-requires Inv-loop μ-loop
-get-requires c κs = search needs
-
-add-get-2 : tie.Need-add-get-2 Inv-loop μ-loop
-add-get-2 c = omega arith
-
-add-get-3 : tie.Need-add-get-3 Inv-loop μ-loop
-add-get-3 c = omega arith
-
-get-requires-2 : tie.Need-get-requires-2 Inv-loop μ-loop
-get-requires-2 c κs = search needs
+word-requires : tie.Need-word-requires Inv-loop μ-loop
+word-requires c κs = (omega arith, omega arith)
 
 height-requires : tie.Need-height-requires Inv-loop μ-loop
-height-requires c κs =
-    let l = c .before .before .before in
-    let a = l .before .before .args in
-    got-lt (a .s .now) (a .at + l .loop .j * entryBits + 21 + 1) 10 (c .get2 .ensures)
+height-requires c κs = omega arith
 
 add-t11 : tie.Need-add-t11 Inv-loop μ-loop
 add-t11 c = omega arith
@@ -68,15 +54,14 @@ loop-less c = omega arith
 
 loop-again : tie.Need-loop-again Inv-loop μ-loop
 loop-again c =
-    let g2 = c .before in
-    let g = g2 .before in
-    let l = g .before .before in
+    let w = c .before in
+    let l = w .before .before in
     let a = l .before .before .args in
     let s = a .s .now in
-    let here = a .at + l .loop .j * entryBits in
-    let sign = got s (here + 21) 1 in
-    let value = got s (here + 21 + 1) 10 in
-    let z = height-stored sign value (got-lt s (here + 21 + 1) 10 refl) (c .height .ensures ∙ ap₂ (λ sign v. heightOf sign v) (g .get .ensures) (g2 .get2 .ensures)) in
+    let at = a .at + l .loop .j * entryBits in
+    let here : (a .at / 8 + l .loop .j * 4) * 8 + a .at % 8 ≡ at = omega arith in
+    let (_, _, sign, value) = word-fields s at (w .word .ensures ∙ ap (wordAt s) here) in
+    let z = height-stored (got s (at + 21) 1) (got s (at + 21 + 1) 10) (got-lt s (at + 21 + 1) 10 refl) (c .height .ensures ∙ ap₂ (λ sign v. heightOf sign v) sign value) in
     (omega arith, simp length-set (l .loop .inv .1), entry-turn s (a .row .now) (a .k) (a .at) (l .loop .j) z (l .loop .inv .2))
 
 same-length : tie.Need-same-length Inv-loop μ-loop
@@ -96,13 +81,9 @@ show-entries-spec =
     Inv-loop
     μ-loop
     loop-holds
-    mul-here
-    add-here
-    add-get
-    get-requires
-    add-get-2
-    add-get-3
-    get-requires-2
+    mul-word
+    add-word
+    word-requires
     height-requires
     add-t11
     mul-t12
