@@ -2,7 +2,7 @@
 ghost use mathlib.Core.Bool.{true};
 ghost use mathlib.Core.Path.{_≡_};
 ghost use Prim.Native.Nat.{_+_, _*_, _^_, _≤_, _<_};
-ghost use Rattle.tide.specs.Making.{entriesJudged, entryPut};
+ghost use Rattle.tide.specs.Making.{entriesJudged, threePut, entriesPut};
 ghost use Rattle.tide.specs.Whole.{GoodLevel, GoodEntry, GoodEntries, Passes};
 use crate::row::ENTRY;
 use crate::row::TIME;
@@ -120,14 +120,27 @@ fn good_level(sign: u32, value: u32) -> bool
 
 // ---- putting
 
-// Time, sign and value that begin with number k, at bit `at`: in one put where all three fit, and where the buffer holds them.
-pub(crate) fn put_entry(buf: &mut [u8], at: usize, row: &[u32], k: usize)
-    requires { ⌜ (k ≤ 2 ^ 42) × (at ≤ 2 ^ 42) ⌝ }
-    ensures { λ _. ⌜ now (buf .exit) ≡ entryPut (now (row .entry)) k at (now (buf .entry)) ⌝ }
+// Time, sign and value of n entries, of which the row may not have all numbers.
+pub(crate) fn put_each(buf: &mut [u8], at: usize, row: &[u32], k: usize, n: usize)
+    requires { ⌜ (n ≤ 511) × (k ≤ 2 ^ 41) × (at ≤ 2 ^ 41) ⌝ }
+    ensures { λ _. ⌜ now (buf .exit) ≡ entriesPut (now (row .entry)) n k at (now (buf .entry)) ⌝ }
 {
-    let time = entry(row, k, SOME_TIME);
-    let sign = entry(row, k + 1, 1);
-    let value = entry(row, k + 2, 1);
+    let mut j: usize = 0;
+    while j < n {
+        let i = k + j * 3;
+        let time = entry(row, i, SOME_TIME);
+        let sign = entry(row, i + 1, 1);
+        let value = entry(row, i + 2, 1);
+        put_entry(buf, at + j * ENTRY, time, sign, value);
+        j += 1;
+    }
+}
+
+// An entry at bit `at`: in one put where its three numbers fit, and where the buffer holds them.
+pub(crate) fn put_entry(buf: &mut [u8], at: usize, time: u64, sign: u64, value: u64)
+    requires { ⌜ at ≤ 2 ^ 42 ⌝ }
+    ensures { λ _. ⌜ now (buf .exit) ≡ threePut time sign value at (now (buf .entry)) ⌝ }
+{
     if both(fit(time, sign, value), bits::holds(buf.len(), at, ENTRY)) {
         let all = packed(time, sign, value);
         bits::put(buf, at, ENTRY, all);
