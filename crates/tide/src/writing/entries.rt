@@ -16,7 +16,8 @@ const FAR: usize = 0x1_0000_0000;
 
 // ---- judging
 
-// Whether n entries, at least one, are all in the row and good, and the walk has refused nothing and seeks no field. Where not, they are judged one by one.
+// Whether n entries, at least one, are all in the row and good, and the walk has refused nothing and seeks no field. Where not,
+// they are judged one by one.
 pub(crate) fn all_good(w: Walk, row: &[u32], k: usize, n: usize) -> bool
     requires { ⌜ (n ≤ 511) × (k ≤ 2 ^ 41) ⌝ }
     ensures { λ r. ⌜ (r ≡ true → Passes (now (row .entry)) n k w) ⌝ }
@@ -76,18 +77,14 @@ fn good_entries(row: &[u32], k: usize, n: usize) -> bool
     true
 }
 
-// An entry that no number of is refused.
+// Whether an entry's time, sign and value are good. The months 1 to 12 are counted from 0 on, so that one test finds 0 and 13 to 15.
 fn good_entry(time: u32, sign: u32, value: u32) -> bool
     ensures { λ r. ⌜ (r ≡ true → GoodEntry time sign value) ⌝ }
 {
-    let month = time / 0x1_0000 % 16;
     if time >= 0x20_0000 {
         return false;
     }
-    if month == 0 {
-        return false;
-    }
-    if month > 12 {
+    if (time / 0x1_0000 + 15) % 16 > 11 {
         return false;
     }
     if time / 0x800 % 32 == 0 {
