@@ -41,9 +41,13 @@ recordsJudged row n = repeatJudged n (recordJudged row)
 
 -- ---- put
 
--- the entry that begins with number k, at bit `at` of t
+-- a time, a sign and a value, at bit `at` of t
+abbrev pub threePut : (time sign value at : ℕ) → List ℕ → List ℕ
+threePut time sign value at t = putIn (putIn (putIn t at 21 time) (at + 21) 1 sign) (at + 21 + 1) 10 value
+
+-- the entry that begins with number k
 abbrev pub entryPut : List ℕ → (k at : ℕ) → List ℕ → List ℕ
-entryPut row k at t = putIn (putIn (putIn t at 21 (getD row k someTime)) (at + 21) 1 (getD row (k + 1) 1)) (at + 21 + 1) 10 (getD row (k + 2) 1)
+entryPut row k at t = threePut (getD row k someTime) (getD row (k + 1) 1) (getD row (k + 2) 1) at t
 
 abbrev pub entriesPut : List ℕ → (n k at : ℕ) → List ℕ → List ℕ
 entriesPut row n = evenPut 3 entryBits n (entryPut row)

@@ -16,16 +16,23 @@ use Rattle.walk.specs.Walk.{onward}
 use Rattle.walk.specs.declared.pieces.Pieces.{Pieces}
 use Rattle.walk.specs.declared.walk.Walk.{Walk}
 use Rattle.notice_fields.specs.PartsSteps.{momentPieced, timeJudged}
-use Rattle.tide.specs.Making.{levelJudged, entryJudged, entriesJudged}
+use Rattle.tide.specs.Making.{levelJudged, entryJudged, entriesJudged, threePut, entryPut}
 use Rattle.tide.specs.Row.{someTime}
 use Rattle.tide.specs.Tide.{leastOf}
 use Rattle.tide.specs.Whole.{GoodEntry, GoodEntries, quiet, Passes}
 
 -- where a row has a number, it does not matter what would count for it
-pub there : (l : List ℕ) (k a b : ℕ) → k < length l → getD l k a ≡ getD l k b
+there : (l : List ℕ) (k a b : ℕ) → k < length l → getD l k a ≡ getD l k b
 there [] k a b h = absurd (omega arith)
 there (x ∷ l) zero a b h = refl
 there (x ∷ l) (suc k) a b h = there l k a b (omega arith)
+
+pub entry-there : (row : List ℕ) (k at : ℕ) (t : List ℕ) → k + 2 < length row → threePut (getD row k 0) (getD row (k + 1) 0) (getD row (k + 2) 0) at t ≡ entryPut row k at t
+entry-there row k at t fits =
+    let time = there row k 0 someTime (omega arith) in
+    let sign = there row (k + 1) 0 1 (omega arith) in
+    let value = there row (k + 2) 0 1 fits in
+    λ i. threePut (time i) (sign i) (value i) at t
 
 no-fault : (v lo hi : ℕ) → lo ≤ v → v ≤ hi → _≡_ {A = ℕ} (cond (leb lo v && leb v hi) 0 4) 0
 no-fault v lo hi a b = rw (le-leb lo v a, le-leb v hi b) refl

@@ -2,7 +2,7 @@
 ghost use mathlib.Core.Bool.{true};
 ghost use mathlib.Core.Path.{_≡_};
 ghost use Prim.Native.Nat.{_+_, _*_, _^_, _≤_, _<_};
-ghost use Rattle.tide.specs.Making.{entriesJudged, entryPut};
+ghost use Rattle.tide.specs.Making.{entriesJudged, threePut, entriesPut};
 ghost use Rattle.tide.specs.Whole.{GoodLevel, GoodEntry, GoodEntries, Passes};
 use crate::row::ENTRY;
 use crate::row::TIME;
@@ -16,7 +16,8 @@ const FAR: usize = 0x1_0000_0000;
 
 // ---- judging
 
-// Whether n entries, at least one, are all in the row and good, and the walk has refused nothing and seeks no field. Where not, they are judged one by one.
+// Whether n entries, at least one, are all in the row and good, and the walk has refused nothing and seeks no field. Where not,
+// they are judged one by one.
 pub(crate) fn all_good(w: Walk, row: &[u32], k: usize, n: usize) -> bool
     requires { ⌜ (n ≤ 511) × (k ≤ 2 ^ 41) ⌝ }
     ensures { λ r. ⌜ (r ≡ true → Passes (now (row .entry)) n k w) ⌝ }
@@ -76,18 +77,14 @@ fn good_entries(row: &[u32], k: usize, n: usize) -> bool
     true
 }
 
-// An entry that no number of is refused.
+// Whether an entry's time, sign and value are good. The months 1 to 12 are counted from 0 on, so that one test finds 0 and 13 to 15.
 fn good_entry(time: u32, sign: u32, value: u32) -> bool
     ensures { λ r. ⌜ (r ≡ true → GoodEntry time sign value) ⌝ }
 {
-    let month = time / 0x1_0000 % 16;
     if time >= 0x20_0000 {
         return false;
     }
-    if month == 0 {
-        return false;
-    }
-    if month > 12 {
+    if (time / 0x1_0000 + 15) % 16 > 11 {
         return false;
     }
     if time / 0x800 % 32 == 0 {
@@ -120,14 +117,27 @@ fn good_level(sign: u32, value: u32) -> bool
 
 // ---- putting
 
-// Time, sign and value that begin with number k, at bit `at`: in one put where all three fit, and where the buffer holds them.
-pub(crate) fn put_entry(buf: &mut [u8], at: usize, row: &[u32], k: usize)
-    requires { ⌜ (k ≤ 2 ^ 42) × (at ≤ 2 ^ 42) ⌝ }
-    ensures { λ _. ⌜ now (buf .exit) ≡ entryPut (now (row .entry)) k at (now (buf .entry)) ⌝ }
+// Time, sign and value of n entries, of which the row may not have all numbers.
+pub(crate) fn put_each(buf: &mut [u8], at: usize, row: &[u32], k: usize, n: usize)
+    requires { ⌜ (n ≤ 511) × (k ≤ 2 ^ 41) × (at ≤ 2 ^ 41) ⌝ }
+    ensures { λ _. ⌜ now (buf .exit) ≡ entriesPut (now (row .entry)) n k at (now (buf .entry)) ⌝ }
 {
-    let time = entry(row, k, SOME_TIME);
-    let sign = entry(row, k + 1, 1);
-    let value = entry(row, k + 2, 1);
+    let mut j: usize = 0;
+    while j < n {
+        let i = k + j * 3;
+        let time = entry(row, i, SOME_TIME);
+        let sign = entry(row, i + 1, 1);
+        let value = entry(row, i + 2, 1);
+        put_entry(buf, at + j * ENTRY, time, sign, value);
+        j += 1;
+    }
+}
+
+// An entry at bit `at`: in one put where its three numbers fit, and where the buffer holds them.
+pub(crate) fn put_entry(buf: &mut [u8], at: usize, time: u64, sign: u64, value: u64)
+    requires { ⌜ at ≤ 2 ^ 42 ⌝ }
+    ensures { λ _. ⌜ now (buf .exit) ≡ threePut time sign value at (now (buf .entry)) ⌝ }
+{
     if both(fit(time, sign, value), bits::holds(buf.len(), at, ENTRY)) {
         let all = packed(time, sign, value);
         bits::put(buf, at, ENTRY, all);

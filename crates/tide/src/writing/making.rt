@@ -14,6 +14,7 @@ use crate::records::PORT;
 use crate::row::ENTRY;
 use crate::writing::entries::all_good;
 use crate::writing::entries::pass;
+use crate::writing::entries::put_each;
 use crate::writing::entries::put_entry;
 use notice_fields::parts::LATITUDE;
 use notice_fields::parts::LONGITUDE;
@@ -224,9 +225,17 @@ fn put_entries(buf: &mut [u8], at: usize, row: &[u32], k: usize, n: usize)
     requires { ⌜ (n ≤ 511) × (k ≤ 2 ^ 41) × (at ≤ 2 ^ 41) ⌝ }
     ensures { λ _. ⌜ now (buf .exit) ≡ entriesPut (now (row .entry)) n k at (now (buf .entry)) ⌝ }
 {
+    if row.len() < k + n * 3 {
+        put_each(buf, at, row, k, n);
+        return;
+    }
     let mut j: usize = 0;
     while j < n {
-        put_entry(buf, at + j * ENTRY, row, k + j * 3);
+        let i = k + j * 3;
+        let time = row[i] as u64;
+        let sign = row[i + 1] as u64;
+        let value = row[i + 2] as u64;
+        put_entry(buf, at + j * ENTRY, time, sign, value);
         j += 1;
     }
 }

@@ -21,10 +21,7 @@ returns-5 : tie.Need-returns-5
 returns-5 c e = absurd (false≢true e)
 
 returns-6 : tie.Need-returns-6
-returns-6 c e = absurd (false≢true e)
-
-returns-7 : tie.Need-returns-7
-returns-7 c e = record {
+returns-6 c e = record {
   narrow = omega arith;
   month = (omega arith, omega arith);
   day = omega arith;
@@ -34,4 +31,4 @@ returns-7 c e = record {
 }
 
 pub good-entry-spec : {M : Type 1} → statement M
-good-entry-spec = tie.close (tie.spec returns returns-2 returns-3 returns-4 returns-5 returns-6 (λ c κs. search needs) returns-7)
+good-entry-spec = tie.close (tie.spec returns (λ c. search needs) returns-2 returns-3 returns-4 returns-5 (λ c κs. search needs) returns-6)
