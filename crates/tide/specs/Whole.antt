@@ -1,25 +1,16 @@
 -- Entries that are good as they stand, and the walk behind them. Assumes nothing.
-use Prim.Native.Nat.{ℕ, _+_, _*_, _/_, _%_, _^_, _≤_, _<_}
+use Prim.Native.Nat.{ℕ, _+_, _*_, _^_, _≤_, _<_}
 use mathlib.Core.Bool.{false}
 use mathlib.Core.Path.{_≡_}
 use mathlib.Core.List.{List}
 use lib.ListN.{getD}
 use Rattle.walk.specs.declared.walk.Walk.{Walk}
+use Rattle.tide.specs.Entries.{Good}
 use Rattle.tide.specs.Row.{someTime}
-use Rattle.tide.specs.Tide.{leastOf}
 
--- a sign, and a value of at most ten bits that is not 0 behind sign 0
-abbrev pub GoodLevel : ℕ → ℕ → Type 0
-GoodLevel sign value = (sign ≤ 1) × (leastOf sign ≤ value) × (value ≤ 1_023)
-
--- an entry's three numbers
-pub record GoodEntry (time sign value : ℕ) : Type 0 where
-  pub narrow : time < 2 ^ 21
-  pub month : (1 ≤ time / 2 ^ 16 % 2 ^ 4) × (time / 2 ^ 16 % 2 ^ 4 ≤ 12)
-  pub day : 1 ≤ time / 2 ^ 11 % 2 ^ 5
-  pub hour : time / 2 ^ 6 % 2 ^ 5 ≤ 23
-  pub minute : time % 2 ^ 6 ≤ 59
-  pub level : GoodLevel sign value
+-- an entry's three numbers: they fit their bits, and these are good
+abbrev pub GoodEntry : (time sign value : ℕ) → Type 0
+GoodEntry time sign value = (time < 2 ^ 21) × (sign < 2 ^ 1) × (value < 2 ^ 10) × Good ((time * 2 ^ 1 + sign) * 2 ^ 10 + value)
 
 -- n entries, from number k of the row on
 abbrev pub GoodEntries : List ℕ → ℕ → ℕ → Type 0

@@ -143,7 +143,7 @@ fn spelled(a: u8, b: u8, c: u8, d: u8, e: u8) -> u64
 }
 
 // Whether the 32 bits of an entry are good.
-fn good(v: u64) -> bool
+pub(crate) fn good(v: u64) -> bool
     ensures { λ r. ⌜ (r ≡ true → Good v) ⌝ }
 {
     let month = (v >> 27) % 16;

@@ -41,28 +41,28 @@ onward-good w v i c r z y l reach u = go (r .seek) refl
         rw (z, y, e, ne-eqb (r .left) 0 (λ z. omega arith), mod-eq-of-lt reach, mod-eq-of-lt {n = r .at + i} {m = 2 ^ 64} (omega arith)) refl
     go false e = rw (z, y, e, mod-eq-of-lt reach, mod-eq-of-lt {n = r .at + i} {m = 2 ^ 64} (omega arith)) refl
 
--- a number between its limits has no fault
-between : (v lo hi : ℕ) → lo ≤ v → v ≤ hi → _≡_ {A = ℕ} (cond (leb lo v && leb v hi) 0 4) 0
-between v lo hi l h = rw (le-leb lo v l, le-leb v hi h) refl
+-- a number no-fault its limits has no fault
+pub no-fault : (v lo hi : ℕ) → lo ≤ v → v ≤ hi → _≡_ {A = ℕ} (cond (leb lo v && leb v hi) 0 4) 0
+no-fault v lo hi l h = rw (le-leb lo v l, le-leb v hi h) refl
 
 ranged-good : (s : List ℕ) (w lo hi : ℕ) (r : Walk) → w ≤ 32 → r .at + w ≤ length s * 8 → r .at + w < 2 ^ 64 → lo ≤ got s (r .at) w → got s (r .at) w ≤ hi → r .code ≡ 0 → Unsought 1 r
     → ranged s w true lo hi 4 r ≡ moved w (got s (r .at) w) 0 r
 ranged-good s w lo hi r small fits reach l h z u =
     let v = got s (r .at) w in
     onward-good w v 0 (ranging s (r .at) w lo hi 4) r z
-    (ap (λ b. cond b (cond (leb lo v && leb v hi) 0 4) 1) (within-fits (length s) (r .at) w small fits) ∙ between v lo hi l h) (omega arith) reach u
+    (ap (λ b. cond b (cond (leb lo v && leb v hi) 0 4) 1) (within-fits (length s) (r .at) w small fits) ∙ no-fault v lo hi l h) (omega arith) reach u
 
 -- ---- a time
 
 piece-good : (w lo hi : ℕ) (g : Pieces) → g .code ≡ 0 → lo ≤ g .v / 2 ^ (g .left - w) % 2 ^ w → g .v / 2 ^ (g .left - w) % 2 ^ w ≤ hi → pieced w lo hi g .code ≡ 0
 unfolding pieced
-piece-good w lo hi g z l h = ap (λ c. cond (eqb c 0) (cond (leb lo u && leb u hi) 0 4) c) z ∙ between u lo hi l h
+piece-good w lo hi g z l h = ap (λ c. cond (eqb c 0) (cond (leb lo u && leb u hi) 0 4) c) z ∙ no-fault u lo hi l h
   where
     u : ℕ
     u = g .v / 2 ^ (g .left - w) % 2 ^ w
 
 -- no part has a fault, and the last begins 15 bits in
-moment-good : (v : ℕ) → v < 2 ^ 21 → 1 ≤ v / 2 ^ 16 % 16 → v / 2 ^ 16 % 16 ≤ 12 → 1 ≤ v / 2 ^ 11 % 32 → v / 2 ^ 6 % 32 ≤ 23 → v % 64 ≤ 59 → (momentPieced v .code ≡ 0) × (momentPieced v .into ≡ 15)
+pub moment-good : (v : ℕ) → v < 2 ^ 21 → 1 ≤ v / 2 ^ 16 % 16 → v / 2 ^ 16 % 16 ≤ 12 → 1 ≤ v / 2 ^ 11 % 32 → v / 2 ^ 6 % 32 ≤ 23 → v % 64 ≤ 59 → (momentPieced v .code ≡ 0) × (momentPieced v .into ≡ 15)
 unfolding pieced
 moment-good v small m1 m2 d h n =
     let g = unpieced 21 v in
@@ -79,6 +79,14 @@ moment-good v small m1 m2 d h n =
 
 -- ---- an entry
 
+-- a sign and a value that are not both 0 have a value that is not below the sign's least
+pub least-good : (sign v : ℕ) → 1 ≤ sign * 1_024 + v → leastOf sign ≤ v
+least-good sign v l = go (eqb sign 0) refl
+  where
+    go : (x : Bool) → eqb sign 0 ≡ x → leastOf sign ≤ v
+    go true e = rw e (omega (arith, eqb-true sign 0 e))
+    go false e = rw e (omega arith)
+
 module _ (s : List ℕ) where
   -- what is good is there, since what is not there counts as 0
   good-there : (at : ℕ) → Good (got s at 32) → at + 32 ≤ length s * 8
@@ -87,13 +95,6 @@ module _ (s : List ℕ) where
       go : (x : Bool) → leb (at + 32) (length s * 8) ≡ x → at + 32 ≤ length s * 8
       go true e = leb-true (at + 32) (length s * 8) e
       go false e = let z : got s at 32 ≡ 0 = rw e refl in absurd (omega (arith, g, z))
-
-  least-good : (sign v : ℕ) → 1 ≤ sign * 1_024 + v → leastOf sign ≤ v
-  least-good sign v l = go (eqb sign 0) refl
-    where
-      go : (x : Bool) → eqb sign 0 ≡ x → leastOf sign ≤ v
-      go true e = rw e (omega (arith, eqb-true sign 0 e))
-      go false e = rw e (omega arith)
 
   module _ (r : Walk) (z : r .code ≡ 0) (reach : r .at + 32 < 2 ^ 64) (g : Good (got s (r .at) 32)) (u : Unsought 3 r) where
     abbrev timed : Walk

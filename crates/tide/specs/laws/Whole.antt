@@ -1,25 +1,25 @@
--- Good entries, judged one by one by a walk that seeks no field, leave it 32 bits further on each: by the parts of a time, then a field, an entry, and by induction n of them. Assumes nothing.
-use Prim.Native.Nat.{ℕ, zero, suc, _+_, _-_, _*_, _/_, _%_, _^_, _≤_, _<_}
+-- Good entries, judged one by one by a walk that seeks no field, leave it 32 bits further on each: a field, an entry, and by induction n of them. Assumes nothing.
+use Prim.Native.Nat.{ℕ, zero, suc, _+_, _-_, _*_, _%_, _^_, _≤_, _<_}
 use mathlib.Core.Path.{_≡_, refl, sym, ap, _∙_, subst}
-use mathlib.Core.Bool.{Bool, true, false, cond, _&&_}
+use mathlib.Core.Bool.{Bool, true, false}
 use mathlib.Core.List.{List, [], _∷_}
-use native.Mathlib.Nat.{mod-eq-of-lt, div-one}
+use native.Mathlib.Nat.{mod-eq-of-lt}
 use native.Mathlib.Omega.{arith}
-use lib.Dec.{leb, eqb}
+use lib.Dec.{eqb}
 use lib.ListN.{length, getD}
-use borrow.Author.Tests.{le-leb, lt-ltb, eqb-true, eqb-false}
+use borrow.Author.Tests.{eqb-true, eqb-false}
 use Rattle.walk.specs.Judging.{valued}
-use Rattle.walk.specs.Pieces.{unpieced, pieced}
+use Rattle.walk.specs.Pieces.{pieced}
 use Rattle.walk.specs.Reading.{judgedAs}
 use Rattle.walk.specs.Rows.{evenJudged}
 use Rattle.walk.specs.Walk.{onward}
-use Rattle.walk.specs.declared.pieces.Pieces.{Pieces}
 use Rattle.walk.specs.declared.walk.Walk.{Walk}
 use Rattle.notice_fields.specs.PartsSteps.{momentPieced, timeJudged}
 use Rattle.tide.specs.Making.{levelJudged, entryJudged, entriesJudged, threePut, entryPut}
 use Rattle.tide.specs.Row.{someTime}
 use Rattle.tide.specs.Tide.{leastOf}
 use Rattle.tide.specs.Whole.{GoodEntry, GoodEntries, quiet, Passes}
+use Rattle.tide.specs.laws.Entries.{no-fault, moment-good, least-good}
 
 -- where a row has a number, it does not matter what would count for it
 there : (l : List ℕ) (k a b : ℕ) → k < length l → getD l k a ≡ getD l k b
@@ -34,28 +34,14 @@ entry-there row k at t fits =
     let value = there row (k + 2) 0 1 fits in
     λ i. threePut (time i) (sign i) (value i) at t
 
-no-fault : (v lo hi : ℕ) → lo ≤ v → v ≤ hi → _≡_ {A = ℕ} (cond (leb lo v && leb v hi) 0 4) 0
-no-fault v lo hi a b = rw (le-leb lo v a, le-leb v hi b) refl
-
 -- ---- a time
 
--- its parts were good so far
-abbrev sound : ℕ → ℕ → ℕ → Pieces
-sound v left into = record { v = v; width = 21; left = left; code = 0; into = into }
-
-piece-sound : (v left into w lo hi : ℕ) → let u = v / 2 ^ (left - w) % 2 ^ w in lo ≤ u → u ≤ hi → pieced w lo hi (sound v left into) ≡ sound v (left - w) (21 - left)
+-- its parts are good, and the last begins 15 bits in
+time-good : {v sign value : ℕ} → GoodEntry v sign value → momentPieced v ≡ record { v = v; width = 21; left = 0; code = 0; into = 15 }
 unfolding pieced
-piece-sound v left into w lo hi a b = ap (λ c. record { v = v; width = 21; left = left - w; code = c; into = 21 - left }) (no-fault (v / 2 ^ (left - w) % 2 ^ w) lo hi a b)
-
-time-sound : {v sign value : ℕ} → GoodEntry v sign value → momentPieced v ≡ sound v 0 15
-time-sound {v} g =
-    let fits : unpieced 21 v ≡ sound v 21 0 = ap (λ b. record { v = v; width = 21; left = 21; code = cond b 0 4; into = 0 }) (lt-ltb v (2 ^ 21) (g .narrow)) in
-    ap (λ p. pieced 6 0 59 (pieced 5 0 23 (pieced 5 1 31 (pieced 4 1 12 (pieced 1 0 1 p))))) fits
-    ∙ ap (λ p. pieced 6 0 59 (pieced 5 0 23 (pieced 5 1 31 (pieced 4 1 12 p)))) (piece-sound v 21 0 1 0 1 (omega arith) (omega arith))
-    ∙ ap (λ p. pieced 6 0 59 (pieced 5 0 23 (pieced 5 1 31 p))) (piece-sound v 20 0 4 1 12 (g .month .0) (g .month .1))
-    ∙ ap (λ p. pieced 6 0 59 (pieced 5 0 23 p)) (piece-sound v 16 1 5 1 31 (g .day) (omega arith))
-    ∙ ap (pieced 6 0 59) (piece-sound v 11 5 5 0 23 (omega arith) (g .hour))
-    ∙ piece-sound v 6 10 6 0 59 (omega arith) (omega (arith, g .minute, div-one v))
+time-good {v} (narrow, bit, small, g) =
+    let (code, into) = moment-good v narrow (omega (arith, g .0)) (omega (arith, g .1)) (omega (arith, g .2)) (omega (arith, g .3)) (omega (arith, g .4)) in
+    λ i. record { v = v; width = 21; left = 0; code = code i; into = into i }
 
 -- ---- a field, an entry, n of them
 
@@ -74,11 +60,11 @@ module _ (spot width : ℕ) where
       → levelJudged sign value (timeJudged time (quiet at offset u spot width)) ≡ quiet (at + 32) (at + 22) value spot width
   entry-quiet at offset u {time} {sign} {value} reach g =
       let one : timeJudged time (quiet at offset u spot width) ≡ quiet (at + 21) (at + 15) time spot width =
-      ap (λ p. judgedAs p (quiet at offset u spot width)) (time-sound g) ∙ step-quiet at offset u 21 time 15 (omega arith) (omega arith) in
+      ap (λ p. judgedAs p (quiet at offset u spot width)) (time-good g) ∙ step-quiet at offset u 21 time 15 (omega arith) (omega arith) in
       let end : at + 21 + 1 + 10 ≡ at + 32 = omega arith in
       let last : at + 21 + 1 + 0 ≡ at + 22 = omega arith in
-      ap (levelJudged sign value) one ∙ ap (valued 10 value (leastOf sign) 1_023) (value-quiet (at + 21) (at + 15) time 1 sign 0 1 (omega arith) (omega arith) (g .level .0))
-      ∙ value-quiet (at + 21 + 1) (at + 21 + 0) sign 10 value (leastOf sign) 1_023 (omega arith) (g .level .1) (g .level .2) ∙ (λ j. quiet (end j) (last j) value spot width)
+      ap (levelJudged sign value) one ∙ ap (valued 10 value (leastOf sign) 1_023) (value-quiet (at + 21) (at + 15) time 1 sign 0 1 (omega arith) (omega arith) (omega (arith, g .1)))
+      ∙ value-quiet (at + 21 + 1) (at + 21 + 0) sign 10 value (leastOf sign) 1_023 (omega arith) (least-good sign value (omega (arith, g .0, g .1, g .2, g .3))) (omega (arith, g .2)) ∙ (λ j. quiet (end j) (last j) value spot width)
 
   first-quiet : (row : List ℕ) (n k at offset u : ℕ) → at + 32 < 2 ^ 64 → GoodEntries row (suc n) k → entryJudged row k (quiet at offset u spot width) ≡ quiet (at + 32) (at + 22) (getD row (k + 2) 1) spot width
   first-quiet row n k at offset u reach g =

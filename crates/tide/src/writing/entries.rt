@@ -3,7 +3,8 @@ ghost use mathlib.Core.Bool.{true};
 ghost use mathlib.Core.Path.{_≡_};
 ghost use Prim.Native.Nat.{_+_, _*_, _^_, _≤_, _<_};
 ghost use Rattle.tide.specs.Making.{entriesJudged, threePut, entriesPut};
-ghost use Rattle.tide.specs.Whole.{GoodLevel, GoodEntry, GoodEntries, Passes};
+ghost use Rattle.tide.specs.Whole.{GoodEntry, GoodEntries, Passes};
+use crate::entries::good;
 use crate::row::ENTRY;
 use crate::row::TIME;
 use crate::writing::making::SOME_TIME;
@@ -77,42 +78,17 @@ fn good_entries(row: &[u32], k: usize, n: usize) -> bool
     true
 }
 
-// Whether an entry's time, sign and value are good. The months 1 to 12 are counted from 0 on, so that one test finds 0 and 13 to 15.
+// Whether an entry's time, sign and value fit their bits, and are good together.
 fn good_entry(time: u32, sign: u32, value: u32) -> bool
     ensures { λ r. ⌜ (r ≡ true → GoodEntry time sign value) ⌝ }
 {
-    if time >= 0x20_0000 {
+    let time = time as u64;
+    let sign = sign as u64;
+    let value = value as u64;
+    if !fit(time, sign, value) {
         return false;
     }
-    if (time / 0x1_0000 + 15) % 16 > 11 {
-        return false;
-    }
-    if time / 0x800 % 32 == 0 {
-        return false;
-    }
-    if time / 64 % 32 > 23 {
-        return false;
-    }
-    if time % 64 > 59 {
-        return false;
-    }
-    good_level(sign, value)
-}
-
-// A sign and a value: 0 centimetres have one form.
-fn good_level(sign: u32, value: u32) -> bool
-    ensures { λ r. ⌜ (r ≡ true → GoodLevel sign value) ⌝ }
-{
-    if sign > 1 {
-        return false;
-    }
-    if value > 1_023 {
-        return false;
-    }
-    if sign + value == 0 {
-        return false;
-    }
-    true
+    good(packed(time, sign, value))
 }
 
 // ---- putting
