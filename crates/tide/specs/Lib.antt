@@ -14,7 +14,7 @@ pub mod Heights
 pub mod HeightsPromises
 pub mod Said
 pub mod Making
-pub mod Whole
+pub mod RowEntries
 pub mod Written
 pub mod Examples
 pub mod laws

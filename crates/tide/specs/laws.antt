@@ -10,7 +10,7 @@ pub mod Told
 pub mod Spots
 pub mod Demands
 pub mod Judging
-pub mod Whole
+pub mod RowEntries
 pub mod Packed
 pub mod Putting
 pub mod Writing

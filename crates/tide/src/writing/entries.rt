@@ -3,7 +3,7 @@ ghost use mathlib.Core.Bool.{true};
 ghost use mathlib.Core.Path.{_≡_};
 ghost use Prim.Native.Nat.{_+_, _*_, _^_, _≤_, _<_};
 ghost use Rattle.tide.specs.Making.{entriesJudged, threePut, entriesPut};
-ghost use Rattle.tide.specs.Whole.{GoodEntry, GoodEntries, Passes};
+ghost use Rattle.tide.specs.RowEntries.{GoodEntry, GoodEntries, Passes};
 use crate::entries::good;
 use crate::row::ENTRY;
 use crate::row::TIME;

@@ -3,8 +3,8 @@ use Prim.Native.Nat.{_-_, _≤_}
 use mathlib.Core.Bool.{false≢true}
 use native.Mathlib.Omega.{arith}
 use borrow.Author.Tests.{not-false}
-use Rattle.tide.specs.Whole.{GoodEntries}
-use Rattle.tide.specs.laws.Whole.{good-turn}
+use Rattle.tide.specs.RowEntries.{GoodEntries}
+use Rattle.tide.specs.laws.RowEntries.{good-turn}
 use borrow.Author.Needs.{needs}
 use Rattle.tide.proofs.writing.entries.good_entries.Statement.{statement}
 use Rattle.tide.proofs.writing.entries.good_entries.Tie as tie

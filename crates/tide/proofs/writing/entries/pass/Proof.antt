@@ -1,6 +1,6 @@
 -- `pass` leaves the walk where judging n good entries one by one does (`entries-quiet`).
 use Prim.Native.Nat.{_-_}
-use Rattle.tide.specs.laws.Whole.{pass-quiet}
+use Rattle.tide.specs.laws.RowEntries.{pass-quiet}
 use borrow.Author.Needs.{needs}
 use Rattle.tide.proofs.writing.entries.pass.Statement.{statement}
 use Rattle.tide.proofs.writing.entries.pass.Tie as tie

@@ -7,7 +7,7 @@ use Rattle.walk.specs.Rows.{evenPut}
 use Rattle.walk.specs.laws.RowsPut.{even-put-turn}
 use Rattle.tide.specs.Making.{entryPut, entriesPut}
 use Rattle.tide.specs.Row.{entryBits}
-use Rattle.tide.specs.laws.Whole.{entry-there}
+use Rattle.tide.specs.laws.RowEntries.{entry-there}
 use borrow.Author.Needs.{needs}
 use Rattle.tide.proofs.writing.making.put_entries.Statement.{statement}
 use Rattle.tide.proofs.writing.making.put_entries.Tie as tie

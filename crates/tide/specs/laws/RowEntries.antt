@@ -18,7 +18,7 @@ use Rattle.notice_fields.specs.PartsSteps.{momentPieced, timeJudged}
 use Rattle.tide.specs.Making.{levelJudged, entryJudged, entriesJudged, threePut, entryPut}
 use Rattle.tide.specs.Row.{someTime}
 use Rattle.tide.specs.Tide.{leastOf}
-use Rattle.tide.specs.Whole.{GoodEntry, GoodEntries, quiet, Passes}
+use Rattle.tide.specs.RowEntries.{GoodEntry, GoodEntries, quiet, Passes}
 use Rattle.tide.specs.laws.Entries.{no-fault, moment-good, least-good}
 
 -- where a row has a number, it does not matter what would count for it

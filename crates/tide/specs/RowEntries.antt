@@ -1,4 +1,4 @@
--- Entries that are good as they stand, and the walk behind them. Assumes nothing.
+-- Entries of a row that are good as they stand, and the walk behind them. Assumes nothing.
 use Prim.Native.Nat.{ℕ, _+_, _*_, _^_, _≤_, _<_}
 use mathlib.Core.Bool.{false}
 use mathlib.Core.Path.{_≡_}
