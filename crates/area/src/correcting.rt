@@ -9,6 +9,7 @@ use crate::reading::Area;
 use crate::reading::fields;
 use crate::reading::read;
 use change::correcting::Spot;
+use format::Refusal;
 
 impl Area {
     // The numbers of the fields that may be corrected. Those of a shape are fields of areas of that shape alone.
@@ -42,8 +43,8 @@ impl Area {
 }
 
 // Makes field number `field` of the message be `value`, or leaves every byte.
-pub fn correct(buf: &mut [u8], field: usize, value: u64) -> u8
-    ensures { λ code. ⌜ Corrects areas (now (buf .entry)) (fieldOf (fieldAt (now (buf .entry)) 92 2) field) value code (now (buf .exit)) ⌝ }
+pub fn correct(buf: &mut [u8], field: usize, value: u64) -> Refusal
+    ensures { λ refusal. ⌜ Corrects areas (now (buf .entry)) (fieldOf (fieldAt (now (buf .entry)) 92 2) field) value refusal (now (buf .exit)) ⌝ }
 {
     let was = read(buf);
     let spot = stands(bits::get(buf, 92, 2), field);

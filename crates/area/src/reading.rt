@@ -4,10 +4,11 @@ ghost use mathlib.Core.Bool.{cond};
 ghost use lib.Dec.{eqb};
 ghost use Rattle.format.specs.Fmt.{also};
 ghost use Rattle.format.specs.Message.{fieldsOf};
-ghost use Rattle.area.specs.Area.{area, areas, recordOf, answerOf, numberOf};
+ghost use Rattle.area.specs.Area.{area, areas, recordOf, answerOf, refusalOf};
 ghost use Rattle.area.specs.Promises.{Reads};
 ghost use Rattle.area.specs.declared.reading.Answer.the-variants.{Good, Refused};
 pub use ais_common::head::AUTHORITY;
+use format::Refusal;
 use walk::choosing::choose_code;
 use walk::choosing::no_refusal;
 
@@ -30,27 +31,27 @@ pub struct Area {
 
 pub enum Answer {
     Good(Area),
-    Refused(u8),
+    Refused(Refusal),
 }
 
 impl Answer {
     // The area, unless a walk over it ended with a refusal.
-    fn told(code: u8, r: Area) -> Answer
-        ensures { λ a. ⌜ a ≡ cond (eqb code 0) (Good r) (Refused code) ⌝ }
+    fn told(refusal: Refusal, r: Area) -> Answer
+        ensures { λ a. ⌜ a ≡ cond (eqb (refusal .code) 0) (Good r) (Refused refusal) ⌝ }
     {
-        if code != 0 {
-            return Answer::Refused(code);
+        if refusal.code != 0 {
+            return Answer::Refused(refusal);
         }
         Answer::Good(r)
     }
 
-    // Its number: 0 for a good one.
-    pub fn refusal(self) -> u8
-        ensures { λ r. ⌜ r ≡ numberOf self ⌝ }
+    // Its refusal: none for a good one.
+    pub fn refusal(self) -> Refusal
+        ensures { λ r. ⌜ r ≡ refusalOf self ⌝ }
     {
         match self {
-            Answer::Good(_) => 0,
-            Answer::Refused(code) => code,
+            Answer::Good(_) => Refusal::NONE,
+            Answer::Refused(refusal) => refusal,
         }
     }
 }
@@ -99,7 +100,7 @@ pub fn fields(s: &[u8], lead: u8) -> Answer
     ensures { λ r. ⌜ r ≡ answerOf (also recordOf (fieldsOf area 31 31 lead (now (s .entry)))) ⌝ }
 {
     if s.len() != Area::LEAST {
-        return Answer::Refused(choose_code(no_refusal(lead), format::SIZE, lead));
+        return Answer::Refused(Refusal::bare(choose_code(no_refusal(lead), format::SIZE, lead)));
     }
     let w = walk::walk::Walk::begin(lead, 0).code(s, 6, MESSAGE);
     let w = w.num(s, 2, 0, 3);
@@ -137,5 +138,5 @@ pub fn fields(s: &[u8], lead: u8) -> Answer
         second_time,
         advice,
     };
-    Answer::told(w.code, r)
+    Answer::told(w.refusal(), r)
 }

@@ -2,20 +2,21 @@
 ghost use Rattle.format.specs.Promises.{Writes};
 ghost use Rattle.area.specs.Area.{areas, valuesOf};
 use crate::reading::Area;
+use format::Refusal;
 
 mod making;
 
 // Writes the area into the front of a lent buffer: the record is judged, then room (6); the bytes past the message stay.
-pub fn write(buf: &mut [u8], r: Area) -> u8
-    ensures { λ code. ⌜ Writes areas (now (buf .entry)) code (now (buf .exit)) (valuesOf r) ⌝ }
+pub fn write(buf: &mut [u8], r: Area) -> Refusal
+    ensures { λ refusal. ⌜ Writes areas (now (buf .entry)) refusal (now (buf .exit)) (valuesOf r) ⌝ }
 {
     let time = r.time.spelled();
     let second = r.second_time.spelled();
     let w = making::judged(r, time, second);
-    let code = w.closes(false, Area::LEAST, Area::GREATEST, buf.len());
-    if code != 0 {
-        return code;
+    let refusal = w.closes(false, Area::LEAST, Area::GREATEST, buf.len());
+    if refusal.code != 0 {
+        return refusal;
     }
     making::put(buf, r, time, second);
-    0
+    Refusal::NONE
 }

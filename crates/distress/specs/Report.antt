@@ -6,9 +6,11 @@ use mathlib.Core.List.{List, [], _∷_}
 use lib.Dec.{eqb, lit≤}
 use lib.ListN.{length, getD}
 use Rattle.bits.specs.Bits.{fieldAt}
-use Rattle.format.specs.Fmt.{Out, accepted, refused, Fmt, end}
-use Rattle.format.specs.Message.{Layout, led, between, codeOf}
-use Rattle.format.specs.Promises.{answered}
+use Rattle.format.specs.Fmt.{Out, accepted, Fmt, end}
+use Rattle.format.specs.Message.{Layout, led, between}
+use Rattle.format.specs.Promises.{answered, refusedBy}
+use Rattle.format.specs.Refusals.{bare}
+use Rattle.format.specs.declared.Refusal.{Refusal}
 use Rattle.walk.specs.Sign.{intOf, spellOf}
 use Rattle.format.specs.Words.{_‥_, signed, _▹_, num, code, fill}
 use Rattle.format.specs.laws.Extent.{Plain, span}
@@ -72,17 +74,18 @@ reportOf vs = record {
   kind = getD vs 9 0;
 }
 
--- the paper's number and values
+-- the paper's refusals and values
 abbrev pub answerOf : Out Report → Answer
 answerOf = answered Good Refused
 
--- an answer taken apart, and its number
+-- an answer taken apart, and its refusal
 abbrev pub outOf : Answer → Out Report
 outOf (Good r) = accepted r
-outOf (Refused c) = refused c 0
+outOf (Refused c) = refusedBy c
 
-abbrev pub numberOf : Answer → ℕ
-numberOf a = codeOf (outOf a)
+abbrev pub refusalOf : Answer → Refusal
+refusalOf (Good r) = bare 0
+refusalOf (Refused c) = c
 
 -- a record whose position fits its bits is that of its values
 pub again : (r : Report) → spellOf (2 ^ 25) (r .longitude) < 2 ^ 25 → spellOf (2 ^ 24) (r .latitude) < 2 ^ 24 → reportOf (valuesOf r) ≡ r

@@ -7,6 +7,7 @@ use crate::reading::Report;
 use crate::reading::fields;
 use crate::reading::read;
 use change::correcting::Spot;
+use format::Refusal;
 
 impl Report {
     // The numbers that name the fields to be corrected: their positions among the paper's fields. The code before them and the fill
@@ -31,8 +32,8 @@ impl Report {
 }
 
 // Makes field number `field` of the message be `value`, or leaves every byte.
-pub fn correct(buf: &mut [u8], field: usize, value: u64) -> u8
-    ensures { λ code. ⌜ Corrects reports (now (buf .entry)) field value code (now (buf .exit)) ⌝ }
+pub fn correct(buf: &mut [u8], field: usize, value: u64) -> Refusal
+    ensures { λ refusal. ⌜ Corrects reports (now (buf .entry)) field value refusal (now (buf .exit)) ⌝ }
 {
     let was = read(buf);
     let spot = stands(field);

@@ -3,10 +3,11 @@ ghost use mathlib.Core.Path.{_≡_};
 ghost use mathlib.Core.Bool.{cond};
 ghost use lib.Dec.{eqb};
 ghost use Rattle.distress.specs.declared.reading.Answer.the-variants.{Good, Refused};
-ghost use Rattle.distress.specs.Report.{reports, report, reportOf, answerOf, numberOf};
+ghost use Rattle.distress.specs.Report.{reports, report, reportOf, answerOf, refusalOf};
 ghost use Rattle.distress.specs.Promises.{Reads};
 ghost use Rattle.format.specs.Fmt.{also};
 ghost use Rattle.format.specs.Message.{fieldsOf};
+use format::Refusal;
 use walk::choosing::choose_code;
 use walk::choosing::no_refusal;
 
@@ -28,27 +29,27 @@ pub struct Report {
 
 pub enum Answer {
     Good(Report),
-    Refused(u8),
+    Refused(Refusal),
 }
 
 impl Answer {
     // The report, unless a walk over it ended with a refusal.
-    fn told(code: u8, report: Report) -> Answer
-        ensures { λ r. ⌜ r ≡ cond (eqb code 0) (Good report) (Refused code) ⌝ }
+    fn told(refusal: Refusal, report: Report) -> Answer
+        ensures { λ r. ⌜ r ≡ cond (eqb (refusal .code) 0) (Good report) (Refused refusal) ⌝ }
     {
-        if code != 0 {
-            return Answer::Refused(code);
+        if refusal.code != 0 {
+            return Answer::Refused(refusal);
         }
         Answer::Good(report)
     }
 
-    // Its number: 0 for a good one.
-    pub fn refusal(self) -> u8
-        ensures { λ r. ⌜ r ≡ numberOf self ⌝ }
+    // Its refusal: none for a good one.
+    pub fn refusal(self) -> Refusal
+        ensures { λ r. ⌜ r ≡ refusalOf self ⌝ }
     {
         match self {
-            Answer::Good(_) => 0,
-            Answer::Refused(code) => code,
+            Answer::Good(_) => Refusal::NONE,
+            Answer::Refused(refusal) => refusal,
         }
     }
 }
@@ -90,7 +91,7 @@ pub fn fields(s: &[u8], lead: u8) -> Answer
     ensures { λ r. ⌜ r ≡ answerOf (also reportOf (fieldsOf report 17 17 lead (now (s .entry)))) ⌝ }
 {
     if s.len() != Report::LEAST {
-        return Answer::Refused(choose_code(no_refusal(lead), format::SIZE, lead));
+        return Answer::Refused(Refusal::bare(choose_code(no_refusal(lead), format::SIZE, lead)));
     }
     let w = walk::walk::Walk::begin(lead, 0).code(s, 16, CODE);
     let w = w.num(s, 32, 0, 999_999_999);
@@ -123,5 +124,5 @@ pub fn fields(s: &[u8], lead: u8) -> Answer
         course,
         kind,
     };
-    Answer::told(w.code, r)
+    Answer::told(w.refusal(), r)
 }

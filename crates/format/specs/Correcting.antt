@@ -7,6 +7,8 @@ use lib.Dec.{ltb, eqb}
 use lib.ListN.{getD}
 use Rattle.bits.specs.Answers.{got, puttable}
 use Rattle.bits.specs.Bits.{putAt}
+use Rattle.format.specs.Refusals.{shown, bare}
+use Rattle.format.specs.declared.Refusal.{Refusal}
 use Rattle.format.specs.Fmt.{Spot, none, found}
 use Rattle.format.specs.Sealing.{reclosed}
 
@@ -27,8 +29,8 @@ abbrev pub entryOf : ℕ → List ℕ → ℕ → List ℕ → ℕ → ℕ
 entryOf k common first own n = cond (ltb n k) (getD common n 0) (entryFrom first own n)
 
 -- the message's own refusal, 10, then too wide
-abbrev pub admitted : ℕ → ℕ → ℕ → ℕ
-admitted code width v = cond (eqb code 0) (cond (eqb width 0) 10 (cond (ltb v (2 ^ width)) 0 4)) code
+abbrev pub admitted : Refusal → ℕ → ℕ → ℕ → Refusal
+admitted own at width v = cond (eqb (own .code) 0) (cond (eqb width 0) (bare 10) (cond (ltb v (2 ^ width)) (bare 0) (shown 4 at))) own
 
 -- s with the field made v, where both fit
 abbrev pub putIn : List ℕ → ℕ → ℕ → ℕ → List ℕ
@@ -38,15 +40,15 @@ putIn s at w v = cond (puttable s at w v) (putAt s at w v) s
 pub put-in : (s : List ℕ) (at w v : ℕ) {b : Bool} {t : List ℕ} → (b ≡ puttable s at w v) × (t ≡ cond b (putAt s at w v) s) → t ≡ putIn s at w v
 put-in s at w v p = p .1 ∙ ap (λ b. cond b (putAt s at w v) s) (p .0)
 
--- A correction to v is begun in s, which was read with the code c, of the field that has w bits at p: its code, the field's offset and width and what it was, and t left of s.
-pub record Begins (s : List ℕ) (c p w v code at width old : ℕ) (t : List ℕ) : Type 0 where
-  pub admits : code ≡ admitted c w v
+-- A correction to v is begun in s, whose reading told `own`, of the field that has w bits at p: its refusal, the field's offset and width and what it was, and t left of s.
+pub record Begins (s : List ℕ) (own : Refusal) (p w v : ℕ) (refusal : Refusal) (at width old : ℕ) (t : List ℕ) : Type 0 where
+  pub admits : refusal ≡ admitted own p w v
   pub offset : at ≡ p
   pub wide : width ≡ w
   pub was : old ≡ got s p w
-  pub puts : t ≡ cond (eqb code 0) (putIn s p w v) s
+  pub puts : t ≡ cond (eqb (refusal .code) 0) (putIn s p w v) s
 
--- It is finished in t, whose fields were read with the code d: its last code, and x left of t, with its seal made anew where the layout has one. What is refused is as it was.
-pub record Finishes (seal : Bool) (code at width old d : ℕ) (t : List ℕ) (last : ℕ) (x : List ℕ) : Type 0 where
-  pub answers : last ≡ cond (eqb code 0) d code
-  pub leaves : x ≡ cond (eqb code 0) (cond (eqb d 0) (reclosed seal t) (putIn t at width old)) t
+-- It is finished in t, whose fields' reading told `again`: its last refusal, and x left of t, with its seal made anew where the layout has one. What is refused is as it was.
+pub record Finishes (seal : Bool) (refusal : Refusal) (at width old : ℕ) (again : Refusal) (t : List ℕ) (last : Refusal) (x : List ℕ) : Type 0 where
+  pub answers : last ≡ cond (eqb (refusal .code) 0) again refusal
+  pub leaves : x ≡ cond (eqb (refusal .code) 0) (cond (eqb (again .code) 0) (reclosed seal t) (putIn t at width old)) t

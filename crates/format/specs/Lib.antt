@@ -1,5 +1,6 @@
 -- The definitions that contracts cite, and in `laws` what is proved of them for every layout.
 pub mod Fmt
+pub mod Refusals
 pub mod Words
 pub mod Groups
 pub mod Message

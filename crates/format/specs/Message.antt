@@ -7,6 +7,8 @@ use lib.Dec.{leb, eqb}
 use lib.ListN.{length, take, drop, getD, set}
 use Rattle.bits.specs.Bits.{bitsOf, bytesOf}
 use Rattle.bits.specs.Xor.{xorOf}
+use Rattle.format.specs.Refusals.{shown, bare}
+use Rattle.format.specs.declared.Refusal.{Refusal}
 use Rattle.format.specs.Fmt.{Out, accepted, refused, Fault, good, bad, orBad, check, after, Fmt, read, write, found, spot, unless10}
 
 pub record Layout : Type 0 where
@@ -86,20 +88,21 @@ correctMessage l s i v = after (readMessage l s) (λ vs. unless10 (spot (l .fmt)
 
 -- ---- what a call answers, and what it leaves in a lent buffer
 
-abbrev pub codeOf : {A : Type 0} → Out A → ℕ
-codeOf (accepted a) = 0
-codeOf (refused c p) = c
+-- no refusal, or what is told of it
+abbrev pub told : {A : Type 0} → Out A → Refusal
+told (accepted a) = bare 0
+told (refused c p) = shown c p
 
 abbrev pub leaves : {A : Type 0} → Out A → A → A
 leaves (accepted t) s = t
 leaves (refused c p) s = s
 
--- the call's number and the buffer that it leaves, from its answer
-pub refuses : {A : Type 0} {s : A} {o : Out A} {c p : ℕ} → o ≡ refused c p → (c ≡ codeOf o) × (s ≡ leaves o s)
-refuses {s} e = (ap codeOf (sym e), ap (λ o. leaves o s) (sym e))
+-- the call's refusal and the buffer that it leaves, from its answer
+pub refuses : {A : Type 0} {s : A} {o : Out A} {c p : ℕ} → o ≡ refused c p → (shown c p ≡ told o) × (s ≡ leaves o s)
+refuses {s} e = (ap told (sym e), ap (λ o. leaves o s) (sym e))
 
-pub accepts : {A : Type 0} (s : A) {t : A} {o : Out A} → o ≡ accepted t → (0 ≡ codeOf o) × (t ≡ leaves o s)
-accepts s e = (ap codeOf (sym e), ap (λ o. leaves o s) (sym e))
+pub accepts : {A : Type 0} (s : A) {t : A} {o : Out A} → o ≡ accepted t → (bare 0 ≡ told o) × (t ≡ leaves o s)
+accepts s e = (ap told (sym e), ap (λ o. leaves o s) (sym e))
 
 -- t at the front of a lent buffer or row s; what stands past it stays
 abbrev pub ahead : {A : Type 0} → List A → List A → List A

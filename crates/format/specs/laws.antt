@@ -1,4 +1,5 @@
 -- What is proved of every layout.
+pub mod Refusals
 pub mod Round
 pub mod Correct
 pub mod Whole

@@ -7,6 +7,7 @@ use crate::reading::Gljc;
 use crate::reading::fields;
 use crate::reading::read;
 use change::correcting::Spot;
+use format::Refusal;
 
 impl Gljc {
     // The fields that may be corrected, by their position among the frame's.
@@ -16,8 +17,8 @@ impl Gljc {
 }
 
 // Makes field number `field` of the frame be `value`, and its seal anew, or leaves every byte.
-pub fn correct(buf: &mut [u8], field: usize, value: u64) -> u8
-    ensures { λ code. ⌜ Corrects gljcs (now (buf .entry)) field value code (now (buf .exit)) ⌝ }
+pub fn correct(buf: &mut [u8], field: usize, value: u64) -> Refusal
+    ensures { λ refusal. ⌜ Corrects gljcs (now (buf .entry)) field value refusal (now (buf .exit)) ⌝ }
 {
     let was = read(buf);
     let spot = stands(field);

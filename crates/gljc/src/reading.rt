@@ -4,9 +4,10 @@ ghost use mathlib.Core.Bool.{cond};
 ghost use lib.Dec.{eqb};
 ghost use Rattle.format.specs.Fmt.{also};
 ghost use Rattle.format.specs.Message.{fieldsOf};
-ghost use Rattle.gljc.specs.Gljc.{gljc, recordOf, answerOf, numberOf};
+ghost use Rattle.gljc.specs.Gljc.{gljc, recordOf, answerOf, refusalOf};
 ghost use Rattle.gljc.specs.Promises.{Reads};
 ghost use Rattle.gljc.specs.declared.reading.Answer.the-variants.{Good, Refused};
+use format::Refusal;
 use walk::choosing::choose_code;
 use walk::choosing::no_refusal;
 
@@ -17,27 +18,27 @@ pub struct Gljc {
 
 pub enum Answer {
     Good(Gljc),
-    Refused(u8),
+    Refused(Refusal),
 }
 
 impl Answer {
     // The record, unless a walk over its frame ended with a refusal.
-    fn told(code: u8, r: Gljc) -> Answer
-        ensures { λ a. ⌜ a ≡ cond (eqb code 0) (Good r) (Refused code) ⌝ }
+    fn told(refusal: Refusal, r: Gljc) -> Answer
+        ensures { λ a. ⌜ a ≡ cond (eqb (refusal .code) 0) (Good r) (Refused refusal) ⌝ }
     {
-        if code != 0 {
-            return Answer::Refused(code);
+        if refusal.code != 0 {
+            return Answer::Refused(refusal);
         }
         Answer::Good(r)
     }
 
-    // Its number: 0 for a good one.
-    pub fn refusal(self) -> u8
-        ensures { λ r. ⌜ r ≡ numberOf self ⌝ }
+    // Its refusal: none for a good one.
+    pub fn refusal(self) -> Refusal
+        ensures { λ r. ⌜ r ≡ refusalOf self ⌝ }
     {
         match self {
-            Answer::Good(_) => 0,
-            Answer::Refused(code) => code,
+            Answer::Good(_) => Refusal::NONE,
+            Answer::Refused(refusal) => refusal,
         }
     }
 }
@@ -70,12 +71,12 @@ pub fn fields(s: &[u8], code: u8) -> Answer
     ensures { λ r. ⌜ r ≡ answerOf (also recordOf (fieldsOf gljc 11 11 code (now (s .entry)))) ⌝ }
 {
     if s.len() != SEALED {
-        return Answer::Refused(choose_code(no_refusal(code), format::SIZE, code));
+        return Answer::Refused(Refusal::bare(choose_code(no_refusal(code), format::SIZE, code)));
     }
     let w = frame::head(s, code, LETTERS, LENGTH, LENGTH);
     let address = w.v as u32;
     let w = w.num(s, 8, 0, 255);
     let minutes = w.v as u8;
     let w = w.end(s);
-    Answer::told(w.code, Gljc { address, minutes })
+    Answer::told(w.refusal(), Gljc { address, minutes })
 }

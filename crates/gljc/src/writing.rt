@@ -8,20 +8,21 @@ ghost use Rattle.gljc.specs.Gljc.{gljc, gljcs, valuesOf};
 use crate::reading::Gljc;
 use crate::reading::LENGTH;
 use crate::reading::LETTERS;
+use format::Refusal;
 
 // Writes the frame into the front of a lent buffer: the record is judged, then room (6); the bytes past the frame stay.
-pub fn write(buf: &mut [u8], r: Gljc) -> u8
-    ensures { λ code. ⌜ Writes gljcs (now (buf .entry)) code (now (buf .exit)) (valuesOf r) ⌝ }
+pub fn write(buf: &mut [u8], r: Gljc) -> Refusal
+    ensures { λ refusal. ⌜ Writes gljcs (now (buf .entry)) refusal (now (buf .exit)) (valuesOf r) ⌝ }
 {
     let w = judged(r);
     let n = w.bytes(false);
-    let code = w.closes(true, Gljc::LEAST, Gljc::GREATEST, buf.len());
-    if code != 0 {
-        return code;
+    let refusal = w.closes(true, Gljc::LEAST, Gljc::GREATEST, buf.len());
+    if refusal.code != 0 {
+        return refusal;
     }
     put(buf, r);
     change::sealing::stamp(buf, n);
-    0
+    Refusal::NONE
 }
 
 fn judged(r: Gljc) -> walk::walk::Walk

@@ -11,6 +11,7 @@ ghost use Rattle.notice.specs.Notice.{notices};
 use crate::reading::Notice;
 use crate::reading::fields;
 use change::correcting::Spot;
+use format::Refusal;
 
 impl Notice {
     // The numbers of the fields that may be corrected, by their position among the notice's: those of the head, and from FIRST_ENTRY on
@@ -33,16 +34,16 @@ impl Notice {
 }
 
 // Makes field number `field` of the notice be `value`, or leaves every byte.
-pub fn correct(buf: &mut [u8], english: bool, field: usize, value: u64) -> u8
-    ensures { λ code. ⌜ Corrects (notices english) (now (buf .entry)) field value code (now (buf .exit)) ⌝ }
+pub fn correct(buf: &mut [u8], english: bool, field: usize, value: u64) -> Refusal
+    ensures { λ refusal. ⌜ Corrects (notices english) (now (buf .entry)) field value refusal (now (buf .exit)) ⌝ }
 {
     let was = fields(buf, field, english);
     let walk = was.walk;
     let spot = stands(field, walk.spot, walk.width);
-    let begun = change::correcting::begin(buf, walk.code, spot, value);
+    let begun = change::correcting::begin(buf, walk.refusal(), spot, value);
     let again = fields(buf, 0, english);
     let last = again.walk;
-    change::correcting::finish(buf, begun, last.code)
+    change::correcting::finish(buf, begun, last.refusal())
 }
 
 // Where each field that may be corrected stands, and its width: those of the head are the same in every notice, and an entry of the

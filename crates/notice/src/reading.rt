@@ -2,11 +2,12 @@
 ghost use mathlib.Core.Path.{_≡_};
 ghost use Prim.Native.Nat.{_≤_};
 ghost use lib.ListN.{length};
-ghost use Rattle.format.specs.Message.{codeOf, readMessage};
+ghost use Rattle.format.specs.Message.{told, readMessage};
 ghost use Rattle.notice.specs.Notice.{notices, sizes};
-ghost use Rattle.notice.specs.Promises.{Reads, numberOf};
+ghost use Rattle.notice.specs.Promises.{Reads, refusalOf};
 ghost use Rattle.notice.specs.Steps.{openingOf, endingOf, unreadBy, courseOf};
 ghost use Rattle.packet.specs.Packet.{joined};
+use format::Refusal;
 use walk::choosing::choose_code;
 use walk::walk::Walk;
 
@@ -39,17 +40,17 @@ pub struct Told {
 
 pub enum Answer {
     Good(Told),
-    Refused(u8),
+    Refused(Refusal),
 }
 
 impl Answer {
-    // Its number: 0 for a good one.
-    pub fn refusal(self) -> u8
-        ensures { λ r. ⌜ r ≡ numberOf self ⌝ }
+    // Its refusal: none for a good one.
+    pub fn refusal(self) -> Refusal
+        ensures { λ r. ⌜ r ≡ refusalOf self ⌝ }
     {
         match self {
-            Answer::Good(_) => 0,
-            Answer::Refused(code) => code,
+            Answer::Good(_) => Refusal::NONE,
+            Answer::Refused(refusal) => refusal,
         }
     }
 }
@@ -92,17 +93,17 @@ pub fn read(s: &[u8], english: bool, areas: &mut [u32], text: &mut [u8]) -> Answ
     let walk = f.walk;
     let code = walk.code;
     if code != 0 {
-        return Answer::Refused(code);
+        return Answer::Refused(walk.refusal());
     }
     let notice = f.notice;
     let n = f.text;
     if text.len() < n {
-        return Answer::Refused(format::ROOM);
+        return Answer::Refused(Refusal::ROOM);
     }
     // A row that is too short stays as it was.
     let numbers = notice_fields::row::fill(s, notice.count, areas);
     if areas.len() < numbers {
-        return Answer::Refused(format::ROOM);
+        return Answer::Refused(Refusal::ROOM);
     }
     bits::whole_bytes::get_bytes(s, f.at, n, text);
     Answer::Good(Told {
@@ -112,13 +113,13 @@ pub fn read(s: &[u8], english: bool, areas: &mut [u32], text: &mut [u8]) -> Answ
     })
 }
 
-// What reading a notice answers, where room is enough: 0, or its refusal.
-pub fn refusal(s: &[u8], english: bool) -> u8
-    ensures { λ r. ⌜ r ≡ codeOf (readMessage (notices english) (now (s .entry))) ⌝ }
+// What reading a notice answers, where room is enough: its refusal, or none.
+pub fn refusal(s: &[u8], english: bool) -> Refusal
+    ensures { λ r. ⌜ r ≡ told (readMessage (notices english) (now (s .entry))) ⌝ }
 {
     let course = fields(s, 0, english);
     let walk = course.walk;
-    walk.code
+    walk.refusal()
 }
 
 // The size, then the fields in bit order; on the way, field number `want` is found. Of another size nothing is walked.

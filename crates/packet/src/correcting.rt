@@ -7,6 +7,7 @@ use crate::reading::Packet;
 use crate::reading::fields;
 use crate::reading::read;
 use change::correcting::Spot;
+use format::Refusal;
 
 impl Packet {
     // The fields that may be corrected, by their position among the packet's.
@@ -20,8 +21,8 @@ impl Packet {
 }
 
 // Makes field number `field` of the packet be `value`, or leaves every byte.
-pub fn correct(buf: &mut [u8], field: usize, value: u64) -> u8
-    ensures { λ code. ⌜ Corrects packets (now (buf .entry)) field value code (now (buf .exit)) ⌝ }
+pub fn correct(buf: &mut [u8], field: usize, value: u64) -> Refusal
+    ensures { λ refusal. ⌜ Corrects packets (now (buf .entry)) field value refusal (now (buf .exit)) ⌝ }
 {
     let was = read(buf);
     let spot = stands(field);

@@ -5,9 +5,10 @@ ghost use Prim.Native.Nat.{_-_};
 ghost use lib.Dec.{eqb};
 ghost use Rattle.format.specs.Fmt.{also};
 ghost use Rattle.format.specs.Message.{fieldsOf};
-ghost use Rattle.packet.specs.Packet.{greatest, packet, packets, recordOf, answerOf, numberOf};
+ghost use Rattle.packet.specs.Packet.{greatest, packet, packets, recordOf, answerOf, refusalOf};
 ghost use Rattle.packet.specs.Promises.{Reads, Shows};
 ghost use Rattle.packet.specs.declared.reading.Answer.the-variants.{Good, Refused};
+use format::Refusal;
 use walk::choosing::choose_code;
 use walk::choosing::no_refusal;
 
@@ -25,27 +26,27 @@ pub struct Packet {
 
 pub enum Answer {
     Good(Packet),
-    Refused(u8),
+    Refused(Refusal),
 }
 
 impl Answer {
     // The record, unless a walk over its packet ended with a refusal.
-    fn told(code: u8, r: Packet) -> Answer
-        ensures { λ a. ⌜ a ≡ cond (eqb code 0) (Good r) (Refused code) ⌝ }
+    fn told(refusal: Refusal, r: Packet) -> Answer
+        ensures { λ a. ⌜ a ≡ cond (eqb (refusal .code) 0) (Good r) (Refused refusal) ⌝ }
     {
-        if code != 0 {
-            return Answer::Refused(code);
+        if refusal.code != 0 {
+            return Answer::Refused(refusal);
         }
         Answer::Good(r)
     }
 
-    // Its number: 0 for a good one.
-    pub fn refusal(self) -> u8
-        ensures { λ r. ⌜ r ≡ numberOf self ⌝ }
+    // Its refusal: none for a good one.
+    pub fn refusal(self) -> Refusal
+        ensures { λ r. ⌜ r ≡ refusalOf self ⌝ }
     {
         match self {
-            Answer::Good(_) => 0,
-            Answer::Refused(code) => code,
+            Answer::Good(_) => Refusal::NONE,
+            Answer::Refused(refusal) => refusal,
         }
     }
 }
@@ -83,8 +84,8 @@ pub fn read(s: &[u8]) -> Answer
 pub fn content(s: &[u8]) -> &[u8]
     ensures { λ r. ⌜ Shows (now (s .entry)) (now r) ⌝ }
 {
-    let code = read(s).refusal();
-    if code != 0 {
+    let refusal = read(s).refusal();
+    if refusal.code != 0 {
         return &s[..0];
     }
     &s[Packet::CONTENT..]
@@ -116,10 +117,10 @@ pub fn fields(s: &[u8], lead: u8) -> Answer
 {
     let other = choose_code(no_refusal(lead), format::SIZE, lead);
     if s.len() < Packet::LEAST {
-        return Answer::Refused(other);
+        return Answer::Refused(Refusal::bare(other));
     }
     if s.len() > Packet::GREATEST {
-        return Answer::Refused(other);
+        return Answer::Refused(Refusal::bare(other));
     }
     let content = (s.len() - Packet::CONTENT) as u32 * 8;
     let w = walk::walk::Walk::begin(lead, 0)
@@ -140,7 +141,7 @@ pub fn fields(s: &[u8], lead: u8) -> Answer
         total,
         own,
     };
-    Answer::told(w.code, r)
+    Answer::told(w.refusal(), r)
 }
 
 // The greatest own number of so many packets.

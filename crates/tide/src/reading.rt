@@ -1,11 +1,12 @@
 // The tide telegram (paper 02, C-11; 000, 5.4): reading it.
 ghost use mathlib.Core.Path.{_≡_};
 ghost use Prim.Native.Nat.{_^_, _<_};
-ghost use Rattle.format.specs.Message.{codeOf, readMessage};
+ghost use Rattle.format.specs.Message.{told, readMessage};
 ghost use Rattle.tide.specs.Tide.{tides};
-ghost use Rattle.tide.specs.Promises.{Reads, numberOf};
+ghost use Rattle.tide.specs.Promises.{Reads, refusalOf};
 ghost use Rattle.tide.specs.Steps.{headRead, unreadBy, behind, courseOf};
 use crate::records::MOST;
+use format::Refusal;
 use walk::walk::Walk;
 
 // The numbers of its records stand beside it in a lent row, one record behind another, in bit order.
@@ -22,17 +23,17 @@ pub struct Told {
 
 pub enum Answer {
     Good(Told),
-    Refused(u8),
+    Refused(Refusal),
 }
 
 impl Answer {
-    // Its number: 0 for a good one.
-    pub fn refusal(self) -> u8
-        ensures { λ r. ⌜ r ≡ numberOf self ⌝ }
+    // Its refusal: none for a good one.
+    pub fn refusal(self) -> Refusal
+        ensures { λ r. ⌜ r ≡ refusalOf self ⌝ }
     {
         match self {
-            Answer::Good(_) => 0,
-            Answer::Refused(code) => code,
+            Answer::Good(_) => Refusal::NONE,
+            Answer::Refused(refusal) => refusal,
         }
     }
 }
@@ -67,24 +68,24 @@ pub fn read(s: &[u8], row: &mut [u32]) -> Answer
     let walk = f.walk;
     let code = walk.code;
     if code != 0 {
-        return Answer::Refused(code);
+        return Answer::Refused(walk.refusal());
     }
     let tide = f.tide;
     // A row that is too short stays as it was.
     let numbers = crate::row::fill(s, tide.count, row);
     if row.len() < numbers {
-        return Answer::Refused(format::ROOM);
+        return Answer::Refused(Refusal::ROOM);
     }
     Answer::Good(Told { tide, numbers })
 }
 
-// What reading a telegram answers, where room is enough: 0, or its refusal.
-pub fn refusal(s: &[u8]) -> u8
-    ensures { λ r. ⌜ r ≡ codeOf (readMessage tides (now (s .entry))) ⌝ }
+// What reading a telegram answers, where room is enough: its refusal, or none.
+pub fn refusal(s: &[u8]) -> Refusal
+    ensures { λ r. ⌜ r ≡ told (readMessage tides (now (s .entry))) ⌝ }
 {
     let course = fields(s, 0);
     let walk = course.walk;
-    walk.code
+    walk.refusal()
 }
 
 // The first tests, then the fields in bit order; on the way, field number `want` is found. What the first tests refuse is not walked.

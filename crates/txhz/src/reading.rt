@@ -7,8 +7,9 @@ ghost use Rattle.format.specs.Fmt.{also};
 ghost use Rattle.format.specs.Message.{fieldsOf};
 ghost use Rattle.txhz.specs.Promises.{Reads};
 ghost use Rattle.txhz.specs.Steps.{slotRead, receiptRead};
-ghost use Rattle.txhz.specs.Txhz.{txhz, recordOf, answerOf, numberOf, countOf};
+ghost use Rattle.txhz.specs.Txhz.{txhz, recordOf, answerOf, refusalOf, countOf};
 ghost use Rattle.txhz.specs.declared.reading.Answer.the-variants.{Good, Refused};
+use format::Refusal;
 use walk::choosing::choose_code;
 use walk::choosing::no_refusal;
 use walk::faults::range;
@@ -34,27 +35,27 @@ pub struct Txhz {
 
 pub enum Answer {
     Good(Txhz),
-    Refused(u8),
+    Refused(Refusal),
 }
 
 impl Answer {
     // The record, unless a walk over its frame ended with a refusal.
-    fn told(code: u8, r: Txhz) -> Answer
-        ensures { λ a. ⌜ a ≡ cond (eqb code 0) (Good r) (Refused code) ⌝ }
+    fn told(refusal: Refusal, r: Txhz) -> Answer
+        ensures { λ a. ⌜ a ≡ cond (eqb (refusal .code) 0) (Good r) (Refused refusal) ⌝ }
     {
-        if code != 0 {
-            return Answer::Refused(code);
+        if refusal.code != 0 {
+            return Answer::Refused(refusal);
         }
         Answer::Good(r)
     }
 
-    // Its number: 0 for a good one.
-    pub fn refusal(self) -> u8
-        ensures { λ r. ⌜ r ≡ numberOf self ⌝ }
+    // Its refusal: none for a good one.
+    pub fn refusal(self) -> Refusal
+        ensures { λ r. ⌜ r ≡ refusalOf self ⌝ }
     {
         match self {
-            Answer::Good(_) => 0,
-            Answer::Refused(code) => code,
+            Answer::Good(_) => Refusal::NONE,
+            Answer::Refused(refusal) => refusal,
         }
     }
 
@@ -102,7 +103,7 @@ pub fn fields(s: &[u8], code: u8) -> Answer
     ensures { λ r. ⌜ r ≡ answerOf (also recordOf (fieldsOf txhz 34 34 code (now (s .entry)))) ⌝ }
 {
     if s.len() != SEALED {
-        return Answer::Refused(choose_code(no_refusal(code), format::SIZE, code));
+        return Answer::Refused(Refusal::bare(choose_code(no_refusal(code), format::SIZE, code)));
     }
     let w = frame::head(s, code, LETTERS, LENGTH, LENGTH);
     let address = w.v as u32;
@@ -122,7 +123,7 @@ pub fn fields(s: &[u8], code: u8) -> Answer
     let fifth = passed.receipt;
     let w = passed.walk.end(s);
     Answer::told(
-        w.code,
+        w.refusal(),
         Txhz {
             address,
             receiver,

@@ -13,20 +13,21 @@ use crate::reading::LETTERS;
 use crate::reading::MOST;
 use crate::reading::Receipt;
 use crate::reading::Txhz;
+use format::Refusal;
 
 // Writes the frame into the front of a lent buffer: the record is judged, then room (6); the bytes past the frame stay.
-pub fn write(buf: &mut [u8], r: Txhz) -> u8
-    ensures { λ code. ⌜ Writes txhzs (now (buf .entry)) code (now (buf .exit)) (valuesOf r) ⌝ }
+pub fn write(buf: &mut [u8], r: Txhz) -> Refusal
+    ensures { λ refusal. ⌜ Writes txhzs (now (buf .entry)) refusal (now (buf .exit)) (valuesOf r) ⌝ }
 {
     let w = judged(r);
     let n = w.bytes(false);
-    let code = w.closes(true, Txhz::LEAST, Txhz::GREATEST, buf.len());
-    if code != 0 {
-        return code;
+    let refusal = w.closes(true, Txhz::LEAST, Txhz::GREATEST, buf.len());
+    if refusal.code != 0 {
+        return refusal;
     }
     put(buf, r);
     change::sealing::stamp(buf, n);
-    0
+    Refusal::NONE
 }
 
 fn judged(r: Txhz) -> walk::walk::Walk

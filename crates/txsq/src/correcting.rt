@@ -7,6 +7,7 @@ use crate::reading::Txsq;
 use crate::reading::fields;
 use crate::reading::read;
 use change::correcting::Spot;
+use format::Refusal;
 
 impl Txsq {
     // The fields that may be corrected, by their position among the frame's.
@@ -24,8 +25,8 @@ impl Txsq {
 }
 
 // Makes field number `field` of the frame be `value`, and its seal anew, or leaves every byte.
-pub fn correct(buf: &mut [u8], field: usize, value: u64) -> u8
-    ensures { λ code. ⌜ Corrects txsqs (now (buf .entry)) field value code (now (buf .exit)) ⌝ }
+pub fn correct(buf: &mut [u8], field: usize, value: u64) -> Refusal
+    ensures { λ refusal. ⌜ Corrects txsqs (now (buf .entry)) field value refusal (now (buf .exit)) ⌝ }
 {
     let was = read(buf);
     let spot = stands(field);

@@ -4,20 +4,21 @@ ghost use Rattle.format.specs.Promises.{Writes};
 ghost use Rattle.txsq.specs.Txsq.{txsqs, valuesOf};
 use crate::reading::Txsq;
 use crate::reading::content;
+use format::Refusal;
 
 mod making;
 
 // Writes the frame into the front of a lent buffer: record and content are judged, then room (6); the bytes past the frame stay.
-pub fn write(buf: &mut [u8], r: Txsq, content: &[u8]) -> u8
-    ensures { λ code. ⌜ Writes txsqs (now (buf .entry)) code (now (buf .exit)) (valuesOf (r, now (content .entry))) ⌝ }
+pub fn write(buf: &mut [u8], r: Txsq, content: &[u8]) -> Refusal
+    ensures { λ refusal. ⌜ Writes txsqs (now (buf .entry)) refusal (now (buf .exit)) (valuesOf (r, now (content .entry))) ⌝ }
 {
     let w = making::judged(r, content);
     let n = w.bytes(false);
-    let code = w.closes(true, Txsq::LEAST, Txsq::GREATEST, buf.len());
-    if code != 0 {
-        return code;
+    let refusal = w.closes(true, Txsq::LEAST, Txsq::GREATEST, buf.len());
+    if refusal.code != 0 {
+        return refusal;
     }
     making::put(buf, r, content);
     change::sealing::stamp(buf, n);
-    0
+    Refusal::NONE
 }

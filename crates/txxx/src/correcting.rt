@@ -11,6 +11,7 @@ use crate::reading::Txxx;
 use crate::reading::fields;
 use crate::reading::read;
 use change::correcting::Spot;
+use format::Refusal;
 
 impl Txxx {
     // The fields that may be corrected, by their position among the frame's.
@@ -28,8 +29,8 @@ impl Txxx {
 }
 
 // Makes field number `field` of the frame be `value`, and its seal anew, or leaves every byte.
-pub fn correct(buf: &mut [u8], field: usize, value: u64) -> u8
-    ensures { λ code. ⌜ Corrects txxxs (now (buf .entry)) field value code (now (buf .exit)) ⌝ }
+pub fn correct(buf: &mut [u8], field: usize, value: u64) -> Refusal
+    ensures { λ refusal. ⌜ Corrects txxxs (now (buf .entry)) field value refusal (now (buf .exit)) ⌝ }
 {
     let was = read(buf);
     let spot = stands(mark(buf.len()), field);

@@ -7,9 +7,10 @@ ghost use lib.Dec.{eqb};
 ghost use Rattle.bits.specs.Bits.{bitsOf};
 ghost use Rattle.format.specs.Fmt.{also, check, read as Fmt·read};
 ghost use Rattle.format.specs.Message.{fault};
-ghost use Rattle.txxx.specs.Txxx.{txxx, bounded, recordOf, answerOf, numberOf};
+ghost use Rattle.txxx.specs.Txxx.{txxx, bounded, recordOf, answerOf, refusalOf};
 ghost use Rattle.txxx.specs.Promises.{Reads, Shows};
 ghost use Rattle.txxx.specs.declared.reading.Answer.the-variants.{Good, Refused};
+use format::Refusal;
 
 // The content, whole bytes with their unused low bits, stands beside the record: in the frame that was read, or lent to be written.
 pub struct Txxx {
@@ -26,27 +27,27 @@ pub struct Txxx {
 
 pub enum Answer {
     Good(Txxx),
-    Refused(u8),
+    Refused(Refusal),
 }
 
 impl Answer {
     // The record, unless a walk over its frame ended with a refusal.
-    fn told(code: u8, r: Txxx) -> Answer
-        ensures { λ a. ⌜ a ≡ cond (eqb code 0) (Good r) (Refused code) ⌝ }
+    fn told(refusal: Refusal, r: Txxx) -> Answer
+        ensures { λ a. ⌜ a ≡ cond (eqb (refusal .code) 0) (Good r) (Refused refusal) ⌝ }
     {
-        if code != 0 {
-            return Answer::Refused(code);
+        if refusal.code != 0 {
+            return Answer::Refused(refusal);
         }
         Answer::Good(r)
     }
 
-    // Its number: 0 for a good one.
-    pub fn refusal(self) -> u8
-        ensures { λ r. ⌜ r ≡ numberOf self ⌝ }
+    // Its refusal: none for a good one.
+    pub fn refusal(self) -> Refusal
+        ensures { λ r. ⌜ r ≡ refusalOf self ⌝ }
     {
         match self {
-            Answer::Good(_) => 0,
-            Answer::Refused(code) => code,
+            Answer::Good(_) => Refusal::NONE,
+            Answer::Refused(refusal) => refusal,
         }
     }
 }
@@ -82,8 +83,8 @@ pub fn read(s: &[u8]) -> Answer
 pub fn content(frame: &[u8]) -> &[u8]
     ensures { λ r. ⌜ Shows (now (frame .entry)) (now r) ⌝ }
 {
-    let code = read(frame).refusal();
-    if code != 0 {
+    let refusal = read(frame).refusal();
+    if refusal.code != 0 {
         return &frame[..0];
     }
     let end = frame.len() - Txxx::TAIL;
@@ -120,7 +121,7 @@ pub fn fields(s: &[u8], code: u8) -> Answer
         size,
         mark,
     };
-    Answer::told(w.code, r)
+    Answer::told(w.refusal(), r)
 }
 
 // What is wrong with a bit length: the limit (4), then the content's size (1).

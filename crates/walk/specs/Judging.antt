@@ -3,6 +3,8 @@ use Prim.Native.Nat.{ℕ, _+_, _/_, _%_}
 use mathlib.Core.Bool.{Bool, true, false, cond, _&&_, _||_}
 use lib.Dec.{leb, ltb, eqb}
 use Rattle.format.specs.Message.{between}
+use Rattle.format.specs.Refusals.{shown, bare}
+use Rattle.format.specs.declared.Refusal.{Refusal}
 use Rattle.walk.specs.Walk.{onward}
 use Rattle.walk.specs.declared.walk.Walk.{Walk}
 
@@ -40,10 +42,10 @@ bytesTo at = at / 8 + (at % 8 + 7) / 8
 abbrev pub made : Bool → ℕ → ℕ
 made seal at = cond seal (bytesTo at + 1) (bytesTo at)
 
--- the values' refusal, the size n that they make (1), room (6)
-abbrev pub verdict : ℕ → ℕ → ℕ → ℕ → ℕ → ℕ
-verdict code least most room n = cond (eqb code 0) (cond (between least most n) (cond (leb n room) 0 6) 1) code
+-- the values' own refusal, the size n that they make (1), room (6)
+abbrev pub verdict : Refusal → ℕ → ℕ → ℕ → ℕ → Refusal
+verdict own least most room n = cond (eqb (own .code) 0) (cond (between least most n) (cond (leb n room) (bare 0) (bare 6)) (bare 1)) own
 
 -- after the walk r
-abbrev pub closing : Bool → ℕ → ℕ → ℕ → Walk → ℕ
-closing seal least most room r = verdict (r .code) least most room (made seal (r .at))
+abbrev pub closing : Bool → ℕ → ℕ → ℕ → Walk → Refusal
+closing seal least most room r = verdict (shown (r .code) (r .offset)) least most room (made seal (r .at))

@@ -9,6 +9,7 @@ use crate::choosing::inside;
 use crate::faults::spells;
 use crate::pieces::Pieces;
 use crate::walk::Walk;
+use format::Refusal;
 
 impl Walk {
     // A record's value for a field of w bits: from lo to hi, which has at most w bits.
@@ -55,8 +56,8 @@ impl Walk {
         if seal { n + 1 } else { n }
     }
 
-    // What writing answers before a bit is put: the values' refusal, the size that they make, room; 0 to go on.
-    pub fn closes(self, seal: bool, least: usize, most: usize, room: usize) -> u8
+    // What writing answers before a bit is put: the values' refusal, the size that they make, room; none to go on.
+    pub fn closes(self, seal: bool, least: usize, most: usize, room: usize) -> Refusal
         ensures { λ r. ⌜ r ≡ closing seal least most room self ⌝ }
     {
         self.closes_before(0, seal, least, most, room)
@@ -70,27 +71,27 @@ impl Walk {
         least: usize,
         most: usize,
         room: usize,
-    ) -> u8
+    ) -> Refusal
         ensures { λ r. ⌜ r ≡ closing seal least most room (beyond (more * 8) 0 self) ⌝ }
     {
         let code = self.code;
         let head = self.bytes(seal);
         if code != 0 {
-            return code;
+            return self.refusal();
         }
         if most < head {
-            return format::SIZE;
+            return Refusal::SIZE;
         }
         if most - head < more {
-            return format::SIZE;
+            return Refusal::SIZE;
         }
         let n = head + more;
         if n < least {
-            return format::SIZE;
+            return Refusal::SIZE;
         }
         if room < n {
-            return format::ROOM;
+            return Refusal::ROOM;
         }
-        0
+        Refusal::NONE
     }
 }

@@ -1,6 +1,7 @@
 // The walk over a message's fields, in bit order: it carries its own offset, and the first refusal sticks.
 ghost use mathlib.Core.Bool.{false};
 ghost use mathlib.Core.Path.{_≡_};
+ghost use Rattle.format.specs.Refusals.{shown};
 ghost use Rattle.walk.specs.Walk.{begun, onward};
 use crate::choosing::both;
 use crate::choosing::choose_code;
@@ -9,6 +10,7 @@ use crate::choosing::is_zero;
 use crate::choosing::no_refusal;
 use crate::choosing::not;
 use crate::choosing::one_less;
+use format::Refusal;
 
 pub struct Walk {
     // The bit where the next field starts.
@@ -60,6 +62,13 @@ impl Walk {
             spot: choose_offset(hit, at, self.spot),
             width: choose_offset(hit, choose_offset(free, w, 0), self.width),
         }
+    }
+
+    // What is told of the refusal that the walk met; none where it met none.
+    pub fn refusal(self) -> Refusal
+        ensures { λ r. ⌜ r ≡ shown (self .code) (self .offset) ⌝ }
+    {
+        Refusal::shown(self.code, self.offset)
     }
 
     // Over content or text of w bits, any number of them, that the caller judged.

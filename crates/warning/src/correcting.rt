@@ -9,6 +9,7 @@ use crate::reading::Warning;
 use crate::reading::fields;
 use crate::reading::read;
 use change::correcting::Spot;
+use format::Refusal;
 
 impl Warning {
     // The numbers of the fields that may be corrected. Those of a body are fields of its type alone.
@@ -66,8 +67,8 @@ impl Warning {
 }
 
 // Makes field number `field` of the message be `value`, or leaves every byte.
-pub fn correct(buf: &mut [u8], field: usize, value: u64) -> u8
-    ensures { λ code. ⌜ Corrects warnings (now (buf .entry)) (fieldOf (fieldAt (now (buf .entry)) 56 4) field) value code (now (buf .exit)) ⌝ }
+pub fn correct(buf: &mut [u8], field: usize, value: u64) -> Refusal
+    ensures { λ refusal. ⌜ Corrects warnings (now (buf .entry)) (fieldOf (fieldAt (now (buf .entry)) 56 4) field) value refusal (now (buf .exit)) ⌝ }
 {
     let was = read(buf);
     let spot = stands(bits::get(buf, 56, 4), field);

@@ -2,19 +2,20 @@
 ghost use Rattle.format.specs.Promises.{Writes};
 ghost use Rattle.warning.specs.Warning.{warnings, valuesOf};
 use crate::reading::Warning;
+use format::Refusal;
 
 mod making;
 
 // Writes the warning into the front of a lent buffer: the record is judged, then room (6); the bytes past the message stay.
-pub fn write(buf: &mut [u8], r: Warning) -> u8
-    ensures { λ code. ⌜ Writes warnings (now (buf .entry)) code (now (buf .exit)) (valuesOf r) ⌝ }
+pub fn write(buf: &mut [u8], r: Warning) -> Refusal
+    ensures { λ refusal. ⌜ Writes warnings (now (buf .entry)) refusal (now (buf .exit)) (valuesOf r) ⌝ }
 {
     let time = r.time.spelled();
     let w = making::judged(r, time);
-    let code = w.closes(false, Warning::LEAST, Warning::GREATEST, buf.len());
-    if code != 0 {
-        return code;
+    let refusal = w.closes(false, Warning::LEAST, Warning::GREATEST, buf.len());
+    if refusal.code != 0 {
+        return refusal;
     }
     making::put(buf, r, time);
-    0
+    Refusal::NONE
 }

@@ -7,6 +7,8 @@ use lib.ListN.{length, getD, take, drop}
 use Rattle.bits.specs.Bits.{Bytes}
 use Rattle.format.specs.Fmt.{accepted}
 use Rattle.format.specs.Message.{writeMessage}
+use Rattle.format.specs.Refusals.{bare}
+use Rattle.format.specs.declared.Refusal.{Refusal}
 use Rattle.format.specs.Promises.{readRecord, Writes, Corrects}
 use Rattle.format.specs.laws.Answers.{good-read, answer-plain}
 use Rattle.format.specs.laws.Entries.{entries, legal-entries}
@@ -84,14 +86,14 @@ unfolding reports
 long = one-size reports 17 refl refl
 
 -- What is written is read back as the same record.
-pub written-reads : (s : List ℕ) (r : Report) (t : List ℕ) → Writes reports s 0 t (valuesOf r) → Reads (take 17 t) (Good r)
+pub written-reads : (s : List ℕ) (r : Report) (t : List ℕ) → Writes reports s (bare 0) t (valuesOf r) → Reads (take 17 t) (Good r)
 written-reads s r t w = sym (ap answerOf (written-front family s r t 17 tt w (long (valuesOf r))))
 
 -- What is read is written back as the same bytes.
-pub read-writes-back : (s : List ℕ) (r : Report) → Bytes s → Reads s (Good r) → (u : List ℕ) (code : ℕ) (t : List ℕ) → length s ≤ length u → Writes reports u code t (valuesOf r)
-    → (code ≡ 0) × (t ≡ s ++ drop (length s) u)
+pub read-writes-back : (s : List ℕ) (r : Report) → Bytes s → Reads s (Good r) → (u : List ℕ) (code : Refusal) (t : List ℕ) → length s ≤ length u → Writes reports u code t (valuesOf r)
+    → (code ≡ bare 0) × (t ≡ s ++ drop (length s) u)
 read-writes-back s r fine a = read-written family s r fine (good s r a)
 
 -- Demand 3: every correction of a report, by any number and any value.
-pub corrected : (s : List ℕ) (a : Answer) → Bytes s → Reads s a → (i v code : ℕ) (t : List ℕ) → Corrects reports s i v code t → Settled reports (λ r. spotOf) valuesOf changed s (outOf a) i v code t
+pub corrected : (s : List ℕ) (a : Answer) → Bytes s → Reads s a → (i v : ℕ) (code : Refusal) (t : List ℕ) → Corrects reports s i v code t → Settled reports (λ r. spotOf) valuesOf changed s (outOf a) i v code t
 corrected s a fine reads i v code t c = settled family (λ r. spotOf) spotted s fine i v code t c (outOf a) (answer-plain Good Refused outOf (λ q. refl) (λ c. refl) (readRecord reports reportOf s) reads)

@@ -11,62 +11,65 @@ use Rattle.bits.specs.Bits.{Bytes, bitsOf, fieldAt, putAt}
 use Rattle.bits.specs.laws.Answers.{one-answer, got-fits, puttable-fits}
 use Rattle.bits.specs.laws.Fields.{field-lt, length-put, put-put, put-field}
 use Rattle.format.specs.Correcting.{standing, admitted, putIn, Begins, Finishes}
+use Rattle.format.specs.Refusals.{shown, bare}
+use Rattle.format.specs.declared.Refusal.{Refusal}
 use Rattle.format.specs.Promises.{Corrects}
 use Rattle.format.specs.Fmt.{Out, accepted, refused, also, read, spot, found}
-use Rattle.format.specs.Message.{Layout, Sound, body, sealed, codeOf, readMessage, correctMessage, refuses, accepts}
+use Rattle.format.specs.Message.{Layout, Sound, body, sealed, told, readMessage, correctMessage, refuses, accepts}
 use Rattle.format.specs.Sealing.{reclosed}
 use Rattle.format.specs.laws.Sealing.{length-body, body-put, reclosed-body}
 use Rattle.format.specs.laws.Whole.{was, spot-fits, filled, correct-narrow, correct-wide}
 use Rattle.format.specs.laws.Zero.{Judged, read-zero, read-zero-message}
 
 -- a correction that goes on is of a message that was read
-pub admitted-clean : (c w v : ℕ) → admitted c w v ≡ 0 → c ≡ 0
-admitted-clean c w v = go (eqb c 0) refl
+pub admitted-clean : (c : Refusal) (p w v : ℕ) → admitted c p w v .code ≡ 0 → c .code ≡ 0
+admitted-clean c p w v = go (eqb (c .code) 0) refl
   where
-    go : (x : Bool) → eqb c 0 ≡ x → cond x (cond (eqb w 0) 10 (cond (ltb v (2 ^ w)) 0 4)) c ≡ 0 → c ≡ 0
-    go true e z = eqb-true c 0 e
+    go : (x : Bool) → eqb (c .code) 0 ≡ x → cond x (cond (eqb w 0) (bare 10) (cond (ltb v (2 ^ w)) (bare 0) (shown 4 p))) c .code ≡ 0 → c .code ≡ 0
+    go true e z = eqb-true (c .code) 0 e
     go false e z = z
 
--- an answer by its code, where 0 is no refusal's number
-pub accepted-by : {A : Type 0} (o : Out A) {c : ℕ} → c ≡ codeOf o → ((p : ℕ) → o ≡ refused 0 p → ⊥) → c ≡ 0 → (a : A) × (o ≡ accepted a)
+-- an answer by what is told of it, where 0 is no refusal's number
+pub accepted-by : {A : Type 0} (o : Out A) {c : Refusal} → c ≡ told o → ((p : ℕ) → o ≡ refused 0 p → ⊥) → c .code ≡ 0 → (a : A) × (o ≡ accepted a)
 accepted-by (accepted a) e n z = (a, refl)
-accepted-by (refused d p) e n z = absurd (n p (ap (λ d. refused d p) (sym e ∙ z)))
+accepted-by (refused d p) e n z = absurd (n p (ap (λ d. refused d p) (ap (λ r. r .code) (sym e) ∙ z)))
 
-pub refused-by : {A : Type 0} (o : Out A) {c : ℕ} → c ≡ codeOf o → (c ≡ 0 → ⊥) → (p : ℕ) × (o ≡ refused c p)
-refused-by (accepted a) e n = absurd (n e)
-refused-by (refused d p) e n = (p, ap (λ d. refused d p) (sym e))
+pub refused-by : {A : Type 0} (o : Out A) {c : Refusal} → c ≡ told o → (c .code ≡ 0 → ⊥) → (d p : ℕ) × (o ≡ refused d p) × (c ≡ shown d p)
+refused-by (accepted a) e n = absurd (n (ap (λ r. r .code) e))
+refused-by (refused d p) e n = (d, p, refl, e)
 
--- The message was read with the code c, and where it was accepted, the field i stands at p with w bits.
-module _ (l : Layout) (ok : Sound l) (numbers : Judged (l .fmt)) (s : List ℕ) (i v p w : ℕ) {c : ℕ} (reads : c ≡ codeOf (readMessage l s))
+-- Reading the message told c, and where it was accepted, the field i stands at p with w bits.
+module _ (l : Layout) (ok : Sound l) (numbers : Judged (l .fmt)) (s : List ℕ) (i v p w : ℕ) {c : Refusal} (reads : c ≡ told (readMessage l s))
     (stands : (vs : List ℕ) → readMessage l s ≡ accepted vs → spot (l .fmt) [] vs i ≡ standing p w) (slim : w ≤ 32) where
-  early : (admitted c w v ≡ 0 → ⊥) → Corrects l s i v (admitted c w v) s
+  early : (admitted c p w v .code ≡ 0 → ⊥) → Corrects l s i v (admitted c p w v) s
   unfolding correctMessage
-  early h = go (eqb c 0) (eqb w 0) (ltb v (2 ^ w)) refl refl refl
+  early h = go (eqb (c .code) 0) (eqb w 0) (ltb v (2 ^ w)) refl refl refl
     where
-      own : (q : ℕ) → readMessage l s ≡ refused c q → correctMessage l s i v ≡ refused c q
-      own q o = rw o refl
+      own : (d q : ℕ) → readMessage l s ≡ refused d q → correctMessage l s i v ≡ refused d q
+      own d q o = rw o refl
 
       nowhere : (vs : List ℕ) → readMessage l s ≡ accepted vs → eqb w 0 ≡ true → correctMessage l s i v ≡ refused 10 0
       nowhere vs o y = rw (o, stands vs o, y) refl
 
-      go : (x y z : Bool) → eqb c 0 ≡ x → eqb w 0 ≡ y → ltb v (2 ^ w) ≡ z → Corrects l s i v (admitted c w v) s
+      go : (x y z : Bool) → eqb (c .code) 0 ≡ x → eqb w 0 ≡ y → ltb v (2 ^ w) ≡ z → Corrects l s i v (admitted c p w v) s
       go false y z ex ey ez =
-          let (q, o) = refused-by (readMessage l s) reads (eqb-false c 0 ex) in
-          rw ex (refuses (own q o))
+          let (d, q, o, k) = refused-by (readMessage l s) reads (eqb-false (c .code) 0 ex) in
+          let a = refuses {s = s} (own d q o) in
+          rw ex (k ∙ a .0, a .1)
       go true true z ex ey ez =
-          let (vs, o) = accepted-by (readMessage l s) reads (λ q. read-zero-message l s q numbers) (eqb-true c 0 ex) in
+          let (vs, o) = accepted-by (readMessage l s) reads (λ q. read-zero-message l s q numbers) (eqb-true (c .code) 0 ex) in
           rw (ex, ey) (refuses (nowhere vs o ey))
       go true false false ex ey ez =
-          let (vs, o) = accepted-by (readMessage l s) reads (λ q. read-zero-message l s q numbers) (eqb-true c 0 ex) in
+          let (vs, o) = accepted-by (readMessage l s) reads (λ q. read-zero-message l s q numbers) (eqb-true (c .code) 0 ex) in
           let e = correct-wide l ok s vs i v p w o (stands vs o ∙ rw ey refl) (ltb-false v (2 ^ w) ez) in
           rw (ex, ey, ez) (refuses e)
       go true false true ex ey ez = absurd (h (rw (ex, ey, ez) refl))
 
-  -- The correction begun leaves t, whose fields are read with the code d, and finished it answers `last` and leaves x.
-  module _ (fine : Bytes s) {code at width old d last : ℕ} {t x : List ℕ} (begun : Begins s c p w v code at width old t)
-      (again : c ≡ 0 → length t ≡ length s → d ≡ codeOf (read (l .fmt) [] 0 (bitsOf (body (l .seal) t)))) (finished : Finishes (l .seal) code at width old d t last x) where
+  -- The correction begun leaves t, reading whose fields tells d, and finished it answers `last` and leaves x.
+  module _ (fine : Bytes s) {code : Refusal} {at width old : ℕ} {d last : Refusal} {t x : List ℕ} (begun : Begins s c p w v code at width old t)
+      (again : c .code ≡ 0 → length t ≡ length s → d ≡ told (read (l .fmt) [] 0 (bitsOf (body (l .seal) t)))) (finished : Finishes (l .seal) code at width old d t last x) where
     -- the field was changed
-    module _ (on : code ≡ 0) where
+    module _ (on : code .code ≡ 0) where
       record Fits : Type 0 where
         values : List ℕ
         read-so : readMessage l s ≡ accepted values
@@ -74,15 +77,15 @@ module _ (l : Layout) (ok : Sound l) (numbers : Judged (l .fmt)) (s : List ℕ) 
         narrow : v < 2 ^ w
 
       fits : Fits
-      fits = pass (eqb c 0) (eqb w 0) (ltb v (2 ^ w)) refl refl refl (sym (begun .admits) ∙ on)
+      fits = pass (eqb (c .code) 0) (eqb w 0) (ltb v (2 ^ w)) refl refl refl (ap (λ r. r .code) (sym (begun .admits)) ∙ on)
         where
-          pass : (x y z : Bool) → eqb c 0 ≡ x → eqb w 0 ≡ y → ltb v (2 ^ w) ≡ z → cond x (cond y 10 (cond z 0 4)) c ≡ 0 → Fits
+          pass : (x y z : Bool) → eqb (c .code) 0 ≡ x → eqb w 0 ≡ y → ltb v (2 ^ w) ≡ z → cond x (cond y (bare 10) (cond z (bare 0) (shown 4 p))) c .code ≡ 0 → Fits
           pass true false true ex ey ez e =
-              let (vs, o) = accepted-by (readMessage l s) reads (λ q. read-zero-message l s q numbers) (eqb-true c 0 ex) in
+              let (vs, o) = accepted-by (readMessage l s) reads (λ q. read-zero-message l s q numbers) (eqb-true (c .code) 0 ex) in
               record { values = vs; read-so = o; spot-so = stands vs o ∙ rw ey refl; narrow = ltb-true v (2 ^ w) ez }
           pass true false false ex ey ez e = absurd (omega (arith, e))
           pass true true z ex ey ez e = absurd (omega (arith, e))
-          pass false y z ex ey ez e = absurd (eqb-false c 0 ex e)
+          pass false y z ex ey ez e = absurd (eqb-false (c .code) 0 ex e)
 
       abbrev vs : List ℕ
       vs = fits .values
@@ -94,7 +97,7 @@ module _ (l : Layout) (ok : Sound l) (numbers : Judged (l .fmt)) (s : List ℕ) 
       outer = omega (arith, inner, length-body (l .seal) s)
 
       put-so : t ≡ putAt s p w v
-      put-so = begun .puts ∙ rw (eq-eqb code 0 on, puttable-fits s p w v slim outer (fits .narrow)) refl
+      put-so = begun .puts ∙ rw (eq-eqb (code .code) 0 on, puttable-fits s p w v slim outer (fits .narrow)) refl
 
       body-so : body (l .seal) t ≡ putAt (body (l .seal) s) p w v
       body-so = ap (body (l .seal)) put-so ∙ body-put (l .seal) s p w v fine inner
@@ -117,42 +120,42 @@ module _ (l : Layout) (ok : Sound l) (numbers : Judged (l .fmt)) (s : List ℕ) 
           rw (puttable-fits t p w old slim (omega (arith, outer, long)) h)
           (rw (put-so, o) (put-put s p w outer v (fieldAt s p w) ∙ put-field s p w outer fine))
 
-      again-so : d ≡ codeOf (read (l .fmt) [] 0 (bitsOf (body (l .seal) t)))
-      again-so = again (admitted-clean c w v (sym (begun .admits) ∙ on)) long
+      again-so : d ≡ told (read (l .fmt) [] 0 (bitsOf (body (l .seal) t)))
+      again-so = again (admitted-clean c p w v (ap (λ r. r .code) (sym (begun .admits)) ∙ on)) long
 
       late : Corrects l s i v last x
-      late = end (eqb d 0) refl
+      late = end (eqb (d .code) 0) refl
         where
-          end : (y : Bool) → eqb d 0 ≡ y → Corrects l s i v last x
+          end : (y : Bool) → eqb (d .code) 0 ≡ y → Corrects l s i v last x
           end true e =
-              let (us, o) = accepted-by (read (l .fmt) [] 0 (bitsOf (body (l .seal) t))) again-so (λ q. read-zero (l .fmt) [] 0 (bitsOf (body (l .seal) t)) q numbers) (eqb-true d 0 e) in
+              let (us, o) = accepted-by (read (l .fmt) [] 0 (bitsOf (body (l .seal) t))) again-so (λ q. read-zero (l .fmt) [] 0 (bitsOf (body (l .seal) t)) q numbers) (eqb-true (d .code) 0 e) in
               let a = accepts s (answer-so ∙ ap (also (λ us. sealed (l .seal) (body (l .seal) t))) o) in
-              let k : x ≡ reclosed (l .seal) t = finished .leaves ∙ rw (eq-eqb code 0 on, e) refl in
-              (finished .answers ∙ rw (eq-eqb code 0 on, eqb-true d 0 e) (a .0), k ∙ reclosed-body (l .seal) t (λ y. omega (arith, nonempty y, long)) ∙ a .1)
+              let k : x ≡ reclosed (l .seal) t = finished .leaves ∙ rw (eq-eqb (code .code) 0 on, e) refl in
+              (finished .answers ∙ rw (eq-eqb (code .code) 0 on) (again-so ∙ ap told o ∙ a .0), k ∙ reclosed-body (l .seal) t (λ y. omega (arith, nonempty y, long)) ∙ a .1)
           end false e =
-              let (q, o) = refused-by (read (l .fmt) [] 0 (bitsOf (body (l .seal) t))) again-so (eqb-false d 0 e) in
+              let (n, q, o, same) = refused-by (read (l .fmt) [] 0 (bitsOf (body (l .seal) t))) again-so (eqb-false (d .code) 0 e) in
               let a = refuses {s = s} (answer-so ∙ ap (also (λ us. sealed (l .seal) (body (l .seal) t))) o) in
-              let k : x ≡ putIn t p w old = finished .leaves ∙ rw (eq-eqb code 0 on, e, begun .offset, begun .wide) refl in
-              (finished .answers ∙ rw (eq-eqb code 0 on) (a .0), k ∙ back ∙ a .1)
+              let k : x ≡ putIn t p w old = finished .leaves ∙ rw (eq-eqb (code .code) 0 on, e, begun .offset, begun .wide) refl in
+              (finished .answers ∙ rw (eq-eqb (code .code) 0 on) (same ∙ a .0), k ∙ back ∙ a .1)
 
     -- The code corrects in place.
     pub in-place : Corrects l s i v last x
-    in-place = go (eqb code 0) refl
+    in-place = go (eqb (code .code) 0) refl
       where
-        go : (y : Bool) → eqb code 0 ≡ y → Corrects l s i v last x
-        go true e = late (eqb-true code 0 e)
+        go : (y : Bool) → eqb (code .code) 0 ≡ y → Corrects l s i v last x
+        go true e = late (eqb-true (code .code) 0 e)
         go false e =
-            let a = early (λ z. eqb-false code 0 e (begun .admits ∙ z)) in
+            let a = early (λ z. eqb-false (code .code) 0 e (ap (λ r. r .code) (begun .admits) ∙ z)) in
             (finished .answers ∙ rw e (begun .admits ∙ a .0), finished .leaves ∙ rw e (begun .puts ∙ rw e (a .1)))
 
 -- ---- two answers that the promises of its steps allow are equal
 
-pub one-beginning : (s : List ℕ) (c p w v code at width old code′ at′ width′ old′ : ℕ) (t t′ : List ℕ) → Begins s c p w v code at width old t → Begins s c p w v code′ at′ width′ old′ t′
+pub one-beginning : (s : List ℕ) (c : Refusal) (p w v : ℕ) (code : Refusal) (at width old : ℕ) (code′ : Refusal) (at′ width′ old′ : ℕ) (t t′ : List ℕ) → Begins s c p w v code at width old t → Begins s c p w v code′ at′ width′ old′ t′
     → (code ≡ code′) × (at ≡ at′) × (width ≡ width′) × (old ≡ old′) × (t ≡ t′)
 one-beginning s c p w v code at width old code′ at′ width′ old′ t t′ x y =
-    let (e, left) = one-answer (λ code. cond (eqb code 0) (putIn s p w v) s) (x .admits, x .puts) (y .admits, y .puts) in
+    let (e, left) = one-answer (λ code. cond (eqb (code .code) 0) (putIn s p w v) s) (x .admits, x .puts) (y .admits, y .puts) in
     (e, x .offset ∙ sym (y .offset), x .wide ∙ sym (y .wide), x .was ∙ sym (y .was), left)
 
-pub one-finishing : (seal : Bool) (code at width old d : ℕ) (t : List ℕ) (last last′ : ℕ) (x x′ : List ℕ) → Finishes seal code at width old d t last x → Finishes seal code at width old d t last′ x′
+pub one-finishing : (seal : Bool) (code : Refusal) (at width old : ℕ) (d : Refusal) (t : List ℕ) (last last′ : Refusal) (x x′ : List ℕ) → Finishes seal code at width old d t last x → Finishes seal code at width old d t last′ x′
     → (last ≡ last′) × (x ≡ x′)
 one-finishing seal code at width old d t last last′ x x′ a b = (a .answers ∙ sym (b .answers), a .leaves ∙ sym (b .leaves))

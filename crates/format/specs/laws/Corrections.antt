@@ -9,7 +9,9 @@ use lib.Seq.{length-take-le}
 use Rattle.bits.specs.Bits.{Bytes, bitsOf}
 use Rattle.format.specs.Correcting.{standing, Begins, Finishes}
 use Rattle.format.specs.Fmt.{Out, accepted, also, read, spot}
-use Rattle.format.specs.Message.{Layout, body, fieldsOf, codeOf, readMessage}
+use Rattle.format.specs.Message.{Layout, body, fieldsOf, told, readMessage}
+use Rattle.format.specs.Refusals.{bare}
+use Rattle.format.specs.declared.Refusal.{Refusal}
 use Rattle.format.specs.Promises.{answered, readRecord, Corrects}
 use Rattle.format.specs.laws.Answers.{numbered, read-code}
 use Rattle.format.specs.laws.Correcting.{accepted-by, in-place}
@@ -33,35 +35,35 @@ good-size l t least most = sized-fields (l .fmt) (inside (l .seal) (l .least)) (
     go true = let n = length-take-le (length t - 1) t (omega arith) in (omega (arith, n), omega (arith, n))
 
 module _ {l : Layout} {R A : Type 0} {Lent : R → Type 0} {valuesOf : R → List ℕ} {recordOf : List ℕ → R} {changed : ℕ → ℕ → R → R} (F : Family l R Lent valuesOf recordOf changed)
-    (good : R → A) (bad : ℕ → A) (numberOf : A → ℕ) (of-good : (r : R) → numberOf (good r) ≡ 0) (of-bad : (c : ℕ) → numberOf (bad c) ≡ c)
-    -- the answer a of reading s, its number n, and where the field i of an accepted record stands
-    (s : List ℕ) (i v p w : ℕ) {a : A} {n : ℕ} (read-so : a ≡ answered good bad (readRecord l recordOf s)) (is : n ≡ numberOf a)
+    (good : R → A) (bad : Refusal → A) (refusalOf : A → Refusal) (of-good : (r : R) → refusalOf (good r) ≡ bare 0) (of-bad : (c : Refusal) → refusalOf (bad c) ≡ c)
+    -- the answer a of reading s, its refusal n, and where the field i of an accepted record stands
+    (s : List ℕ) (i v p w : ℕ) {a : A} {n : Refusal} (read-so : a ≡ answered good bad (readRecord l recordOf s)) (is : n ≡ refusalOf a)
     (stands : (r : R) → readRecord l recordOf s ≡ accepted r → spot (l .fmt) [] (valuesOf r) i ≡ standing p w) (slim : w ≤ 32) where
-  reads : n ≡ codeOf (readMessage l s)
-  reads = read-code good bad recordOf numberOf of-good of-bad l s read-so is
+  reads : n ≡ told (readMessage l s)
+  reads = read-code good bad recordOf refusalOf of-good of-bad l s read-so is
 
   found-so : (vs : List ℕ) → readMessage l s ≡ accepted vs → spot (l .fmt) [] vs i ≡ standing p w
   found-so vs e = rw (← record-values F s vs e) (stands (recordOf vs) (ap (also recordOf) e))
 
-  -- The correction begun leaves t, the answer of its fields is b, with the number d, and finished it answers `last` and leaves x.
-  module _ (fine : Bytes s) {code at width old : ℕ} {t inner : List ℕ} (begun : Begins s n p w v code at width old t) (laid : inner ≡ body (l .seal) t) where
-    corrects : {d last : ℕ} {b : A} {x : List ℕ} (o : Out (List ℕ)) → (l .least ≤ length t → length t ≤ l .most → o ≡ read (l .fmt) [] 0 (bitsOf (body (l .seal) t)))
-        → b ≡ answered good bad (also recordOf o) → d ≡ numberOf b → Finishes (l .seal) code at width old d t last x → Corrects l s i v last x
+  -- The correction begun leaves t, the answer of its fields is b, with the refusal d, and finished it answers `last` and leaves x.
+  module _ (fine : Bytes s) {code : Refusal} {at width old : ℕ} {t inner : List ℕ} (begun : Begins s n p w v code at width old t) (laid : inner ≡ body (l .seal) t) where
+    corrects : {d last : Refusal} {b : A} {x : List ℕ} (o : Out (List ℕ)) → (l .least ≤ length t → length t ≤ l .most → o ≡ read (l .fmt) [] 0 (bitsOf (body (l .seal) t)))
+        → b ≡ answered good bad (also recordOf o) → d ≡ refusalOf b → Finishes (l .seal) code at width old d t last x → Corrects l s i v last x
     corrects o again tells number finished =
         in-place l (F .sound) (F .judged) s i v p w reads found-so slim fine begun
         (λ z same.
         let (vs, e) = accepted-by (readMessage l s) reads (λ q. read-zero-message l s q (F .judged)) z in
         let (least, most) = within-sizes l (F .sound) s vs (was l s vs e) in
-        number ∙ ap numberOf tells ∙ numbered good bad recordOf numberOf of-good of-bad o ∙ ap codeOf (again (omega (arith, least, same)) (omega (arith, most, same))))
+        number ∙ ap refusalOf tells ∙ numbered good bad recordOf refusalOf of-good of-bad o ∙ ap told (again (omega (arith, least, same)) (omega (arith, most, same))))
         finished
 
     -- The fields are read whatever their size,
-    pub family-corrected : {d last : ℕ} {b : A} {x : List ℕ} → b ≡ answered good bad (also recordOf (read (l .fmt) [] 0 (bitsOf inner))) → d ≡ numberOf b
+    pub family-corrected : {d last : Refusal} {b : A} {x : List ℕ} → b ≡ answered good bad (also recordOf (read (l .fmt) [] 0 (bitsOf inner))) → d ≡ refusalOf b
         → Finishes (l .seal) code at width old d t last x → Corrects l s i v last x
     family-corrected = corrects (read (l .fmt) [] 0 (bitsOf inner)) (λ least most. ap (λ b. read (l .fmt) [] 0 (bitsOf b)) laid)
 
     -- or their size is tested first.
-    pub family-sized : {d last : ℕ} {b : A} {x : List ℕ} → b ≡ answered good bad (also recordOf (fieldsOf (l .fmt) (inside (l .seal) (l .least)) (inside (l .seal) (l .most)) 0 inner)) → d ≡ numberOf b
+    pub family-sized : {d last : Refusal} {b : A} {x : List ℕ} → b ≡ answered good bad (also recordOf (fieldsOf (l .fmt) (inside (l .seal) (l .least)) (inside (l .seal) (l .most)) 0 inner)) → d ≡ refusalOf b
         → Finishes (l .seal) code at width old d t last x → Corrects l s i v last x
     family-sized =
         corrects (fieldsOf (l .fmt) (inside (l .seal) (l .least)) (inside (l .seal) (l .most)) 0 inner)

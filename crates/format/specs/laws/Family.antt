@@ -11,7 +11,9 @@ use lib.Seq.{take-at}
 use Rattle.bits.specs.laws.Answers.{one-answer}
 use Rattle.bits.specs.Bits.{Bytes}
 use Rattle.format.specs.Fmt.{Out, accepted, refused, orBad, check, also, spot, none, found}
-use Rattle.format.specs.Message.{Layout, Sound, codeOf, leaves, into, readMessage, writeMessage, correctMessage}
+use Rattle.format.specs.Message.{Layout, Sound, told, leaves, into, readMessage, writeMessage, correctMessage}
+use Rattle.format.specs.Refusals.{bare}
+use Rattle.format.specs.declared.Refusal.{Refusal}
 use Rattle.format.specs.Promises.{readRecord, Writes, Corrects}
 use Rattle.format.specs.laws.Lead.{sized-by}
 use Rattle.format.specs.laws.Legal.{Legal, legal}
@@ -35,10 +37,10 @@ pub record Family (l : Layout) (R : Type 0) (Lent : R → Type 0) (valuesOf : R 
 pub one-reading : {A : Type 0} (x a b : A) → a ≡ x → b ≡ x → a ≡ b
 one-reading x a b d e = d ∙ sym e
 
-pub one-writing : (l : Layout) (s vs : List ℕ) (c d : ℕ) (t u : List ℕ) → Writes l s c t vs → Writes l s d u vs → (c ≡ d) × (t ≡ u)
+pub one-writing : (l : Layout) (s vs : List ℕ) (c d : Refusal) (t u : List ℕ) → Writes l s c t vs → Writes l s d u vs → (c ≡ d) × (t ≡ u)
 one-writing l s vs c d t u = one-answer (λ c. leaves (into s (writeMessage l vs)) s)
 
-pub one-correction : (l : Layout) (s : List ℕ) (i v c d : ℕ) (t u : List ℕ) → Corrects l s i v c t → Corrects l s i v d u → (c ≡ d) × (t ≡ u)
+pub one-correction : (l : Layout) (s : List ℕ) (i v : ℕ) (c d : Refusal) (t u : List ℕ) → Corrects l s i v c t → Corrects l s i v d u → (c ≡ d) × (t ≡ u)
 one-correction l s i v c d t u = one-answer (λ c. leaves (correctMessage l s i v) s)
 
 -- a layout of one size makes messages of that size
@@ -47,14 +49,14 @@ one-size l n least most vs m e = let (a, b) = sized-by l (length m) (made l m vs
 
 -- ---- a refusal leaves every byte
 
-pub refused-stands : {A : Type 0} (o : Out A) (s t : A) (code : ℕ) → code ≡ codeOf o → t ≡ leaves o s → (code ≡ 0 → ⊥) → t ≡ s
-refused-stands (accepted u) s t code z x h = absurd (h z)
+pub refused-stands : {A : Type 0} (o : Out A) (s t : A) (code : Refusal) → code ≡ told o → t ≡ leaves o s → (code .code ≡ 0 → ⊥) → t ≡ s
+refused-stands (accepted u) s t code z x h = absurd (h (ap (λ c. c .code) z))
 refused-stands (refused c p) s t code z x h = x
 
-pub refused-writing : (l : Layout) (s vs : List ℕ) (code : ℕ) (t : List ℕ) → Writes l s code t vs → (code ≡ 0 → ⊥) → t ≡ s
+pub refused-writing : (l : Layout) (s vs : List ℕ) (code : Refusal) (t : List ℕ) → Writes l s code t vs → (code .code ≡ 0 → ⊥) → t ≡ s
 refused-writing l s vs code t (z, x) h = refused-stands (into s (writeMessage l vs)) s t code z x h
 
-pub refused-correction : (l : Layout) (s : List ℕ) (i v code : ℕ) (t : List ℕ) → Corrects l s i v code t → (code ≡ 0 → ⊥) → t ≡ s
+pub refused-correction : (l : Layout) (s : List ℕ) (i v : ℕ) (code : Refusal) (t : List ℕ) → Corrects l s i v code t → (code .code ≡ 0 → ⊥) → t ≡ s
 refused-correction l s i v code t (z, x) h = refused-stands (correctMessage l s i v) s t code z x h
 
 -- a message with room for it, in front of a lent buffer
@@ -80,7 +82,7 @@ module _ {l : Layout} {R : Type 0} {Lent : R → Type 0} {valuesOf : R → List 
 
   -- ---- demand 2
 
-  -- A writing that answered 0: the message stands in front of what is left of s, and is read back as the same record.
+  -- A writing that told no refusal: the message stands in front of what is left of s, and is read back as the same record.
   pub record Wrote (r : R) (s t : List ℕ) : Type 0 where
     pub message : List ℕ
     pub made-so : writeMessage l (valuesOf r) ≡ accepted message
@@ -93,20 +95,20 @@ module _ {l : Layout} {R : Type 0} {Lent : R → Type 0} {valuesOf : R → List 
       ap (λ o. also recordOf o) (write-read-message l (F .sound) m (valuesOf r) e)
       ∙ ap accepted (F .same-record r k (legal (l .fmt) [] 0 (valuesOf r) _ (made l m (valuesOf r) e .wrote)))
 
-  pub written-read : (s : List ℕ) (r : R) (t : List ℕ) → Lent r → Writes l s 0 t (valuesOf r) → Wrote r s t
+  pub written-read : (s : List ℕ) (r : R) (t : List ℕ) → Lent r → Writes l s (bare 0) t (valuesOf r) → Wrote r s t
   written-read s r t k (z, x) = go (writeMessage l (valuesOf r)) refl z x
     where
       fits : (m : List ℕ) → writeMessage l (valuesOf r) ≡ accepted m → (y : Bool) → leb (length m) (length s) ≡ y
-          → 0 ≡ codeOf (check (orBad y 6) 0 (accepted (m ++ drop (length m) s))) → t ≡ leaves (check (orBad y 6) 0 (accepted (m ++ drop (length m) s))) s → Wrote r s t
-      fits m e false h z x = absurd (omega (arith, z))
+          → bare 0 ≡ told (check (orBad y 6) 0 (accepted (m ++ drop (length m) s))) → t ≡ leaves (check (orBad y 6) 0 (accepted (m ++ drop (length m) s))) s → Wrote r s t
+      fits m e false h z x = absurd (omega (arith, ap (λ c. c .code) z))
       fits m e true h z x = record { message = m; made-so = e; room = leb-true (length m) (length s) h; front = x; reads = written-record r m k e }
 
-      go : (o : Out (List ℕ)) → writeMessage l (valuesOf r) ≡ o → 0 ≡ codeOf (into s o) → t ≡ leaves (into s o) s → Wrote r s t
+      go : (o : Out (List ℕ)) → writeMessage l (valuesOf r) ≡ o → bare 0 ≡ told (into s o) → t ≡ leaves (into s o) s → Wrote r s t
       go (accepted m) e z x = fits m e (leb (length m) (length s)) refl z x
-      go (refused c p) e z x = absurd (never-written r p k (e ∙ ap (λ c. refused c p) (sym z)))
+      go (refused c p) e z x = absurd (never-written r p k (e ∙ ap (λ r. refused (r .code) p) (sym z)))
 
   -- a message of n bytes stands in the first n
-  pub written-front : (s : List ℕ) (r : R) (t : List ℕ) (n : ℕ) → Lent r → Writes l s 0 t (valuesOf r) → ((m : List ℕ) → writeMessage l (valuesOf r) ≡ accepted m → length m ≡ n)
+  pub written-front : (s : List ℕ) (r : R) (t : List ℕ) (n : ℕ) → Lent r → Writes l s (bare 0) t (valuesOf r) → ((m : List ℕ) → writeMessage l (valuesOf r) ≡ accepted m → length m ≡ n)
       → readRecord l recordOf (take n t) ≡ accepted r
   written-front s r t n k w long =
       let y = written-read s r t k w in
@@ -126,10 +128,10 @@ module _ {l : Layout} {R : Type 0} {Lent : R → Type 0} {valuesOf : R → List 
     read-writes = read-write-message l (F .sound) s (valuesOf r) fine (read-values .0)
 
     -- What is read is written back as the same bytes.
-    pub read-written : (u : List ℕ) (code : ℕ) (t : List ℕ) → length s ≤ length u → Writes l u code t (valuesOf r) → (code ≡ 0) × (t ≡ s ++ drop (length s) u)
+    pub read-written : (u : List ℕ) (code : Refusal) (t : List ℕ) → length s ≤ length u → Writes l u code t (valuesOf r) → (code ≡ bare 0) × (t ≡ s ++ drop (length s) u)
     read-written u code t h (z, x) =
         let o = ap (into u) read-writes ∙ roomy u s h in
-        (z ∙ ap codeOf o, x ∙ ap (λ o. leaves o u) o)
+        (z ∙ ap told o, x ∙ ap (λ o. leaves o u) o)
 
     -- ---- demand 3, of which laws/Settled makes one piece
 

@@ -11,7 +11,7 @@ use Rattle.bits.specs.Xor.{xorOf}
 use Rattle.bits.specs.Bits.{bitsOf}
 use Rattle.format.specs.Fmt.{Out, bad, Fmt, refused, orBad, check, read}
 use Rattle.format.specs.laws.Legal.{ranged}
-use Rattle.format.specs.Message.{Layout, fault, between, size, fieldsOf, body, sealFault, firstOf, first, codeOf, readMessage}
+use Rattle.format.specs.Message.{Layout, fault, between, size, fieldsOf, body, sealFault, firstOf, first, told, readMessage}
 
 -- Where the first tests refused, that is the answer.
 pub held-back : {A : Type 0} (c : ℕ) (o : Out A) → (c ≡ 0 → ⊥) → check (fault c) 0 o ≡ refused c 0
@@ -19,14 +19,14 @@ held-back zero o n = absurd (n refl)
 held-back (suc c) o n = refl
 
 -- A message that was read passed its first tests.
-pub read-led : (l : Layout) (s : List ℕ) → codeOf (readMessage l s) ≡ 0 → l .lead s ≡ 0
+pub read-led : (l : Layout) (s : List ℕ) → told (readMessage l s) .code ≡ 0 → l .lead s ≡ 0
 unfolding readMessage
 read-led l s = go (l .lead s)
   where
     o : Out (List ℕ)
     o = check (sealFault (l .seal) s) 0 (read (l .fmt) [] 0 (bitsOf (body (l .seal) s)))
 
-    go : (c : ℕ) → codeOf (check (fault c) 0 o) ≡ 0 → c ≡ 0
+    go : (c : ℕ) → told (check (fault c) 0 o) .code ≡ 0 → c ≡ 0
     go zero e = refl
     go (suc c) e = e
 

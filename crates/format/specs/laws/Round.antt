@@ -39,6 +39,9 @@ clash e = let z : _≡_ {A = ℕ} 0 1 = cc in absurd (omega arith)
 pub accepted-inj : {A : Type 0} {a b : A} → accepted a ≡ accepted b → a ≡ b
 accepted-inj e = cc
 
+pub refused-inj : {A : Type 0} {c d p q : ℕ} → _≡_ {A = Out A} (refused c p) (refused d q) → (c ≡ d) × (p ≡ q)
+refused-inj e = (cc, cc)
+
 -- an accepted answer had no fault
 pub checked : {A : Type 0} {a : A} (x : Fault) (at : ℕ) (o : Out A) → check x at o ≡ accepted a → (x ≡ good) × (o ≡ accepted a)
 checked good at o e = (refl, e)

@@ -11,8 +11,11 @@ use Rattle.bits.specs.Bits.{Bytes, bitsOf, fieldAt, putAt}
 use Rattle.bits.specs.laws.Answers.{one-answer}
 use Rattle.bits.specs.laws.Fields.{length-put, field-put, field-put-before, field-put-after}
 use Rattle.format.specs.Fmt.{Out, accepted, refused, also, read, Spot, none, found, spot}
-use Rattle.format.specs.Message.{Layout, body, sealed, codeOf, leaves, into, readMessage, writeMessage, correctMessage, ahead}
-use Rattle.format.specs.Promises.{plain, readRecord, Writes, Corrects}
+use Rattle.format.specs.Message.{Layout, body, sealed, told, leaves, into, readMessage, writeMessage, correctMessage, ahead}
+use Rattle.format.specs.Refusals.{shown, bare}
+use Rattle.format.specs.declared.Refusal.{Refusal}
+use Rattle.format.specs.laws.Refusals.{shown-again}
+use Rattle.format.specs.Promises.{refusedBy, plain, readRecord, Writes, Corrects}
 use Rattle.format.specs.Settled.{Stays, Differs, AsWritten, SettledAt, SettledBy, Settled}
 use Rattle.format.specs.laws.Answers.{plain-good}
 use Rattle.format.specs.laws.Family.{Family, roomy, never-read, read-values, correction-writes, correction-wide, correction-none}
@@ -35,13 +38,13 @@ differs z s p w v whole fits narrow =
     }
 
 -- a correction that is refused by c
-stays : (l : Layout) (s : List ℕ) (i v c p code : ℕ) (t : List ℕ) → correctMessage l s i v ≡ refused c p → Corrects l s i v code t → Stays c s code t
-stays l s i v c p code t e (z, x) = (z ∙ ap codeOf e, x ∙ ap (λ o. leaves o s) e)
+stays : (l : Layout) (s : List ℕ) (i v c p : ℕ) (code : Refusal) (t : List ℕ) → correctMessage l s i v ≡ refused c p → Corrects l s i v code t → Stays (shown c p) s code t
+stays l s i v c p code t e (z, x) = (z ∙ ap told e, x ∙ ap (λ o. leaves o s) e)
 
 -- another promise of writing does, where it says as much of the changed record
 module _ {R : Type 0} (stands : R → Spot) (seal : Bool) (s : List ℕ) (v : ℕ) where
-  pub settled-with : (writes writes′ : R → List ℕ → ℕ → List ℕ → Type 0) (o : Out R) (code : ℕ) (t : List ℕ)
-      → ((r : R) (p w : ℕ) → o ≡ accepted r → stands r ≡ found p w → (u : List ℕ) (d : ℕ) (x : List ℕ) → writes′ r u d x → writes r u d x)
+  pub settled-with : (writes writes′ : R → List ℕ → Refusal → List ℕ → Type 0) (o : Out R) (code : Refusal) (t : List ℕ)
+      → ((r : R) (p w : ℕ) → o ≡ accepted r → stands r ≡ found p w → (u : List ℕ) (d : Refusal) (x : List ℕ) → writes′ r u d x → writes r u d x)
       → SettledBy writes stands seal s o v code t → SettledBy writes′ stands seal s o v code t
   settled-with writes writes′ (refused c p) code t f e = e
   settled-with writes writes′ (accepted r) code t f e = at (stands r) refl e
@@ -50,21 +53,21 @@ module _ {R : Type 0} (stands : R → Spot) (seal : Bool) (s : List ℕ) (v : �
       at none k e = e
       at (found p w) k e = by (ltb v (2 ^ w)) e
         where
-          by : (b : Bool) → cond b (AsWritten (writes r) seal s p w v code t) (Stays 4 s code t) → cond b (AsWritten (writes′ r) seal s p w v code t) (Stays 4 s code t)
+          by : (b : Bool) → cond b (AsWritten (writes r) seal s p w v code t) (Stays (shown 4 p) s code t) → cond b (AsWritten (writes′ r) seal s p w v code t) (Stays (shown 4 p) s code t)
           by true e = record { answers = λ u room d x h. e .answers u room d x (f r p w refl k u d x h); good = e .good; bad = e .bad }
           by false e = e
 
 -- The endings exclude one another: two answers that one allows are equal, where writing a record into s answers something.
-module _ {R : Type 0} (writes : R → List ℕ → ℕ → List ℕ → Type 0) (stands : R → Spot) (seal : Bool) (s : List ℕ) (v : ℕ) (some : (r : R) → (d : ℕ) × (x : List ℕ) × writes r s d x) (c d : ℕ) (t u : List ℕ) where
+module _ {R : Type 0} (writes : R → List ℕ → Refusal → List ℕ → Type 0) (stands : R → Spot) (seal : Bool) (s : List ℕ) (v : ℕ) (some : (r : R) → (d : Refusal) × (x : List ℕ) × writes r s d x) (c d : Refusal) (t u : List ℕ) where
   one-written : (r : R) (p w : ℕ) → AsWritten (writes r) seal s p w v c t → AsWritten (writes r) seal s p w v d u → (c ≡ d) × (t ≡ u)
-  one-written r p w x y = (same, go (eqb c 0) refl)
+  one-written r p w x y = (same, go (eqb (c .code) 0) refl)
     where
       same : c ≡ d
       same = let (e, z, wrote) = some r in x .answers s (omega arith) e z wrote .0 ∙ sym (y .answers s (omega arith) e z wrote .0)
 
-      go : (b : Bool) → eqb c 0 ≡ b → t ≡ u
-      go true k = let z = eqb-true c 0 k in x .good z .is ∙ sym (y .good (sym same ∙ z) .is)
-      go false k = let n = eqb-false c 0 k in x .bad n ∙ sym (y .bad (λ z. n (same ∙ z)))
+      go : (b : Bool) → eqb (c .code) 0 ≡ b → t ≡ u
+      go true k = let z = eqb-true (c .code) 0 k in x .good z .is ∙ sym (y .good (ap (λ r. r .code) (sym same) ∙ z) .is)
+      go false k = let n = eqb-false (c .code) 0 k in x .bad n ∙ sym (y .bad (λ z. n (ap (λ r. r .code) same ∙ z)))
 
   one-ending : (o : Out R) → SettledBy writes stands seal s o v c t → SettledBy writes stands seal s o v d u → (c ≡ d) × (t ≡ u)
   one-ending (refused n p) x y = one-answer (λ c. s) x y
@@ -74,22 +77,22 @@ module _ {R : Type 0} (writes : R → List ℕ → ℕ → List ℕ → Type 0) 
       at none x y = one-answer (λ c. s) x y
       at (found p w) x y = by (ltb v (2 ^ w)) x y
         where
-          by : (b : Bool) → cond b (AsWritten (writes r) seal s p w v c t) (Stays 4 s c t) → cond b (AsWritten (writes r) seal s p w v d u) (Stays 4 s d u) → (c ≡ d) × (t ≡ u)
+          by : (b : Bool) → cond b (AsWritten (writes r) seal s p w v c t) (Stays (shown 4 p) s c t) → cond b (AsWritten (writes r) seal s p w v d u) (Stays (shown 4 p) s d u) → (c ≡ d) × (t ≡ u)
           by true x y = one-written r p w x y
           by false x y = one-answer (λ c. s) x y
 
--- So what `Settled` says decides the number and every byte, as the promise `Corrects` does.
-pub one-settled : {R : Type 0} (l : Layout) (spotOf : R → ℕ → Spot) (valuesOf : R → List ℕ) (changed : ℕ → ℕ → R → R) (s : List ℕ) (o : Out R) (i v c d : ℕ) (t u : List ℕ)
+-- So what `Settled` says decides the refusal and every byte, as the promise `Corrects` does.
+pub one-settled : {R : Type 0} (l : Layout) (spotOf : R → ℕ → Spot) (valuesOf : R → List ℕ) (changed : ℕ → ℕ → R → R) (s : List ℕ) (o : Out R) (i v : ℕ) (c d : Refusal) (t u : List ℕ)
     → Settled l spotOf valuesOf changed s o i v c t → Settled l spotOf valuesOf changed s o i v d u → (c ≡ d) × (t ≡ u)
 one-settled l spotOf valuesOf changed s o i v c d t u =
-    one-ending (λ r u d x. Writes l u d x (valuesOf (changed i v r))) (λ r. spotOf r i) (l .seal) s v (λ r. let w = into s (writeMessage l (valuesOf (changed i v r))) in (codeOf w, leaves w s, (refl, refl))) c d t u o
+    one-ending (λ r u d x. Writes l u d x (valuesOf (changed i v r))) (λ r. spotOf r i) (l .seal) s v (λ r. let w = into s (writeMessage l (valuesOf (changed i v r))) in (told w, leaves w s, (refl, refl))) c d t u o
 
 -- ---- every correction ends so
 
 module _ {l : Layout} {R : Type 0} {Lent : R → Type 0} {valuesOf : R → List ℕ} {recordOf : List ℕ → R} {changed : ℕ → ℕ → R → R} (F : Family l R Lent valuesOf recordOf changed)
     (spotOf : R → ℕ → Spot) (spotted : (r : R) (i : ℕ) → spot (l .fmt) [] (valuesOf r) i ≡ spotOf r i)
-    (s : List ℕ) (fine : Bytes s) (i v code : ℕ) (t : List ℕ) (corrects : Corrects l s i v code t) where
-  abbrev writes : R → List ℕ → ℕ → List ℕ → Type 0
+    (s : List ℕ) (fine : Bytes s) (i v : ℕ) (code : Refusal) (t : List ℕ) (corrects : Corrects l s i v code t) where
+  abbrev writes : R → List ℕ → Refusal → List ℕ → Type 0
   writes r u d x = Writes l u d x (valuesOf (changed i v r))
 
   -- the message's own refusal
@@ -119,29 +122,29 @@ module _ {l : Layout} {R : Type 0} {Lent : R → Type 0} {valuesOf : R → List 
         go : (o : Out (List ℕ)) → correctMessage l s i v ≡ also (λ us. sealed (l .seal) inner) o → Differs (l .seal) s p w v (sealed (l .seal) inner) → AsWritten (writes r) (l .seal) s p w v code t
         go (refused c q) e d =
             let (z, x) = stays l s i v c q code t e corrects in
-            let some : code ≡ 0 → ⊥ = λ y. correct-zero l (F .sound) s i v q (F .judged) (e ∙ ap (λ c. refused c q) (sym z ∙ y)) in
+            let some : code .code ≡ 0 → ⊥ = λ y. correct-zero l (F .sound) s i v q (F .judged) (e ∙ ap (λ c. refused c q) (ap (λ r. r .code) (sym z) ∙ y)) in
             record {
-              answers = λ u room d x (z′, x′). (z ∙ sym (z′ ∙ ap (λ o. codeOf (into u o)) (sym wrote ∙ e)), λ y. absurd (some y));
+              answers = λ u room d x (z′, x′). (z ∙ sym (z′ ∙ ap (λ o. told (into u o)) (sym wrote ∙ e)), λ y. absurd (some y));
               good = λ y. absurd (some y);
               bad = λ y. x;
             }
         go (accepted us) e d =
             let m = sealed (l .seal) inner in
-            let z : code ≡ 0 = corrects .0 ∙ ap codeOf e in
+            let z : code ≡ bare 0 = corrects .0 ∙ ap told e in
             let is : t ≡ m = corrects .1 ∙ ap (λ o. leaves o s) e in
             let laid : (u : List ℕ) → length s ≤ length u → into u (writeMessage l (valuesOf (changed i v r))) ≡ accepted (ahead m u) =
             λ u room. ap (into u) (sym wrote ∙ e) ∙ roomy u m (omega (arith, d .size)) in
             record {
-              answers = λ u room d x (z′, x′). (z ∙ sym (z′ ∙ ap codeOf (laid u room)), λ y. x′ ∙ ap (λ o. leaves o u) (laid u room) ∙ ap (λ m. ahead m u) (sym is));
+              answers = λ u room d x (z′, x′). (z ∙ sym (z′ ∙ ap told (laid u room)), λ y. x′ ∙ ap (λ o. leaves o u) (laid u room) ∙ ap (λ m. ahead m u) (sym is));
               good = λ y. subst⁻¹ (Differs (l .seal) s p w v) is d;
-              bad = λ y. absurd (y z);
+              bad = λ y. absurd (y (ap (λ r. r .code) z));
             }
 
     at : (x : Spot) → spotOf r i ≡ x → SettledAt (writes r) (l .seal) s x v code t
     at none k = stays l s i v 10 0 code t (correction-none F s r fine good i v (spotted r i ∙ k)) corrects
     at (found p w) k = by (ltb v (2 ^ w)) refl
       where
-        by : (b : Bool) → ltb v (2 ^ w) ≡ b → cond b (AsWritten (writes r) (l .seal) s p w v code t) (Stays 4 s code t)
+        by : (b : Bool) → ltb v (2 ^ w) ≡ b → cond b (AsWritten (writes r) (l .seal) s p w v code t) (Stays (shown 4 p) s code t)
         by true h = as-written p w (spotted r i ∙ k) (ltb-true v (2 ^ w) h)
         by false h = stays l s i v 4 p code t (correction-wide F s r fine good i v p w (spotted r i ∙ k) (ltb-false v (2 ^ w) h)) corrects
 
@@ -149,7 +152,7 @@ module _ {l : Layout} {R : Type 0} {Lent : R → Type 0} {valuesOf : R → List 
   settled o e = subst⁻¹ (λ o. Settled l spotOf valuesOf changed s o i v code t) e (go (readRecord l recordOf s) refl)
     where
       go : (o : Out R) → readRecord l recordOf s ≡ o → Settled l spotOf valuesOf changed s (plain o) i v code t
-      go (refused c p) e = stays l s i v c p code t (own c p e) corrects
+      go (refused c p) e = let (z, x) = stays l s i v c p code t (own c p e) corrects in (z ∙ sym (shown-again c p), x)
       go (accepted r) e = at r e (spotOf r i) refl
 
   -- The same where a record names its fields by numbers of its own, n being the name of field i in whatever record s is read as.
@@ -159,7 +162,7 @@ module _ {l : Layout} {R : Type 0} {Lent : R → Type 0} {valuesOf : R → List 
   settled-named named n same (accepted r) e =
       subst (λ i. SettledAt (λ u d x. Writes l u d x (valuesOf (changed i v r))) (l .seal) s (spotOf r i) v code t) (same r (plain-good (readRecord l recordOf s) (sym e))) (settled (accepted r) e)
 
-  -- 0 is answered only where the message is read, the field may be corrected and can spell the value; and then it alone differs.
+  -- No refusal is told only where the message is read, the field may be corrected and can spell the value; and then it alone differs.
   pub record Corrected (o : Out R) : Type 0 where
     pub message : R
     pub offset : ℕ
@@ -169,17 +172,17 @@ module _ {l : Layout} {R : Type 0} {Lent : R → Type 0} {valuesOf : R → List 
     pub narrow : v < 2 ^ width
     pub alone : Differs (l .seal) s offset width v t
 
-  pub accepted-correction : code ≡ 0 → Corrected (readRecord l recordOf s)
+  pub accepted-correction : code .code ≡ 0 → Corrected (readRecord l recordOf s)
   accepted-correction z = go (readRecord l recordOf s) refl
     where
       go : (o : Out R) → readRecord l recordOf s ≡ o → Corrected o
-      go (refused c p) e = absurd (never-read F s p (e ∙ ap (λ c. refused c p) (sym (settled (refused c 0) (sym (ap plain e)) .0) ∙ z)))
+      go (refused c p) e = absurd (never-read F s p (e ∙ ap (λ c. refused c p) (ap (λ r. r .code) (sym (settled (refusedBy (shown c p)) (sym (ap plain e)) .0)) ∙ z)))
       go (accepted r) e = stood (spotOf r i) refl (at r e (spotOf r i) refl)
         where
           stood : (x : Spot) → spotOf r i ≡ x → SettledAt (writes r) (l .seal) s x v code t → Corrected (accepted r)
-          stood none k y = absurd (omega (arith, y .0, z))
+          stood none k y = absurd (omega (arith, ap (λ r. r .code) (y .0), z))
           stood (found p w) k y = by (ltb v (2 ^ w)) refl y
             where
-              by : (b : Bool) → ltb v (2 ^ w) ≡ b → cond b (AsWritten (writes r) (l .seal) s p w v code t) (Stays 4 s code t) → Corrected (accepted r)
+              by : (b : Bool) → ltb v (2 ^ w) ≡ b → cond b (AsWritten (writes r) (l .seal) s p w v code t) (Stays (shown 4 p) s code t) → Corrected (accepted r)
               by true h y = record { message = r; offset = p; width = w; read-so = refl; there = k; narrow = ltb-true v (2 ^ w) h; alone = y .good z }
-              by false h y = absurd (omega (arith, y .0, z))
+              by false h y = absurd (omega (arith, ap (λ r. r .code) (y .0), z))

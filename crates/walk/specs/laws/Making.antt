@@ -14,6 +14,8 @@ use Rattle.bits.specs.Xor.{xorOf}
 use Rattle.format.specs.Fmt.{Out, accepted, refused, Fault, good, bad, check, after, write}
 use Rattle.walk.specs.Judging.{beyond, bytesTo, made, verdict, closing}
 use Rattle.format.specs.Promises.{Writes}
+use Rattle.format.specs.Refusals.{shown, bare}
+use Rattle.format.specs.declared.Refusal.{Refusal}
 use Rattle.format.specs.Sealing.{stamped}
 use Rattle.format.specs.Message.{Layout, fault, between, size, sealed, closed, into, refuses, accepts, writeMessage}
 use Rattle.walk.specs.laws.Judging.{Judged}
@@ -36,12 +38,12 @@ made-above false at = omega arith
 made-above true at = omega arith
 
 -- a caller's m bytes behind the walk r
-pub closing-beyond : (z : Bool) (least most room m : ℕ) (r : Walk) → closing z least most room (beyond (m * 8) 0 r) ≡ verdict (r .code) least most room (made z (r .at) + m)
+pub closing-beyond : (z : Bool) (least most room m : ℕ) (r : Walk) → closing z least most room (beyond (m * 8) 0 r) ≡ verdict (shown (r .code) (r .offset)) least most room (made z (r .at) + m)
 unfolding beyond
 closing-beyond z least most room m r = ap₂ (λ c n. verdict c least most room n) (own (eqb (r .code) 0) refl) (more z)
   where
-    own : (x : Bool) → eqb (r .code) 0 ≡ x → cond x 0 (r .code) ≡ r .code
-    own true e = sym (eqb-true (r .code) 0 e)
+    own : (x : Bool) → eqb (r .code) 0 ≡ x → shown (cond x 0 (r .code)) (cond x (r .at) (r .offset)) ≡ shown (r .code) (r .offset)
+    own true e = ap (λ c. shown c (r .offset)) (sym (eqb-true (r .code) 0 e))
     own false e = refl
 
     more : (z : Bool) → made z (r .at + m * 8) ≡ made z (r .at) + m
@@ -77,27 +79,30 @@ module _ (l : Layout) (vs s : List ℕ) {r : Walk} (j : Judged (check (fault (l 
           rw (m, long) refl
 
   -- nothing is written
-  pub write-refused : {code : ℕ} → code ≡ closing (l .seal) (l .least) (l .most) (length s) r → (code ≡ 0 → ⊥) → Writes l s code s vs
+  pub write-refused : {code : Refusal} → code ≡ closing (l .seal) (l .least) (l .most) (length s) r → (code .code ≡ 0 → ⊥) → Writes l s code s vs
   write-refused {code} e h = go (eqb (r .code) 0) (between (l .least) (l .most) whole) (leb whole (length s)) refl refl refl
     where
       go : (x y z : Bool) → eqb (r .code) 0 ≡ x → between (l .least) (l .most) whole ≡ y → leb whole (length s) ≡ z → Writes l s code s vs
       go false y z ex ey ez =
-          let m : into s (writeMessage l vs) ≡ refused code (r .offset) = ap (into s) makes ∙ rw (ex, e, ex) refl in
-          refuses m
+          let m : into s (writeMessage l vs) ≡ refused (r .code) (r .offset) = ap (into s) makes ∙ rw ex refl in
+          let a = refuses {s = s} m in
+          (e ∙ rw ex (a .0), a .1)
       go true false z ex ey ez =
-          let m : into s (writeMessage l vs) ≡ refused code 0 = ap (into s) makes ∙ rw (ex, ey, e, ex, ey) refl in
-          refuses m
+          let m : into s (writeMessage l vs) ≡ refused 1 0 = ap (into s) makes ∙ rw (ex, ey) refl in
+          let a = refuses {s = s} m in
+          (e ∙ rw (ex, ey) (a .0), a .1)
       go true true false ex ey ez =
-          let m : into s (writeMessage l vs) ≡ refused code 0 = ap (into s) makes ∙ rw (ex, ey, long, ez, e, ex, ey, ez) refl in
-          refuses m
-      go true true true ex ey ez = absurd (h (e ∙ rw (ex, ey, ez) refl))
+          let m : into s (writeMessage l vs) ≡ refused 6 0 = ap (into s) makes ∙ rw (ex, ey, long, ez) refl in
+          let a = refuses {s = s} m in
+          (e ∙ rw (ex, ey, ez) (a .0), a .1)
+      go true true true ex ey ez = absurd (h (ap (λ c. c .code) e ∙ rw (ex, ey, ez) refl))
 
   -- t has the fields, and u the seal besides
-  pub write-stands : {code : ℕ} {t u : List ℕ} → code ≡ closing (l .seal) (l .least) (l .most) (length s) r → code ≡ 0 → Puts (l .fmt) vs s t
-      → u ≡ sealed (l .seal) (take n t) ++ drop whole t → Writes l s 0 u vs
-  write-stands {code} {t} {u} e h p d = go (eqb (r .code) 0) (between (l .least) (l .most) whole) (leb whole (length s)) refl refl refl (sym e ∙ h)
+  pub write-stands : {code : Refusal} {t u : List ℕ} → code ≡ closing (l .seal) (l .least) (l .most) (length s) r → code .code ≡ 0 → Puts (l .fmt) vs s t
+      → u ≡ sealed (l .seal) (take n t) ++ drop whole t → Writes l s (bare 0) u vs
+  write-stands {code} {t} {u} e h p d = go (eqb (r .code) 0) (between (l .least) (l .most) whole) (leb whole (length s)) refl refl refl (ap (λ c. c .code) (sym e) ∙ h)
     where
-      go : (x y z : Bool) → eqb (r .code) 0 ≡ x → between (l .least) (l .most) whole ≡ y → leb whole (length s) ≡ z → _≡_ {A = ℕ} (cond x (cond y (cond z 0 6) 1) (r .code)) 0 → Writes l s 0 u vs
+      go : (x y z : Bool) → eqb (r .code) 0 ≡ x → between (l .least) (l .most) whole ≡ y → leb whole (length s) ≡ z → _≡_ {A = ℕ} (cond x (cond y (cond z (bare 0) (bare 6)) (bare 1)) (shown (r .code) (r .offset)) .code) 0 → Writes l s (bare 0) u vs
       go false y z ex ey ez k = absurd (eqb-false (r .code) 0 ex k)
       go true false z ex ey ez k = absurd (omega (arith, k))
       go true true false ex ey ez k = absurd (omega (arith, k))
@@ -114,22 +119,22 @@ module _ (l : Layout) (vs s : List ℕ) {r : Walk} (j : Judged (check (fault (l 
           accepts s i
 
   -- with no seal
-  pub write-bare : {code : ℕ} {t : List ℕ} → l .seal ≡ false → code ≡ closing (l .seal) (l .least) (l .most) (length s) r → code ≡ 0 → Puts (l .fmt) vs s t → Writes l s 0 t vs
+  pub write-bare : {code : Refusal} {t : List ℕ} → l .seal ≡ false → code ≡ closing (l .seal) (l .least) (l .most) (length s) r → code .code ≡ 0 → Puts (l .fmt) vs s t → Writes l s (bare 0) t vs
   write-bare {t = t} z e h p = write-stands e h p (rw z (sym (take-append-drop n t)))
 
   -- with the seal stamped behind the fields
-  pub write-stamped : {code n : ℕ} {t u : List ℕ} → l .seal ≡ true → code ≡ closing (l .seal) (l .least) (l .most) (length s) r → code ≡ 0 → Puts (l .fmt) vs s t → length t ≡ length s
-      → n ≡ bytesTo (r .at) → u ≡ stamped n t → Writes l s 0 u vs
+  pub write-stamped : {code : Refusal} {n : ℕ} {t u : List ℕ} → l .seal ≡ true → code ≡ closing (l .seal) (l .least) (l .most) (length s) r → code .code ≡ 0 → Puts (l .fmt) vs s t → length t ≡ length s
+      → n ≡ bytesTo (r .at) → u ≡ stamped n t → Writes l s (bare 0) u vs
   unfolding stamped
   write-stamped {n = n} {t} z e h p same k d =
-      let room : bytesTo (r .at) < length t = omega (arith, fits (sym e ∙ h), same, ap (λ z. made z (r .at)) z) in
+      let room : bytesTo (r .at) < length t = omega (arith, fits (ap (λ c. c .code) (sym e) ∙ h), same, ap (λ z. made z (r .at)) z) in
       let next : suc (bytesTo (r .at)) ≡ bytesTo (r .at) + 1 = omega arith in
       write-stands e h p (d ∙ rw (k, lt-ltb (bytesTo (r .at)) (length t) room, z, next) refl)
     where
-      fits : closing (l .seal) (l .least) (l .most) (length s) r ≡ 0 → whole ≤ length s
+      fits : closing (l .seal) (l .least) (l .most) (length s) r .code ≡ 0 → whole ≤ length s
       fits = go (eqb (r .code) 0) (between (l .least) (l .most) whole) (leb whole (length s)) refl refl
         where
-          go : (x y z : Bool) → eqb (r .code) 0 ≡ x → leb whole (length s) ≡ z → cond x (cond y (cond z 0 6) 1) (r .code) ≡ 0 → whole ≤ length s
+          go : (x y z : Bool) → eqb (r .code) 0 ≡ x → leb whole (length s) ≡ z → cond x (cond y (cond z (bare 0) (bare 6)) (bare 1)) (shown (r .code) (r .offset)) .code ≡ 0 → whole ≤ length s
           go x y true ex ez k = leb-true whole (length s) ez
           go false y false ex ez k = absurd (eqb-false (r .code) 0 ex k)
           go true true false ex ez k = absurd (omega (arith, k))

@@ -10,7 +10,7 @@ returns : tie.Need-returns
 returns c =
     let p = c .before .before in
     let test = p .before .before in
-    let get = test .before in
+    let get = test .before .before in
     let admits = get .before .before in
     let a = admits .before .before .args in
     let puts = put-in (a .buf .now) (a .spot .at) (a .spot .width) (a .v) (p .put .ensures) in
@@ -18,7 +18,7 @@ returns c =
 
 returns-2 : tie.Need-returns-2
 returns-2 c =
-    let get = c .before in
+    let get = c .before .before in
     record { admits = get .before .before .admits .ensures; offset = refl; wide = refl; was = get .get .ensures; puts = rw (ne-eqb _ 0 (c .if1 .left)) refl }
 
 pub begin-spec : {M : Type 1} → statement M

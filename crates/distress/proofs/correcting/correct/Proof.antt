@@ -1,7 +1,7 @@
 -- `correct` is the correction in place of every family, with the report's fields read before and behind the change and where `stands` found the field.
 use mathlib.Core.Path.{refl, _∙_}
 use Rattle.format.specs.laws.Corrections.{family-sized}
-use Rattle.distress.specs.Report.{reports, numberOf}
+use Rattle.distress.specs.Report.{reports, refusalOf}
 use Rattle.distress.specs.laws.Correction.{spotted}
 use Rattle.distress.specs.laws.Demands.{family}
 use Rattle.distress.specs.declared.reading.Answer.the-variants.{Good, Refused}
@@ -22,7 +22,7 @@ returns c =
     let known = was .before .before in
     let a = known .before .args in
     let (there, slim) = look .stands .ensures in
-    family-sized family Good Refused numberOf (λ r. refl) (λ c. refl) (a .buf .now) (a .field) (a .value) _ _ (was .read .ensures) (number .refusal .ensures)
+    family-sized family Good Refused refusalOf (λ r. refl) (λ c. refl) (a .buf .now) (a .field) (a .value) _ _ (was .read .ensures) (number .refusal .ensures)
     (λ r e. spotted r (a .field) ∙ there) slim
     (λ i. known .slice-known .given i .fits) (begin .begin .ensures) refl (f .fields .ensures) (again .refusal2 .ensures) (finish .finish .ensures)
 

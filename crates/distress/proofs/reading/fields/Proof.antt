@@ -14,6 +14,8 @@ use Rattle.walk.specs.laws.Sign.{spell-int}
 use mir.Syntax.{w32}
 use mir.ValLaws.{toZ-ofZ}
 use Rattle.distress.specs.Report.{report, valuesOf, reportOf, answerOf, again}
+use Rattle.format.specs.Refusals.{bare}
+use Rattle.format.specs.laws.Refusals.{shown-bare}
 use Rattle.format.specs.laws.Answers.{told-so}
 use Rattle.distress.specs.declared.reading.Answer.the-variants.{Good, Refused}
 use borrow.Author.Needs.{needs}
@@ -22,15 +24,16 @@ use Rattle.distress.proofs.reading.fields.Tie as tie
 
 returns : tie.Need-returns
 returns c =
-    let test = c .before .before in
+    let choose = c .before in
+    let test = choose .before .before in
     let a = test .before .before .args in
-    ap Refused (c .choose-code .ensures ∙ ap (λ x. cond x 1 (a .lead)) (c .before .no-refusal .ensures))
+    ap Refused (c .bare .ensures ∙ ap bare (choose .choose-code .ensures ∙ ap (λ x. cond x 1 (a .lead)) (choose .before .no-refusal .ensures)) ∙ sym (shown-bare _))
     ∙ sym (ap (λ o. answerOf (also reportOf o)) (other-size report 17 17 (a .lead) (a .s .now) (λ l u. test .if1 .taken (omega (arith, l, u)))))
 
 returns-2 : tie.Need-returns-2
 unfolding report valuesOf
 returns-2 c =
-    let ended = c .before in
+    let ended = c .before .before in
     let c12 = ended .before in
     let c11 = c12 .before .before in
     let c10 = c11 .before .before in
@@ -64,14 +67,16 @@ returns-2 c =
     let east = ap (spellOf (2 ^ 25)) (toZ-ofZ w32 (c3 .int .result) (record { sfits = c3 .int .ok }) ∙ c3 .int .ensures) ∙ spell-int (2 ^ 25) (c2 .signed .result .v) (lit≤ tt) refl (c2 .signed .ensures .1) in
     let north = ap (spellOf (2 ^ 24)) (toZ-ofZ w32 (c5 .int2 .result) (record { sfits = c5 .int2 .ok }) ∙ c5 .int2 .ensures) ∙ spell-int (2 ^ 24) (c4 .signed2 .result .v) (lit≤ tt) refl (c4 .signed2 .ensures .1) in
     let w = same-values (λ i. 0xBDC1 ∷ c1 .num .result .v ∷ sym east i ∷ sym north i ∷ c6 .num2 .result .v ∷ c7 .num3 .result .v ∷ c8 .num4 .result .v ∷ c9 .num5 .result .v ∷ c10 .num6 .result .v ∷ c11 .num7 .result .v ∷ 0 ∷ []) r12 in
-    c .told .ensures ∙ ap (λ r. cond (eqb (ended .end .result .code) 0) (Good r) (Refused (ended .end .result .code))) (sym (again _ (rw east (c2 .signed .ensures .1)) (rw north (c4 .signed2 .ensures .1)))) ∙ told-so Good Refused reportOf _ _ (ended .end .result .code) (ended .end .result .offset) (w .so)
+    let told = c .before .refusal in
+    c .told .ensures ∙ ap (λ r. cond (eqb (told .result .code) 0) (Good r) (Refused (told .result))) (sym (again _ (rw east (c2 .signed .ensures .1)) (rw north (c4 .signed2 .ensures .1)))) ∙ told-so Good Refused reportOf _ _ (ended .end .result .code) (ended .end .result .offset) (told .ensures) (w .so)
     ∙ sym (ap (λ o. answerOf (also reportOf o)) (exact-fields report 17 (a .lead) s (λ z. test .if1 .left)))
 
 pub fields-spec : {M : Type 1} → statement M
 fields-spec =
     tie.close
     (tie.spec
-    (λ c κs. search needs) (λ c κs. search needs)
+    (λ c κs. search needs) (λ c κs. search needs) (λ c κs. search needs)
     returns
     (λ c κs. search needs) (λ c κs. search needs) (λ c κs. search needs) (λ c. search needs) (λ c κs. search needs) (λ c κs. search needs) (λ c κs. search needs) (λ c κs. search needs) (λ c κs. search needs) (λ c. search needs) (λ c κs. search needs) (λ c. search needs) (λ c κs. search needs) (λ c. search needs) (λ c κs. search needs) (λ c. search needs) (λ c κs. search needs) (λ c. search needs) (λ c κs. search needs) (λ c. search needs) (λ c κs. search needs) (λ c κs. search needs) (λ c κs. search needs)
+    (λ c κs. search needs)
     returns-2)

@@ -10,10 +10,11 @@ use Rattle.distress.proofs.writing.write.Tie as tie
 returns : tie.Need-returns
 unfolding reports
 returns c =
-    let w = c .before in
+    let test = c .before in
+    let w = test .before in
     let v = w .before in
     let s = v .before .before .args .buf .now in
-    subst (Writes reports s _ s) (v .spelled .ensures) (write-fails reports plain s _ (w .judged .ensures) (c .if1 .taken))
+    subst (Writes reports s _ s) (v .spelled .ensures) (write-fails reports plain s _ (w .judged .ensures) (c .refusal .ensures) (test .if1 .taken))
 
 returns-2 : tie.Need-returns-2
 unfolding reports
@@ -37,7 +38,7 @@ pub write-spec : {M : Type 1} → statement M
 write-spec =
     tie.close
     (tie.spec
-    (λ c κs. search needs) (λ c κs. search needs)
+    (λ c κs. search needs) (λ c κs. search needs) (λ c κs. search needs)
     returns
     returns-2
     (λ c κs. search needs) (λ c. search needs)
