@@ -6,8 +6,10 @@ use lib.Dec.{eqb}
 use lib.ListN.{length, getD}
 use Rattle.bits.specs.Bits.{valueOf, digits, bitsOf, bytesOf, fieldAt}
 use Rattle.format.specs.Fmt.{Out, accepted, refused, Fmt, end, field, bytes}
-use Rattle.format.specs.Message.{Layout, led, between, codeOf}
-use Rattle.format.specs.Promises.{answered}
+use Rattle.format.specs.Message.{Layout, led, between}
+use Rattle.format.specs.Promises.{answered, refusedBy}
+use Rattle.format.specs.Refusals.{bare}
+use Rattle.format.specs.declared.Refusal.{Refusal}
 use Rattle.format.specs.Words.{any, _‥_, _▹_, only, kept, num, code, ago}
 use Rattle.packet.specs.declared.reading.Packet.{Packet}
 use Rattle.packet.specs.declared.reading.Answer.{Answer}
@@ -75,14 +77,15 @@ recordOf vs = (
   let n = getD vs 6 0 in bytesOf n (digits (n * 8) (getD vs 7 0)),
 )
 
--- the paper's number and values; the content is shown beside them
+-- the paper's refusals and values; the content is shown beside them
 abbrev pub answerOf : Out (Packet × List ℕ) → Answer
 answerOf = answered (λ r. Good (r .0)) Refused
 
--- an answer taken apart, and its number
+-- an answer taken apart, and its refusal
 abbrev pub outOf : Answer → Out Packet
 outOf (Good r) = accepted r
-outOf (Refused c) = refused c 0
+outOf (Refused c) = refusedBy c
 
-abbrev pub numberOf : Answer → ℕ
-numberOf a = codeOf (outOf a)
+abbrev pub refusalOf : Answer → Refusal
+refusalOf (Good r) = bare 0
+refusalOf (Refused c) = c

@@ -6,7 +6,8 @@ use Prim.Native.Nat.{ℕ}
 use lib.Dec.{ltb}
 use lib.ListN.{length}
 use Rattle.format.specs.Fmt.{Out, orBad, check}
-use Rattle.format.specs.Message.{between, codeOf, leaves, into, writeMessage}
+use Rattle.format.specs.Message.{between, told, leaves, into, writeMessage}
+use Rattle.format.specs.declared.Refusal.{Refusal}
 use Rattle.packet.specs.Packet.{joined, packets, valuesOf}
 use Rattle.packet.specs.Splitter.{packetCount, packetOf}
 
@@ -17,6 +18,6 @@ splitting s c english number k =
     (check (orBad (ltb k (packetCount (length c))) 4) 0
     (into s (writeMessage packets (valuesOf (packetOf english number c k)))))
 
--- the code, and t left of s
-abbrev pub Splits : List ℕ → List ℕ → Bool → ℕ → ℕ → ℕ → List ℕ → Type 0
-Splits s c english number k code t = (code ≡ codeOf (splitting s c english number k)) × (t ≡ leaves (splitting s c english number k) s)
+-- the refusal, and t left of s
+abbrev pub Splits : List ℕ → List ℕ → Bool → ℕ → ℕ → Refusal → List ℕ → Type 0
+Splits s c english number k refusal t = (refusal ≡ told (splitting s c english number k)) × (t ≡ leaves (splitting s c english number k) s)

@@ -134,6 +134,9 @@ pub fn fields(s: &[u8], lead: u8) -> Answer
     let total = w.v as u8;
     let w = w.num(s, 6, 0, last_number(total));
     let own = w.v as u8;
+    if w.code != 0 {
+        return Answer::Refused(w.refusal());
+    }
     let w = w.rest(s).content(s, content).end(s);
     let r = Packet {
         language,

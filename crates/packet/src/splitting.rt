@@ -9,21 +9,22 @@ ghost use Rattle.packet.specs.SplittingPromises.{Splits};
 use crate::reading::JOINED;
 use crate::reading::PART;
 use crate::reading::Packet;
+use format::Refusal;
 
 // Writes packet number `packet` of the content into the front of a lent buffer: the content's size (1), a number past the last packet (4), room (6).
-pub fn split(buf: &mut [u8], content: &[u8], english: bool, number: u8, packet: usize) -> u8
-    ensures { λ code. ⌜ Splits (now (buf .entry)) (now (content .entry)) english number packet code (now (buf .exit)) ⌝ }
+pub fn split(buf: &mut [u8], content: &[u8], english: bool, number: u8, packet: usize) -> Refusal
+    ensures { λ refusal. ⌜ Splits (now (buf .entry)) (now (content .entry)) english number packet refusal (now (buf .exit)) ⌝ }
 {
     let size = content.len();
     if size == 0 {
-        return format::SIZE;
+        return Refusal::SIZE;
     }
     if size > JOINED {
-        return format::SIZE;
+        return Refusal::SIZE;
     }
     let count = (size - 1) / PART + 1;
     if packet >= count {
-        return format::RANGE;
+        return Refusal::RANGE;
     }
     let language = language(english);
     let total = count as u8;

@@ -1,7 +1,9 @@
 -- What is told of a refusal: showing it twice is showing it once, and C takes apart what was packed. Assumes nothing.
-use mathlib.Core.Path.{_≡_, refl}
+use mathlib.Core.Path.{_≡_, refl, sym, ap, _∙_}
 use mathlib.Core.Bool.{Bool, true, false, cond}
 use Prim.Native.Nat.{ℕ}
+use Rattle.format.specs.Fmt.{Out, accepted, refused}
+use Rattle.format.specs.Message.{told}
 use Rattle.format.specs.Refusals.{placed, shown, bare}
 use Rattle.format.specs.declared.Refusal.{Refusal}
 
@@ -19,3 +21,8 @@ shown-bare c = go (placed c)
     go : (b : Bool) → _≡_ {A = Refusal} (record { code = c; bit = cond b 0 0 }) (bare c)
     go true = refl
     go false = refl
+
+-- number 0 is no refusal
+pub told-none : {A : Type 0} (o : Out A) {r : Refusal} → r ≡ told o → r .code ≡ 0 → r ≡ bare 0
+told-none (accepted a) e z = e
+told-none (refused c p) e z = e ∙ ap (λ c. shown c p) (ap (λ r. r .code) (sym e) ∙ z)

@@ -11,7 +11,7 @@ use Rattle.bits.specs.Bits.{Bytes, valueOf, digits, bitsOf, bytesOf}
 use Rattle.bits.specs.laws.Bytes.{length-bits, length-bytes}
 use Rattle.bits.specs.laws.Runs.{bytes-value-lt}
 use Rattle.format.specs.Fmt.{Out, accepted, refused, also}
-use Rattle.format.specs.Message.{codeOf, readMessage, writeMessage}
+use Rattle.format.specs.Message.{told, readMessage, writeMessage}
 use Rattle.format.specs.Promises.{readRecord}
 use Rattle.format.specs.Words.{any, _‥_, ago}
 use Rattle.format.specs.laws.Entries.{entries}
@@ -105,7 +105,7 @@ read-fit s x e = go (readMessage packets s) refl e
         let g4 = g2 .2 .2 in
         let n = getD vs 6 0 in
         let size = extent-laid packet [] 0 vs b w ∙ ap (extent packet 0) (sym (listed vs h)) in
-        let sizes = read-sized s (ap codeOf o) in
+        let sizes = read-sized s (ap (λ o. told o .code) o) in
         let whole = length-bits s in
         let long = length-bytes n (digits (n * 8) (getD vs 7 0)) in
         let (least, own) = ranged 0 (getD vs 4 0 - 1) (getD vs 5 0) (passed 6 3 (λ h. (0 ‥ ago 0 h - 1) h) _ (getD vs 5 0) (g4 .2 .0) (g4 .2 .1)) in

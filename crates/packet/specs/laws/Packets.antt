@@ -11,8 +11,11 @@ use borrow.Author.Tests.{leb-true, ltb-true}
 use Rattle.bits.specs.Bits.{Bytes}
 use Rattle.bits.specs.laws.Bytes.{bytes-take, bytes-drop}
 use Rattle.format.specs.Fmt.{Out, accepted, orBad, check}
-use Rattle.format.specs.Message.{between, codeOf, leaves, into, writeMessage}
+use Rattle.format.specs.Message.{between, told, leaves, into, writeMessage}
 use Rattle.format.specs.Promises.{readRecord, Writes}
+use Rattle.format.specs.Refusals.{bare}
+use Rattle.format.specs.declared.Refusal.{Refusal}
+use Rattle.format.specs.laws.Refusals.{told-none}
 use Rattle.format.specs.laws.Family.{refused-stands}
 use Rattle.packet.specs.Packet.{partBytes, joined, packets, valuesOf, recordOf}
 use Rattle.packet.specs.Promises.{Reads, Shows}
@@ -67,19 +70,19 @@ module _ (english : Bool) (number : ℕ) (c : List ℕ) where
 
   -- ---- what `split` answers
 
-  module _ (s : List ℕ) (k code : ℕ) (t : List ℕ) (e : Splits s c english number k code t) where
-    -- The content's size (1), a number past the last packet (4), room (6), and no other refusal.
-    pub split-code : number < 256 → code ≡ cond (between 1 joined (length c)) (cond (ltb k (packetCount (length c))) (cond (leb (4 + length (partOf c k)) (length s)) 0 6) 4) 1
+  module _ (s : List ℕ) (k : ℕ) (code : Refusal) (t : List ℕ) (e : Splits s c english number k code t) where
+    -- The content's size (1), a number past the last packet (4), room (6), and no other refusal: none has a bit.
+    pub split-code : number < 256 → code ≡ bare (cond (between 1 joined (length c)) (cond (ltb k (packetCount (length c))) (cond (leb (4 + length (partOf c k)) (length s)) 0 6) 4) 1)
     unfolding splitting
     split-code narrow = e .0 ∙ go (leb 1 (length c)) (leb (length c) joined) (ltb k (packetCount (length c))) refl refl refl
       where
-        room : (m : List ℕ) (y : Bool) → codeOf (check (orBad y 6) 0 (accepted m)) ≡ cond y 0 6
+        room : (m : List ℕ) (y : Bool) → told (check (orBad y 6) 0 (accepted m)) ≡ bare (cond y 0 6)
         room m true = refl
         room m false = refl
 
         go : (x y z : Bool) → leb 1 (length c) ≡ x → leb (length c) joined ≡ y → ltb k (packetCount (length c)) ≡ z
-            → codeOf (check (orBad (x && y) 1) 0 (check (orBad z 4) 0 (into s (writeMessage packets (valuesOf (packetOf english number c k))))))
-            ≡ cond (x && y) (cond z (cond (leb (4 + length (partOf c k)) (length s)) 0 6) 4) 1
+            → told (check (orBad (x && y) 1) 0 (check (orBad z 4) 0 (into s (writeMessage packets (valuesOf (packetOf english number c k))))))
+            ≡ bare (cond (x && y) (cond z (cond (leb (4 + length (partOf c k)) (length s)) 0 6) 4) 1)
         go false y z ex ey ez = refl
         go true false z ex ey ez = refl
         go true true false ex ey ez = refl
@@ -88,26 +91,26 @@ module _ (english : Bool) (number : ℕ) (c : List ℕ) where
             rw (is, long) (room _ (leb (4 + length (partOf c k)) (length s)))
 
     -- A refusal leaves every byte.
-    pub split-refused : (code ≡ 0 → ⊥) → t ≡ s
+    pub split-refused : (code .code ≡ 0 → ⊥) → t ≡ s
     split-refused h = refused-stands (splitting s c english number k) s t code (e .0) (e .1) h
 
     -- What is accepted was written,
-    pub split-writes : code ≡ 0 → Writes packets s 0 t (valuesOf (packetOf english number c k))
+    pub split-writes : code .code ≡ 0 → Writes packets s (bare 0) t (valuesOf (packetOf english number c k))
     unfolding splitting
-    split-writes z = go (between 1 joined (length c)) (ltb k (packetCount (length c))) (sym z ∙ e .0) (e .1)
+    split-writes z = go (between 1 joined (length c)) (ltb k (packetCount (length c))) (sym (told-none (splitting s c english number k) (e .0) z) ∙ e .0) (e .1)
       where
         o : Out (List ℕ)
         o = into s (writeMessage packets (valuesOf (packetOf english number c k)))
 
-        go : (x y : Bool) → 0 ≡ codeOf (check (orBad x 1) 0 (check (orBad y 4) 0 o)) → t ≡ leaves (check (orBad x 1) 0 (check (orBad y 4) 0 o)) s → (0 ≡ codeOf o) × (t ≡ leaves o s)
+        go : (x y : Bool) → bare 0 ≡ told (check (orBad x 1) 0 (check (orBad y 4) 0 o)) → t ≡ leaves (check (orBad x 1) 0 (check (orBad y 4) 0 o)) s → (bare 0 ≡ told o) × (t ≡ leaves o s)
         go true true a b = (a, b)
-        go true false a b = absurd (omega (arith, a))
-        go false y a b = absurd (omega (arith, a))
+        go true false a b = absurd (omega (arith, ap (λ r. r .code) a))
+        go false y a b = absurd (omega (arith, ap (λ r. r .code) a))
 
     -- and stands in front of what is left: it is read as that packet's record, and shows that part of the content.
-    pub split-reads : Bytes c → code ≡ 0 → let p = packetOf english number c k in let m = take (4 + length (p .1)) t in Reads m (Good (p .0)) × Shows m (p .1)
+    pub split-reads : Bytes c → code .code ≡ 0 → let p = packetOf english number c k in let m = take (4 + length (p .1)) t in Reads m (Good (p .0)) × Shows m (p .1)
     split-reads fine z = written-reads s (packetOf english number c k .0) (partOf c k) t (part-bytes k fine) (split-writes z)
 
     -- Two answers that the promise allows are equal.
-    pub one-split : (code′ : ℕ) (t′ : List ℕ) → Splits s c english number k code′ t′ → (code ≡ code′) × (t ≡ t′)
+    pub one-split : (code′ : Refusal) (t′ : List ℕ) → Splits s c english number k code′ t′ → (code ≡ code′) × (t ≡ t′)
     one-split code′ t′ e′ = (e .0 ∙ sym (e′ .0), e .1 ∙ sym (e′ .1))

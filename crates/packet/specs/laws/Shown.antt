@@ -17,23 +17,24 @@ use Rattle.format.specs.laws.Round.{read-write}
 use Rattle.format.specs.laws.Runs.{run-stands}
 use Rattle.format.specs.laws.Showing.{shows-none, shows-values}
 use Rattle.format.specs.laws.Whole.{was}
+use Rattle.format.specs.declared.Refusal.{Refusal}
 use Rattle.packet.specs.Promises.{Reads, Shows}
-use Rattle.packet.specs.Packet.{packet, packets, recordOf, numberOf}
+use Rattle.packet.specs.Packet.{packet, packets, recordOf, refusalOf}
 use Rattle.packet.specs.declared.reading.Answer.{Answer}
 use Rattle.packet.specs.declared.reading.Answer.the-variants.{Good, Refused}
 use Rattle.packet.specs.laws.Demands.{family}
 use Rattle.packet.specs.laws.Sound.{listed}
 
-module _ (s : List ℕ) {a : Answer} {n : ℕ} (reads : Reads s a) (number : n ≡ numberOf a) where
+module _ (s : List ℕ) {a : Answer} {n : Refusal} (reads : Reads s a) (number : n ≡ refusalOf a) where
   -- a refused packet shows nothing
-  pub hidden : (n ≡ 0 → ⊥) → Shows s []
-  hidden = shows-none packets (family .judged) (λ r. Good (r .0)) Refused recordOf numberOf (λ r. refl) (λ c. refl) (λ r. r .1) [] s reads number
+  pub hidden : (n .code ≡ 0 → ⊥) → Shows s []
+  hidden = shows-none packets (family .judged) (λ r. Good (r .0)) Refused recordOf refusalOf (λ r. refl) (λ c. refl) (λ r. r .1) [] s reads number
 
   -- A good packet shows its content.
-  pub shown : Bytes s → n ≡ 0 → (4 ≤ length s) × Shows s (take (length s - 4) (drop 4 s))
+  pub shown : Bytes s → n .code ≡ 0 → (4 ≤ length s) × Shows s (take (length s - 4) (drop 4 s))
   unfolding packets packet recordOf entries
   shown fine z =
-      let (vs, e, is-shown) = shows-values packets (family .judged) (λ r. Good (r .0)) Refused recordOf numberOf (λ r. refl) (λ c. refl) (λ r. r .1) [] s reads number z in
+      let (vs, e, is-shown) = shows-values packets (family .judged) (λ r. Good (r .0)) Refused recordOf refusalOf (λ r. refl) (λ c. refl) (λ r. r .1) [] s reads number z in
       let b = bitsOf s in
       let walked : read packet [] 0 b ≡ accepted vs = was packets s vs e .walked in
       let w = read-write packet [] 0 vs b walked in

@@ -8,7 +8,7 @@ use lib.ListN.{length, getD}
 use borrow.Author.Tests.{eq-eqb}
 use Rattle.bits.specs.Bits.{bitsOf, fieldAt}
 use Rattle.format.specs.Fmt.{accepted, read}
-use Rattle.format.specs.Message.{Sound, codeOf, readMessage}
+use Rattle.format.specs.Message.{Sound, told, readMessage}
 use Rattle.format.specs.Words.{_‥_, only, kept}
 use Rattle.format.specs.laws.Entries.{entries, legal-entries}
 use Rattle.format.specs.laws.First.{led-between}
@@ -55,5 +55,5 @@ unfolding packets
 sized s e = led-between 5 5 greatest (λ s. eqb (fieldAt s 0 8) 0xE1 && eqb (fieldAt s 8 3) version) s e
 
 -- and so has a packet that is read
-pub read-sized : (s : List ℕ) → codeOf (readMessage packets s) ≡ 0 → (5 ≤ length s) × (length s ≤ greatest)
+pub read-sized : (s : List ℕ) → told (readMessage packets s) .code ≡ 0 → (5 ≤ length s) × (length s ≤ greatest)
 read-sized s e = sized s (read-led packets s e)

@@ -7,14 +7,14 @@ use Rattle.packet.proofs.reading.content.Tie as tie
 
 returns : tie.Need-returns
 returns c =
-    let number = c .before .before in
+    let number = c .before .before .before in
     let read = number .before in
     let s = read .before .before .args .s .now in
     hidden s (read .read .ensures) (number .refusal .ensures) (c .before .if1 .taken)
 
 sub-result : tie.Need-sub-result
 sub-result c =
-    let number = c .before in
+    let number = c .before .before in
     let read = number .before in
     let known = read .before in
     let s = known .before .args .s .now in
@@ -23,7 +23,7 @@ sub-result c =
 
 part-result-start : tie.Need-part-result-start
 part-result-start c =
-    let number = c .before in
+    let number = c .before .before in
     let read = number .before in
     let known = read .before in
     let s = known .before .args .s .now in
@@ -32,7 +32,7 @@ part-result-start c =
 
 returns-2 : tie.Need-returns-2
 returns-2 c =
-    let number = c .before .before in
+    let number = c .before .before .before in
     let read = number .before in
     let known = read .before in
     let s = known .before .args .s .now in

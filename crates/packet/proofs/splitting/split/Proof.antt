@@ -6,7 +6,7 @@ use native.Mathlib.Omega.{arith}
 use lib.ListN.{length}
 use borrow.Author.Tests.{le-leb, lt-leb, lt-ltb, le-ltb}
 use Rattle.format.specs.Fmt.{refused}
-use Rattle.format.specs.Message.{codeOf, leaves, into, writeMessage, refuses}
+use Rattle.format.specs.Message.{told, leaves, into, writeMessage, refuses}
 use Rattle.packet.specs.Packet.{partBytes, joined, packets, valuesOf}
 use Rattle.packet.specs.SplittingPromises.{splitting}
 use Rattle.packet.specs.Splitter.{packetCount, packetOf}
@@ -69,7 +69,7 @@ returns-4 c =
     let is : (record { language = l .language .result; number = a .number; total = (length x - 1) / partBytes + 1; own = k }, p .part .result .now) ≡ packetOf (a .english) (a .number) x k =
     λ y. (record { language = l .language .ensures y; number = a .number; total = count y; own = k }, p .part .ensures y) in
     let o = ap (λ r. into s (writeMessage packets (valuesOf r))) is ∙ sym on in
-    (w .write .ensures .0 ∙ ap codeOf o, w .write .ensures .1 ∙ ap (λ o. leaves o s) o)
+    (w .write .ensures .0 ∙ ap told o, w .write .ensures .1 ∙ ap (λ o. leaves o s) o)
 
 pub split-spec : {M : Type 1} → statement M
 split-spec =

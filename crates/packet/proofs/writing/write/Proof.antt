@@ -9,7 +9,7 @@ use Rattle.packet.proofs.writing.write.Tie as tie
 returns : tie.Need-returns
 unfolding packets
 returns c =
-    let closes = c .before in
+    let closes = c .before .before in
     let j = closes .before in
     let i = j .before .before .before in
     let a = i .args in
@@ -20,7 +20,7 @@ unfolding packets
 returns-2 c =
     let p = c .before .before in
     let test = p .before .before in
-    let closes = test .before in
+    let closes = test .before .before in
     let j = closes .before in
     let i = j .before .before .before in
     let a = i .args in
