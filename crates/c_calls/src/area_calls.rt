@@ -4,20 +4,21 @@ ghost use Rattle.bits.specs.Bits.{fieldAt};
 ghost use Rattle.c_rows.specs.Area.{recordOf, circleOf, rectangleOf};
 ghost use Rattle.area.specs.Area.{areas, valuesOf};
 ghost use Rattle.area.specs.Changed.{fieldOf};
-ghost use Rattle.format.specs.Promises.{Writes, Corrects};
+ghost use Rattle.format.specs.Promises.{Writes, Corrects, Packs};
 use ais_common::time::ShortTime;
 use ais_common::time::Time;
 use area::Area;
 use area::Circle;
 use area::Rectangle;
 use area::Shape;
+use format::Refusal;
 
 // Makes field number `field` of the area be `value`, or leaves every byte.
 #[no_mangle]
-pub extern "C" fn bellnewt_area_correct(s: &mut [u8], field: usize, value: u64) -> u8
-    ensures { λ code. ⌜ Corrects areas (now (s .entry)) (fieldOf (fieldAt (now (s .entry)) 92 2) field) value code (now (s .exit)) ⌝ }
+pub extern "C" fn bellnewt_area_correct(s: &mut [u8], field: usize, value: u64) -> u32
+    ensures { λ n. ⌜ Packs (λ refusal. Corrects areas (now (s .entry)) (fieldOf (fieldAt (now (s .entry)) 92 2) field) value refusal (now (s .exit))) n ⌝ }
 {
-    area::correct(s, field, value)
+    area::correct(s, field, value).packed()
 }
 
 // Writes a circle of these numbers into the front of a lent buffer.
@@ -41,8 +42,8 @@ pub extern "C" fn bellnewt_circle_write(
     second_day: u8,
     second_hour: u8,
     advice: u8,
-) -> u8
-    ensures { λ code. ⌜ Writes areas (now (buf .entry)) code (now (buf .exit)) (valuesOf (recordOf repeat source sequence destination resent kind (circleOf longitude latitude radius) month day hour minute «second_month» «second_day» «second_hour» advice)) ⌝ }
+) -> u32
+    ensures { λ n. ⌜ Packs (λ refusal. Writes areas (now (buf .entry)) refusal (now (buf .exit)) (valuesOf (recordOf repeat source sequence destination resent kind (circleOf longitude latitude radius) month day hour minute «second_month» «second_day» «second_hour» advice))) n ⌝ }
 {
     let numbers = Circle {
         longitude,
@@ -53,7 +54,7 @@ pub extern "C" fn bellnewt_circle_write(
     let head = [repeat, sequence, resent, kind, advice];
     let time = [month, day, hour, minute];
     let second = [second_month, second_day, second_hour];
-    written(buf, source, destination, head, shape, time, second)
+    written(buf, source, destination, head, shape, time, second).packed()
 }
 
 // Writes a rectangle of these numbers into the front of a lent buffer.
@@ -78,8 +79,8 @@ pub extern "C" fn bellnewt_rectangle_write(
     second_day: u8,
     second_hour: u8,
     advice: u8,
-) -> u8
-    ensures { λ code. ⌜ Writes areas (now (buf .entry)) code (now (buf .exit)) (valuesOf (recordOf repeat source sequence destination resent kind (rectangleOf longitude latitude «second_longitude» «second_latitude») month day hour minute «second_month» «second_day» «second_hour» advice)) ⌝ }
+) -> u32
+    ensures { λ n. ⌜ Packs (λ refusal. Writes areas (now (buf .entry)) refusal (now (buf .exit)) (valuesOf (recordOf repeat source sequence destination resent kind (rectangleOf longitude latitude «second_longitude» «second_latitude») month day hour minute «second_month» «second_day» «second_hour» advice))) n ⌝ }
 {
     let numbers = Rectangle {
         longitude,
@@ -91,7 +92,7 @@ pub extern "C" fn bellnewt_rectangle_write(
     let head = [repeat, sequence, resent, kind, advice];
     let time = [month, day, hour, minute];
     let second = [second_month, second_day, second_hour];
-    written(buf, source, destination, head, shape, time, second)
+    written(buf, source, destination, head, shape, time, second).packed()
 }
 
 // The area of a source, a destination, its repeat, sequence, resent, kind and advice, a shape and its two times, written into the front of a lent buffer.
@@ -103,8 +104,8 @@ fn written(
     shape: Shape,
     time: [u8; 4],
     second: [u8; 3],
-) -> u8
-    ensures { λ code. ⌜ Writes areas (now (buf .entry)) code (now (buf .exit)) (valuesOf (recordOf (getD head 0 0) source (getD head 1 0) destination (getD head 2 0) (getD head 3 0) shape (getD time 0 0) (getD time 1 0) (getD time 2 0) (getD time 3 0) (getD second 0 0) (getD second 1 0) (getD second 2 0) (getD head 4 0))) ⌝ }
+) -> Refusal
+    ensures { λ refusal. ⌜ Writes areas (now (buf .entry)) refusal (now (buf .exit)) (valuesOf (recordOf (getD head 0 0) source (getD head 1 0) destination (getD head 2 0) (getD head 3 0) shape (getD time 0 0) (getD time 1 0) (getD time 2 0) (getD time 3 0) (getD second 0 0) (getD second 1 0) (getD second 2 0) (getD head 4 0))) ⌝ }
 {
     let first = Time {
         month: time[0],

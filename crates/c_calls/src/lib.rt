@@ -1,5 +1,6 @@
 // What C and Rust link of every family but its reading, and but the desk: calls over numbers and lent slices.
 ghost use Rattle.c_rows.specs.Slots.{SlotsTold};
+ghost use Rattle.format.specs.Promises.{Packs};
 
 pub mod area_calls;
 pub mod gljc_calls;
@@ -16,8 +17,8 @@ pub mod warning_calls;
 
 // The slots that `message` needs for that many data bytes, into `slots`.
 #[no_mangle]
-pub extern "C" fn bellnewt_slots(message: u8, bytes: usize, slots: &mut u8) -> u8
-    ensures { λ code. ⌜ SlotsTold message bytes (now (slots .entry)) code (now (slots .exit)) ⌝ }
+pub extern "C" fn bellnewt_slots(message: u8, bytes: usize, slots: &mut u8) -> u32
+    ensures { λ n. ⌜ Packs (λ refusal. SlotsTold message bytes (now (slots .entry)) refusal (now (slots .exit))) n ⌝ }
 {
-    c_rows::slots::slots(message, bytes, slots)
+    c_rows::slots::slots(message, bytes, slots).packed()
 }

@@ -1,6 +1,7 @@
 // The notice: writing and correcting. Language 0 is Chinese, 1 English; above that it is 4 before anything else.
 ghost use Rattle.c_rows.specs.Notice.{recordOf};
 ghost use Rattle.c_rows.specs.Making.{WritesIn, CorrectsIn};
+ghost use Rattle.format.specs.Promises.{Packs};
 use notice::Notice;
 
 // Writes the notice of these numbers, areas and text into the front of a lent buffer.
@@ -18,8 +19,8 @@ pub extern "C" fn bellnewt_notice_write(
     subtype: u8,
     expiry: u32,
     count: u8,
-) -> u8
-    ensures { λ code. ⌜ WritesIn language (now (buf .entry)) (recordOf source station serial year kind subtype expiry count) (now (areas .entry)) (now (text .entry)) code (now (buf .exit)) ⌝ }
+) -> u32
+    ensures { λ n. ⌜ Packs (λ refusal. WritesIn language (now (buf .entry)) (recordOf source station serial year kind subtype expiry count) (now (areas .entry)) (now (text .entry)) refusal (now (buf .exit))) n ⌝ }
 {
     let r = Notice {
         source,
@@ -31,7 +32,7 @@ pub extern "C" fn bellnewt_notice_write(
         expiry,
         count,
     };
-    c_rows::notices::write(buf, areas, text, language, r)
+    c_rows::notices::write(buf, areas, text, language, r).packed()
 }
 
 // Makes field number `field` of the notice be `value`, or leaves every byte.
@@ -41,8 +42,8 @@ pub extern "C" fn bellnewt_notice_correct(
     language: u8,
     field: usize,
     value: u64,
-) -> u8
-    ensures { λ code. ⌜ CorrectsIn language (now (s .entry)) field value code (now (s .exit)) ⌝ }
+) -> u32
+    ensures { λ n. ⌜ Packs (λ refusal. CorrectsIn language (now (s .entry)) field value refusal (now (s .exit))) n ⌝ }
 {
-    c_rows::notices::correct(s, language, field, value)
+    c_rows::notices::correct(s, language, field, value).packed()
 }

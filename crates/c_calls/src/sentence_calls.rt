@@ -2,14 +2,15 @@
 ghost use Rattle.c_rows.specs.Row.{Fills};
 ghost use Rattle.c_rows.specs.Report.{recordOf};
 ghost use Rattle.c_rows.specs.Sentence.{sentenceNumbers, SentenceWrites};
+ghost use Rattle.format.specs.Promises.{Packs};
 use distress::Report;
 
 // Reads the sentence into a row of 10: address, then the report's nine.
 #[no_mangle]
-pub extern "C" fn bellnewt_sentence_read(s: &[u8], row: &mut [i64]) -> u8
-    ensures { λ code. ⌜ Fills (sentenceNumbers (now (s .entry))) (now (row .entry)) code (now (row .exit)) ⌝ }
+pub extern "C" fn bellnewt_sentence_read(s: &[u8], row: &mut [i64]) -> u32
+    ensures { λ n. ⌜ Packs (λ refusal. Fills (sentenceNumbers (now (s .entry))) (now (row .entry)) refusal (now (row .exit))) n ⌝ }
 {
-    c_rows::sentences::read(s, row)
+    c_rows::sentences::read(s, row).packed()
 }
 
 // Writes the sentence of these numbers into the front of a lent buffer, and how many bytes it has into `size`.
@@ -27,8 +28,8 @@ pub extern "C" fn bellnewt_sentence_write(
     speed: u8,
     course: u16,
     kind: u8,
-) -> u8
-    ensures { λ code. ⌜ SentenceWrites (now (buf .entry)) (now (size .entry)) address (recordOf mmsi longitude latitude day hour minute speed course kind) code (now (buf .exit)) (now (size .exit)) ⌝ }
+) -> u32
+    ensures { λ n. ⌜ Packs (λ refusal. SentenceWrites (now (buf .entry)) (now (size .entry)) address (recordOf mmsi longitude latitude day hour minute speed course kind) refusal (now (buf .exit)) (now (size .exit))) n ⌝ }
 {
     let report = Report {
         mmsi,
@@ -41,5 +42,5 @@ pub extern "C" fn bellnewt_sentence_write(
         course,
         kind,
     };
-    c_rows::sentences::write(buf, size, address, report)
+    c_rows::sentences::write(buf, size, address, report).packed()
 }

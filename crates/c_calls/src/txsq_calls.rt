@@ -1,7 +1,7 @@
 // The frame TXSQ: writing and correcting.
 ghost use Rattle.c_rows.specs.Txsq.{recordOf};
 ghost use Rattle.txsq.specs.Txsq.{txsqs, valuesOf};
-ghost use Rattle.format.specs.Promises.{Writes, Corrects};
+ghost use Rattle.format.specs.Promises.{Writes, Corrects, Packs};
 use txsq::Txsq;
 
 // Writes the frame of these numbers and content into the front of a lent buffer.
@@ -16,8 +16,8 @@ pub extern "C" fn bellnewt_txsq_write(
     receiver: u32,
     size: u16,
     answer: u8,
-) -> u8
-    ensures { λ code. ⌜ Writes txsqs (now (buf .entry)) code (now (buf .exit)) (valuesOf (recordOf address category mode password receiver size answer, now (content .entry))) ⌝ }
+) -> u32
+    ensures { λ n. ⌜ Packs (λ refusal. Writes txsqs (now (buf .entry)) refusal (now (buf .exit)) (valuesOf (recordOf address category mode password receiver size answer, now (content .entry)))) n ⌝ }
 {
     let r = Txsq {
         address,
@@ -28,13 +28,13 @@ pub extern "C" fn bellnewt_txsq_write(
         size,
         answer,
     };
-    txsq::write(buf, r, content)
+    txsq::write(buf, r, content).packed()
 }
 
 // Makes field number `field` of the frame be `value`, or leaves every byte.
 #[no_mangle]
-pub extern "C" fn bellnewt_txsq_correct(s: &mut [u8], field: usize, value: u64) -> u8
-    ensures { λ code. ⌜ Corrects txsqs (now (s .entry)) field value code (now (s .exit)) ⌝ }
+pub extern "C" fn bellnewt_txsq_correct(s: &mut [u8], field: usize, value: u64) -> u32
+    ensures { λ n. ⌜ Packs (λ refusal. Corrects txsqs (now (s .entry)) field value refusal (now (s .exit))) n ⌝ }
 {
-    txsq::correct(s, field, value)
+    txsq::correct(s, field, value).packed()
 }

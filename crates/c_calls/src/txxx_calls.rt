@@ -1,7 +1,7 @@
 // The frame TXXX: writing and correcting.
 ghost use Rattle.c_rows.specs.Txxx.{recordOf};
 ghost use Rattle.txxx.specs.Txxx.{txxxs, valuesOf};
-ghost use Rattle.format.specs.Promises.{Writes, Corrects};
+ghost use Rattle.format.specs.Promises.{Writes, Corrects, Packs};
 use txxx::Txxx;
 
 // Writes the frame of these numbers and content into the front of a lent buffer.
@@ -16,8 +16,8 @@ pub extern "C" fn bellnewt_txxx_write(
     minute: u8,
     size: u16,
     mark: u8,
-) -> u8
-    ensures { λ code. ⌜ Writes txxxs (now (buf .entry)) code (now (buf .exit)) (valuesOf (recordOf address class sender hour minute size mark, now (content .entry))) ⌝ }
+) -> u32
+    ensures { λ n. ⌜ Packs (λ refusal. Writes txxxs (now (buf .entry)) refusal (now (buf .exit)) (valuesOf (recordOf address class sender hour minute size mark, now (content .entry)))) n ⌝ }
 {
     let r = Txxx {
         address,
@@ -28,13 +28,13 @@ pub extern "C" fn bellnewt_txxx_write(
         size,
         mark,
     };
-    txxx::write(buf, r, content)
+    txxx::write(buf, r, content).packed()
 }
 
 // Makes field number `field` of the frame be `value`, or leaves every byte.
 #[no_mangle]
-pub extern "C" fn bellnewt_txxx_correct(s: &mut [u8], field: usize, value: u64) -> u8
-    ensures { λ code. ⌜ Corrects txxxs (now (s .entry)) field value code (now (s .exit)) ⌝ }
+pub extern "C" fn bellnewt_txxx_correct(s: &mut [u8], field: usize, value: u64) -> u32
+    ensures { λ n. ⌜ Packs (λ refusal. Corrects txxxs (now (s .entry)) field value refusal (now (s .exit))) n ⌝ }
 {
-    txxx::correct(s, field, value)
+    txxx::correct(s, field, value).packed()
 }

@@ -2,10 +2,11 @@
 ghost use lib.ListN.{getD};
 ghost use Rattle.bits.specs.Bits.{fieldAt};
 ghost use Rattle.c_rows.specs.Warning.{recordOf, cycloneOf, galeOf, wavesOf, fogOf, surgeOf};
-ghost use Rattle.format.specs.Promises.{Writes, Corrects};
+ghost use Rattle.format.specs.Promises.{Writes, Corrects, Packs};
 ghost use Rattle.warning.specs.Changed.{fieldOf};
 ghost use Rattle.warning.specs.Warning.{warnings, valuesOf};
 use ais_common::time::Time;
+use format::Refusal;
 use warning::Warning;
 use warning::bodies::Body;
 use warning::bodies::Cyclone;
@@ -16,10 +17,10 @@ use warning::bodies::Waves;
 
 // Makes field number `field` of the warning be `value`, or leaves every byte.
 #[no_mangle]
-pub extern "C" fn bellnewt_warning_correct(s: &mut [u8], field: usize, value: u64) -> u8
-    ensures { λ code. ⌜ Corrects warnings (now (s .entry)) (fieldOf (fieldAt (now (s .entry)) 56 4) field) value code (now (s .exit)) ⌝ }
+pub extern "C" fn bellnewt_warning_correct(s: &mut [u8], field: usize, value: u64) -> u32
+    ensures { λ n. ⌜ Packs (λ refusal. Corrects warnings (now (s .entry)) (fieldOf (fieldAt (now (s .entry)) 56 4) field) value refusal (now (s .exit))) n ⌝ }
 {
-    warning::correct(s, field, value)
+    warning::correct(s, field, value).packed()
 }
 
 // Writes a cyclone's warning of these numbers into the front of a lent buffer.
@@ -42,8 +43,8 @@ pub extern "C" fn bellnewt_cyclone_write(
     hour: u8,
     minute: u8,
     hours: u8,
-) -> u8
-    ensures { λ code. ⌜ Writes warnings (now (buf .entry)) code (now (buf .exit)) (valuesOf (recordOf repeat source longitude latitude (cycloneOf kind «gale_radius» «storm_radius» speed direction force pressure) month day hour minute hours)) ⌝ }
+) -> u32
+    ensures { λ n. ⌜ Packs (λ refusal. Writes warnings (now (buf .entry)) refusal (now (buf .exit)) (valuesOf (recordOf repeat source longitude latitude (cycloneOf kind «gale_radius» «storm_radius» speed direction force pressure) month day hour minute hours))) n ⌝ }
 {
     let numbers = Cyclone {
         kind,
@@ -56,7 +57,7 @@ pub extern "C" fn bellnewt_cyclone_write(
     };
     let body = Body::Cyclone(numbers);
     let when = [month, day, hour, minute, hours];
-    written(buf, repeat, source, longitude, latitude, body, when)
+    written(buf, repeat, source, longitude, latitude, body, when).packed()
 }
 
 // Writes a gale's warning of these numbers into the front of a lent buffer.
@@ -76,8 +77,8 @@ pub extern "C" fn bellnewt_gale_write(
     hour: u8,
     minute: u8,
     hours: u8,
-) -> u8
-    ensures { λ code. ⌜ Writes warnings (now (buf .entry)) code (now (buf .exit)) (valuesOf (recordOf repeat source longitude latitude (galeOf radius least greatest direction) month day hour minute hours)) ⌝ }
+) -> u32
+    ensures { λ n. ⌜ Packs (λ refusal. Writes warnings (now (buf .entry)) refusal (now (buf .exit)) (valuesOf (recordOf repeat source longitude latitude (galeOf radius least greatest direction) month day hour minute hours))) n ⌝ }
 {
     let numbers = Gale {
         radius,
@@ -87,7 +88,7 @@ pub extern "C" fn bellnewt_gale_write(
     };
     let body = Body::Gale(numbers);
     let when = [month, day, hour, minute, hours];
-    written(buf, repeat, source, longitude, latitude, body, when)
+    written(buf, repeat, source, longitude, latitude, body, when).packed()
 }
 
 // Writes a warning of waves of these numbers into the front of a lent buffer.
@@ -106,8 +107,8 @@ pub extern "C" fn bellnewt_waves_write(
     hour: u8,
     minute: u8,
     hours: u8,
-) -> u8
-    ensures { λ code. ⌜ Writes warnings (now (buf .entry)) code (now (buf .exit)) (valuesOf (recordOf repeat source longitude latitude (wavesOf radius height period) month day hour minute hours)) ⌝ }
+) -> u32
+    ensures { λ n. ⌜ Packs (λ refusal. Writes warnings (now (buf .entry)) refusal (now (buf .exit)) (valuesOf (recordOf repeat source longitude latitude (wavesOf radius height period) month day hour minute hours))) n ⌝ }
 {
     let numbers = Waves {
         radius,
@@ -116,7 +117,7 @@ pub extern "C" fn bellnewt_waves_write(
     };
     let body = Body::Waves(numbers);
     let when = [month, day, hour, minute, hours];
-    written(buf, repeat, source, longitude, latitude, body, when)
+    written(buf, repeat, source, longitude, latitude, body, when).packed()
 }
 
 // Writes a warning of fog of these numbers into the front of a lent buffer.
@@ -134,13 +135,13 @@ pub extern "C" fn bellnewt_fog_write(
     hour: u8,
     minute: u8,
     hours: u8,
-) -> u8
-    ensures { λ code. ⌜ Writes warnings (now (buf .entry)) code (now (buf .exit)) (valuesOf (recordOf repeat source longitude latitude (fogOf radius visibility) month day hour minute hours)) ⌝ }
+) -> u32
+    ensures { λ n. ⌜ Packs (λ refusal. Writes warnings (now (buf .entry)) refusal (now (buf .exit)) (valuesOf (recordOf repeat source longitude latitude (fogOf radius visibility) month day hour minute hours))) n ⌝ }
 {
     let numbers = Fog { radius, visibility };
     let body = Body::Fog(numbers);
     let when = [month, day, hour, minute, hours];
-    written(buf, repeat, source, longitude, latitude, body, when)
+    written(buf, repeat, source, longitude, latitude, body, when).packed()
 }
 
 // Writes a warning of a storm surge of these numbers into the front of a lent buffer.
@@ -160,8 +161,8 @@ pub extern "C" fn bellnewt_surge_write(
     hour: u8,
     minute: u8,
     hours: u8,
-) -> u8
-    ensures { λ code. ⌜ Writes warnings (now (buf .entry)) code (now (buf .exit)) (valuesOf (recordOf repeat source longitude latitude (surgeOf radius rise tide period) month day hour minute hours)) ⌝ }
+) -> u32
+    ensures { λ n. ⌜ Packs (λ refusal. Writes warnings (now (buf .entry)) refusal (now (buf .exit)) (valuesOf (recordOf repeat source longitude latitude (surgeOf radius rise tide period) month day hour minute hours))) n ⌝ }
 {
     let numbers = Surge {
         radius,
@@ -171,7 +172,7 @@ pub extern "C" fn bellnewt_surge_write(
     };
     let body = Body::Surge(numbers);
     let when = [month, day, hour, minute, hours];
-    written(buf, repeat, source, longitude, latitude, body, when)
+    written(buf, repeat, source, longitude, latitude, body, when).packed()
 }
 
 // The warning of these numbers, a body, and its time with how many hours it holds, written into the front of a lent buffer.
@@ -183,8 +184,8 @@ fn written(
     latitude: u32,
     body: Body,
     when: [u8; 5],
-) -> u8
-    ensures { λ code. ⌜ Writes warnings (now (buf .entry)) code (now (buf .exit)) (valuesOf (recordOf repeat source longitude latitude body (getD when 0 0) (getD when 1 0) (getD when 2 0) (getD when 3 0) (getD when 4 0))) ⌝ }
+) -> Refusal
+    ensures { λ refusal. ⌜ Writes warnings (now (buf .entry)) refusal (now (buf .exit)) (valuesOf (recordOf repeat source longitude latitude body (getD when 0 0) (getD when 1 0) (getD when 2 0) (getD when 3 0) (getD when 4 0))) ⌝ }
 {
     let time = Time {
         month: when[0],

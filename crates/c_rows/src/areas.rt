@@ -5,6 +5,7 @@ ghost use Rattle.c_rows.specs.Area.{fourOf, rowOf, numbersOf};
 use area::Answer;
 use area::Area;
 use area::Shape;
+use format::Refusal;
 
 // A shape's numbers in the paper's order: a circle has three, and 0 behind them.
 struct Four {
@@ -15,8 +16,8 @@ struct Four {
 }
 
 // Reads the area into a row of 19: repeat, source, sequence, destination, resent, kind, shape, four numbers of its shape, month, day, hour, minute, second month, second day, second hour, advice.
-pub fn read(s: &[u8], row: &mut [i64]) -> u8
-    ensures { λ code. ⌜ Fills (numbersOf (now (s .entry))) (now (row .entry)) code (now (row .exit)) ⌝ }
+pub fn read(s: &[u8], row: &mut [i64]) -> Refusal
+    ensures { λ refusal. ⌜ Fills (numbersOf (now (s .entry))) (now (row .entry)) refusal (now (row .exit)) ⌝ }
 {
     let answer = area::read(s);
     match answer {
@@ -24,7 +25,7 @@ pub fn read(s: &[u8], row: &mut [i64]) -> u8
             let numbers = numbers(r);
             crate::signed::fill(row, &numbers)
         },
-        Answer::Refused(code) => code,
+        Answer::Refused(refusal) => refusal,
     }
 }
 

@@ -1,6 +1,7 @@
 // Each family read into a lent row of numbers, as C and Rust are given it.
 ghost use Rattle.format.specs.Fmt.{accepted};
 ghost use Rattle.c_rows.specs.Row.{Fills, entries};
+use format::Refusal;
 
 pub mod areas;
 pub mod gljcs;
@@ -18,11 +19,11 @@ pub mod txxxs;
 pub mod warnings;
 
 // Stores the numbers at the front of a row that has room; the entries past them stay.
-pub(crate) fn fill(row: &mut [i64], numbers: &[u32]) -> u8
-    ensures { λ code. ⌜ Fills (accepted (entries (now (numbers .entry)))) (now (row .entry)) code (now (row .exit)) ⌝ }
+pub(crate) fn fill(row: &mut [i64], numbers: &[u32]) -> Refusal
+    ensures { λ refusal. ⌜ Fills (accepted (entries (now (numbers .entry)))) (now (row .entry)) refusal (now (row .exit)) ⌝ }
 {
     if row.len() < numbers.len() {
-        return format::ROOM;
+        return Refusal::ROOM;
     }
     let mut i: usize = 0;
     while i < numbers.len() {
@@ -30,5 +31,5 @@ pub(crate) fn fill(row: &mut [i64], numbers: &[u32]) -> u8
         row[i] = number as i64;
         i += 1;
     }
-    0
+    Refusal::NONE
 }

@@ -5,6 +5,7 @@ ghost use Rattle.c_rows.specs.Row.{Fills};
 ghost use Rattle.packet.specs.Packet.{partBytes};
 ghost use Rattle.c_rows.specs.Packet.{rowOf, numbersOf};
 ghost use Rattle.c_rows.specs.Split.{SplitsIn};
+use format::Refusal;
 use packet::Answer;
 use packet::Packet;
 
@@ -12,8 +13,8 @@ use packet::Packet;
 const ENGLISH: u8 = 1;
 
 // Reads the packet into a row of 6: language, number, total, own, where the content begins and its bytes.
-pub fn read(s: &[u8], row: &mut [i64]) -> u8
-    ensures { λ code. ⌜ Fills (numbersOf (now (s .entry))) (now (row .entry)) code (now (row .exit)) ⌝ }
+pub fn read(s: &[u8], row: &mut [i64]) -> Refusal
+    ensures { λ refusal. ⌜ Fills (numbersOf (now (s .entry))) (now (row .entry)) refusal (now (row .exit)) ⌝ }
 {
     let answer = packet::read(s);
     match answer {
@@ -21,16 +22,16 @@ pub fn read(s: &[u8], row: &mut [i64]) -> u8
             let numbers = numbers(r, s.len() - Packet::CONTENT);
             crate::fill(row, &numbers)
         },
-        Answer::Refused(code) => code,
+        Answer::Refused(refusal) => refusal,
     }
 }
 
 // Splits for a language that is 0 or 1; another is 4 before anything else.
-pub fn split(buf: &mut [u8], content: &[u8], language: u8, number: u8, packet: usize) -> u8
-    ensures { λ code. ⌜ SplitsIn (now (buf .entry)) (now (content .entry)) language number packet code (now (buf .exit)) ⌝ }
+pub fn split(buf: &mut [u8], content: &[u8], language: u8, number: u8, packet: usize) -> Refusal
+    ensures { λ refusal. ⌜ SplitsIn (now (buf .entry)) (now (content .entry)) language number packet refusal (now (buf .exit)) ⌝ }
 {
     if language > ENGLISH {
-        return format::RANGE;
+        return Refusal::RANGE;
     }
     packet::split(buf, content, language == ENGLISH, number, packet)
 }

@@ -6,10 +6,11 @@ ghost use Rattle.c_rows.specs.Row.{Fills};
 ghost use Rattle.c_rows.specs.Report.{rowOf, numbersOf};
 use distress::Answer;
 use distress::Report;
+use format::Refusal;
 
 // Reads the report into a row of 9: mmsi, longitude, latitude, day, hour, minute, speed, course, kind.
-pub fn read(s: &[u8], row: &mut [i64]) -> u8
-    ensures { λ code. ⌜ Fills (numbersOf (now (s .entry))) (now (row .entry)) code (now (row .exit)) ⌝ }
+pub fn read(s: &[u8], row: &mut [i64]) -> Refusal
+    ensures { λ refusal. ⌜ Fills (numbersOf (now (s .entry))) (now (row .entry)) refusal (now (row .exit)) ⌝ }
 {
     let answer = distress::read(s);
     match answer {
@@ -17,7 +18,7 @@ pub fn read(s: &[u8], row: &mut [i64]) -> u8
             let numbers = numbers(0, report);
             crate::signed::fill(row, &numbers[1..])
         },
-        Answer::Refused(code) => code,
+        Answer::Refused(refusal) => refusal,
     }
 }
 

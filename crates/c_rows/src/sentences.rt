@@ -3,12 +3,13 @@ ghost use Rattle.c_rows.specs.Row.{Fills};
 ghost use Rattle.c_rows.specs.Sentence.{sentenceNumbers, SentenceWrites};
 use crate::reports::numbers;
 use distress::Report;
+use format::Refusal;
 use sentence::Heard;
 use sentence::Sent;
 
 // Reads the sentence into a row of 10: address, then the report's nine.
-pub fn read(s: &[u8], row: &mut [i64]) -> u8
-    ensures { λ code. ⌜ Fills (sentenceNumbers (now (s .entry))) (now (row .entry)) code (now (row .exit)) ⌝ }
+pub fn read(s: &[u8], row: &mut [i64]) -> Refusal
+    ensures { λ refusal. ⌜ Fills (sentenceNumbers (now (s .entry))) (now (row .entry)) refusal (now (row .exit)) ⌝ }
 {
     let heard = sentence::read(s);
     match heard {
@@ -16,20 +17,20 @@ pub fn read(s: &[u8], row: &mut [i64]) -> u8
             let numbers = numbers(address, report);
             crate::signed::fill(row, &numbers)
         },
-        Heard::Refused(code) => code,
+        Heard::Refused(refusal) => refusal,
     }
 }
 
 // Writes the sentence into the front of a lent buffer, and how many bytes it has into `size`.
-pub fn write(buf: &mut [u8], size: &mut usize, address: u32, report: Report) -> u8
-    ensures { λ code. ⌜ SentenceWrites (now (buf .entry)) (now (size .entry)) address report code (now (buf .exit)) (now (size .exit)) ⌝ }
+pub fn write(buf: &mut [u8], size: &mut usize, address: u32, report: Report) -> Refusal
+    ensures { λ refusal. ⌜ SentenceWrites (now (buf .entry)) (now (size .entry)) address report refusal (now (buf .exit)) (now (size .exit)) ⌝ }
 {
     let sent = sentence::write(buf, address, report);
     match sent {
         Sent::Bytes(n) => {
             *size = n;
-            0
+            Refusal::NONE
         },
-        Sent::Refused(code) => code,
+        Sent::Refused(refusal) => refusal,
     }
 }

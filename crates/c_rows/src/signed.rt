@@ -1,13 +1,14 @@
 // A row of numbers of which some have a sign.
 ghost use Rattle.format.specs.Fmt.{accepted};
 ghost use Rattle.c_rows.specs.Row.{Fills};
+use format::Refusal;
 
 // Stores the numbers at the front of a row that has room; the entries past them stay.
-pub(crate) fn fill(row: &mut [i64], numbers: &[i64]) -> u8
-    ensures { λ code. ⌜ Fills (accepted (now (numbers .entry))) (now (row .entry)) code (now (row .exit)) ⌝ }
+pub(crate) fn fill(row: &mut [i64], numbers: &[i64]) -> Refusal
+    ensures { λ refusal. ⌜ Fills (accepted (now (numbers .entry))) (now (row .entry)) refusal (now (row .exit)) ⌝ }
 {
     if row.len() < numbers.len() {
-        return format::ROOM;
+        return Refusal::ROOM;
     }
     let mut i: usize = 0;
     while i < numbers.len() {
@@ -15,5 +16,5 @@ pub(crate) fn fill(row: &mut [i64], numbers: &[i64]) -> u8
         row[i] = number;
         i += 1;
     }
-    0
+    Refusal::NONE
 }

@@ -4,6 +4,7 @@ ghost use Prim.Native.Nat.{_+_, _≤_};
 ghost use lib.ListN.{length};
 ghost use Rattle.c_rows.specs.Row.{Fills};
 ghost use Rattle.c_rows.specs.Txhz.{rowOf, numbersOf, receiptAt, TxhzWrites};
+use format::Refusal;
 use txhz::Answer;
 use txhz::Receipt;
 use txhz::Txhz;
@@ -12,8 +13,8 @@ use txhz::Txhz;
 const RECEIPTS: usize = 20;
 
 // Reads the frame into a row of 23: address, receiver, count, then each receipt's sent hour, sent minute, receipt hour, receipt minute.
-pub fn read(s: &[u8], row: &mut [i64]) -> u8
-    ensures { λ code. ⌜ Fills (numbersOf (now (s .entry))) (now (row .entry)) code (now (row .exit)) ⌝ }
+pub fn read(s: &[u8], row: &mut [i64]) -> Refusal
+    ensures { λ refusal. ⌜ Fills (numbersOf (now (s .entry))) (now (row .entry)) refusal (now (row .exit)) ⌝ }
 {
     let answer = txhz::read(s);
     match answer {
@@ -21,16 +22,16 @@ pub fn read(s: &[u8], row: &mut [i64]) -> u8
             let numbers = numbers(r);
             crate::fill(row, &numbers)
         },
-        Answer::Refused(code) => code,
+        Answer::Refused(refusal) => refusal,
     }
 }
 
 // Writes the frame of these numbers and the 20 bytes of its receipts into the front of a lent buffer.
-pub fn write(buf: &mut [u8], receipts: &[u8], address: u32, receiver: u32, count: u8) -> u8
-    ensures { λ code. ⌜ TxhzWrites (now (buf .entry)) (now (receipts .entry)) address receiver count code (now (buf .exit)) ⌝ }
+pub fn write(buf: &mut [u8], receipts: &[u8], address: u32, receiver: u32, count: u8) -> Refusal
+    ensures { λ refusal. ⌜ TxhzWrites (now (buf .entry)) (now (receipts .entry)) address receiver count refusal (now (buf .exit)) ⌝ }
 {
     if receipts.len() != RECEIPTS {
-        return format::SIZE;
+        return Refusal::SIZE;
     }
     let r = Txhz {
         address,

@@ -2,12 +2,13 @@
 ghost use mathlib.Core.Path.{_≡_};
 ghost use Rattle.c_rows.specs.Row.{Fills};
 ghost use Rattle.c_rows.specs.Txxx.{rowOf, numbersOf};
+use format::Refusal;
 use txxx::Answer;
 use txxx::Txxx;
 
 // Reads the frame into a row of 9: address, class, sender, hour, minute, size, mark, where the content begins and its bytes.
-pub fn read(s: &[u8], row: &mut [i64]) -> u8
-    ensures { λ code. ⌜ Fills (numbersOf (now (s .entry))) (now (row .entry)) code (now (row .exit)) ⌝ }
+pub fn read(s: &[u8], row: &mut [i64]) -> Refusal
+    ensures { λ refusal. ⌜ Fills (numbersOf (now (s .entry))) (now (row .entry)) refusal (now (row .exit)) ⌝ }
 {
     let answer = txxx::read(s);
     match answer {
@@ -15,7 +16,7 @@ pub fn read(s: &[u8], row: &mut [i64]) -> u8
             let numbers = numbers(r);
             crate::fill(row, &numbers)
         },
-        Answer::Refused(code) => code,
+        Answer::Refused(refusal) => refusal,
     }
 }
 

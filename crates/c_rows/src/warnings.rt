@@ -2,6 +2,7 @@
 ghost use mathlib.Core.Path.{_≡_};
 ghost use Rattle.c_rows.specs.Row.{Fills};
 ghost use Rattle.c_rows.specs.Warning.{fourOf, sevenOf, rowOf, numbersOf};
+use format::Refusal;
 use warning::Answer;
 use warning::Warning;
 use warning::bodies::Body;
@@ -18,8 +19,8 @@ struct Seven {
 }
 
 // Reads the warning into a row of 17: repeat, source, warning type, longitude, latitude, seven numbers of its body, month, day, hour, minute, hours.
-pub fn read(s: &[u8], row: &mut [i64]) -> u8
-    ensures { λ code. ⌜ Fills (numbersOf (now (s .entry))) (now (row .entry)) code (now (row .exit)) ⌝ }
+pub fn read(s: &[u8], row: &mut [i64]) -> Refusal
+    ensures { λ refusal. ⌜ Fills (numbersOf (now (s .entry))) (now (row .entry)) refusal (now (row .exit)) ⌝ }
 {
     let answer = warning::read(s);
     match answer {
@@ -27,7 +28,7 @@ pub fn read(s: &[u8], row: &mut [i64]) -> u8
             let numbers = numbers(r);
             crate::fill(row, &numbers)
         },
-        Answer::Refused(code) => code,
+        Answer::Refused(refusal) => refusal,
     }
 }
 

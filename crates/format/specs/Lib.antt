@@ -8,5 +8,6 @@ pub mod Codes
 pub mod Promises
 pub mod Sealing
 pub mod Settled
+pub mod Places
 pub mod Correcting
 pub mod laws

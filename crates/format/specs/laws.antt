@@ -5,6 +5,7 @@ pub mod Correct
 pub mod Whole
 pub mod Zero
 pub mod Tells
+pub mod Places
 pub mod Legal
 pub mod Past
 pub mod Groups
@@ -17,6 +18,7 @@ pub mod Lead
 pub mod Answers
 pub mod Putting
 pub mod Sealing
+pub mod Placed
 pub mod Correcting
 pub mod Entries
 pub mod Family

@@ -70,7 +70,7 @@ put-told {t = t} {at = at} w small opens is e d = put-number w small opens e (pu
 -- ---- their refusals are numbers of the paper
 
 pub date-numbered : (ps : List Part) → Coded ps → Numbered (walk (dateParts ps) 0)
-date-numbered ps z = walk-numbered (dateParts ps) 0 ((λ z. omega arith), ((λ z. omega arith), ((λ z. omega arith), z)))
+date-numbered ps z = walk-numbered (dateParts ps) ((λ z. omega arith), ((λ z. omega arith), ((λ z. omega arith), z)))
 
 pub time-numbered : (f : Fmt) → Judged f → Judged (time f)
 time-numbered f j = (date-numbered (part 6 4 (0 ‥ 59) ∷ []) ((λ z. omega arith), tt), j)

@@ -1,10 +1,12 @@
 -- What is told of a refusal: showing it twice is showing it once, and C takes apart what was packed. Assumes nothing.
 use mathlib.Core.Path.{_≡_, refl, sym, ap, _∙_}
 use mathlib.Core.Bool.{Bool, true, false, cond}
-use Prim.Native.Nat.{ℕ}
+use Prim.Native.Nat.{ℕ, _/_, _%_, _^_, _<_}
+use native.Mathlib.Omega.{arith}
+use native.Mathlib.Nat.{mod-eq-of-lt}
 use Rattle.format.specs.Fmt.{Out, accepted, refused}
 use Rattle.format.specs.Message.{told}
-use Rattle.format.specs.Refusals.{placed, shown, bare}
+use Rattle.format.specs.Refusals.{placed, shown, bare, packed, unpacked}
 use Rattle.format.specs.declared.Refusal.{Refusal}
 
 pub shown-again : (c p : ℕ) → shown c (shown c p .bit) ≡ shown c p
@@ -26,3 +28,16 @@ shown-bare c = go (placed c)
 pub told-none : {A : Type 0} (o : Out A) {r : Refusal} → r ≡ told o → r .code ≡ 0 → r ≡ bare 0
 told-none (accepted a) e z = e
 told-none (refused c p) e z = e ∙ ap (λ c. shown c p) (ap (λ r. r .code) (sym e) ∙ z)
+
+-- What C takes apart is what was packed: a number below 256, and a bit below 2^24.
+pub unpacks : (r : Refusal) → r .code < 256 → r .bit < 2 ^ 24 → unpacked (packed r) ≡ r
+unpacks r c b = λ i. record { code = low i; bit = high i }
+  where
+    small : r .bit % 2 ^ 24 ≡ r .bit
+    small = mod-eq-of-lt b
+
+    low : packed r % 256 ≡ r .code
+    low = rw small (omega (arith, c))
+
+    high : packed r / 256 ≡ r .bit
+    high = rw small (omega (arith, c))

@@ -2,11 +2,11 @@
 use mathlib.Core.Path.{_≡_, refl, sym, ap, _∙_}
 use mathlib.Core.Bool.{Bool, true, false, cond, _&&_}
 use mathlib.Core.List.{List, [], _∷_, _++_}
-use Prim.Native.Nat.{ℕ, zero, suc, _+_, _-_, _/_, _^_}
+use Prim.Native.Nat.{ℕ, zero, suc, _+_, _-_, _/_, _^_, _≤_}
 use native.Mathlib.Omega.{arith}
 use lib.Dec.{leb, ltb, eqb}
-use borrow.Author.Tests.{ltb-true, ltb-false}
-use lib.ListN.{length, take, drop, getD, set}
+use borrow.Author.Tests.{leb-true, ltb-true, ltb-false}
+use lib.ListN.{length, take, drop, getD, set, length-drop}
 use Rattle.bits.specs.Bits.{valueOf, digits, bitsOf, bytesOf, putAt}
 use Rattle.bits.specs.Xor.{xorOf}
 use Rattle.format.specs.Fmt.{Out, accepted, refused, Fault, good, bad, Judge, Fmt, end, field, choice, bytes, orBad, pad, check, also, after, readField, read, writeField, sized, write, Spot, none, found, spot, unless10}
@@ -26,9 +26,9 @@ Counted (choice w j f) at (v ∷ vs) = Counted (f v) (at + w) vs
 Counted (bytes f) at [] = ⊥
 Counted (bytes f) at (n ∷ vs) = Counted (f n) at vs × ((b : List Bool) → lay (f n) at vs ≡ accepted b → length b / 8 ≡ n)
 
--- A judge's refusals are numbers of the paper.
+-- A judge's refusals are numbers of the paper, and point into the bits that it is given, or to their end.
 abbrev pub Numbered : Judge → Type 0
-Numbered j = (h : List ℕ) (b : List Bool) (i : ℕ) → j h b ≡ bad 0 i → ⊥
+Numbered j = ((h : List ℕ) (b : List Bool) (i : ℕ) → j h b ≡ bad 0 i → ⊥) × ((h : List ℕ) (b : List Bool) (c i : ℕ) → j h b ≡ bad c i → i ≤ length b)
 
 abbrev pub Judged : Fmt → Type 0
 Judged end = Unit
@@ -41,38 +41,59 @@ abbrev pub Coded : List Part → Type 0
 Coded [] = Unit
 Coded (part w c t ∷ ps) = (c ≡ 0 → ⊥) × Coded ps
 
-pub walk-numbered : (ps : List Part) (k : ℕ) → Coded ps → Numbered (walk ps k)
+walk-coded : (ps : List Part) (k : ℕ) → Coded ps → (h : List ℕ) (b : List Bool) (i : ℕ) → walk ps k h b ≡ bad 0 i → ⊥
 unfolding walk
-walk-numbered [] k z h b i e = let z : _≡_ {A = ℕ} 0 1 = cc in omega arith
-walk-numbered (part w c t ∷ ps) k z h b i e =
-    go (leb w (length b)) (t h (valueOf (take w b))) (walk ps (k + w) (valueOf (take w b) ∷ h) (drop w b)) (λ x. walk-numbered ps (k + w) (z .1) _ _ i x) e
+walk-coded [] k z h b i e = let z : _≡_ {A = ℕ} 0 1 = cc in omega arith
+walk-coded (part w c t ∷ ps) k z h b i e =
+    go (leb w (length b)) (t h (valueOf (take w b))) (walk ps (k + w) (valueOf (take w b) ∷ h) (drop w b)) (λ x. walk-coded ps (k + w) (z .1) _ _ i x) e
   where
     go : (x y : Bool) (r : Fault) → (r ≡ bad 0 i → ⊥) → orElse (unless x 1 k) (orElse (unless y c k) r) ≡ bad 0 i → ⊥
     go false y r n e = let z : _≡_ {A = ℕ} 1 0 = cc in omega arith
     go true false r n e = z .0 cc
     go true true r n e = n e
 
+-- a part that is bad or cut begins in the bits, or where they end
+walk-points : (ps : List Part) (k : ℕ) (h : List ℕ) (b : List Bool) (c i : ℕ) → walk ps k h b ≡ bad c i → i ≤ k + length b
+unfolding walk
+walk-points [] k h b c i e = let z : _≡_ {A = ℕ} 0 1 = cc in absurd (omega arith)
+walk-points (part w d t ∷ ps) k h b c i e =
+    go (leb w (length b)) refl (t h (valueOf (take w b))) (walk ps (k + w) (valueOf (take w b) ∷ h) (drop w b)) (λ x. walk-points ps (k + w) _ _ c i x) e
+  where
+    go : (x : Bool) → leb w (length b) ≡ x → (y : Bool) (r : Fault) → (r ≡ bad c i → i ≤ k + w + length (drop w b)) → orElse (unless x 1 k) (orElse (unless y d k) r) ≡ bad c i → i ≤ k + length b
+    go false ex y r n e = let z : k ≡ i = cc in omega arith
+    go true ex false r n e = let z : k ≡ i = cc in omega arith
+    go true ex true r n e = omega (arith, n e, leb-true w (length b) ex, length-drop w b)
+
+pub walk-numbered : (ps : List Part) → Coded ps → Numbered (walk ps 0)
+walk-numbered ps z = (walk-coded ps 0 z, λ h b c i e. omega (arith, walk-points ps 0 h b c i e))
+
 pub only-numbered : (w c : ℕ) (t : Test) → Numbered (only w (suc c) t)
-only-numbered w c t = walk-numbered (part w (suc c) t ∷ []) 0 ((λ z. omega arith), tt)
+only-numbered w c t = walk-numbered (part w (suc c) t ∷ []) ((λ z. omega arith), tt)
 
 pub twice-numbered : (w c d : ℕ) (t u : Test) → Numbered (twice w (suc c) t (suc d) u)
-twice-numbered w c d t u h b i = go (only w (suc c) t h b) (only w (suc d) u h b) (only-numbered w c t h b i) (only-numbered w d u h b i)
+twice-numbered w c d t u = (
+  λ h b i. go (λ f. f ≡ bad 0 i → ⊥) (only w (suc c) t h b) (only w (suc d) u h b) (only-numbered w c t .0 h b i) (only-numbered w d u .0 h b i),
+  λ h b n i. go (λ f. f ≡ bad n i → i ≤ length b) (only w (suc c) t h b) (only w (suc d) u h b) (only-numbered w c t .1 h b n i) (only-numbered w d u .1 h b n i),
+)
   where
-    go : (x y : Fault) → (x ≡ bad 0 i → ⊥) → (y ≡ bad 0 i → ⊥) → orElse x y ≡ bad 0 i → ⊥
-    go good y m n e = n e
-    go (bad c i) y m n e = m e
+    go : (P : Fault → Type 0) (x y : Fault) → P x → P y → P (orElse x y)
+    go P good y m n = n
+    go P (bad c i) y m n = m
 
 pub zero-numbered : (w : ℕ) (j : Judge) → Numbered j → Numbered (orZero w j)
 unfolding orZero
-zero-numbered w j n h b i e = go (eqb (length b) w && eqb (valueOf b) 0) refl
+zero-numbered w j n = (λ h b i e. n .0 h b i (as-judged h b 0 i e), λ h b c i e. n .1 h b c i (as-judged h b c i e))
   where
-    go : (x : Bool) → (eqb (length b) w && eqb (valueOf b) 0) ≡ x → ⊥
-    go true ex = let y : orZero w j h b ≡ good = rw ex refl in let z : _≡_ {A = ℕ} 0 1 = cc in omega arith
-    go false ex = let y : orZero w j h b ≡ j h b = rw ex refl in n h b i (sym y ∙ e)
+    as-judged : (h : List ℕ) (b : List Bool) (c i : ℕ) → orZero w j h b ≡ bad c i → j h b ≡ bad c i
+    as-judged h b c i e = go (eqb (length b) w && eqb (valueOf b) 0) refl
+      where
+        go : (x : Bool) → (eqb (length b) w && eqb (valueOf b) 0) ≡ x → j h b ≡ bad c i
+        go true ex = let y : orZero w j h b ≡ good = rw ex refl in let z : _≡_ {A = ℕ} 0 1 = cc in absurd (omega arith)
+        go false ex = let y : orZero w j h b ≡ j h b = rw ex refl in sym y ∙ e
 
 no-zero-field : (w : ℕ) (j : Judge) (h : List ℕ) (at v : ℕ) (o : Out (List Bool)) (p : ℕ) → Numbered j → (o ≡ refused 0 p → ⊥) → writeField w j h at v o ≡ refused 0 p → ⊥
 unfolding writeField
-no-zero-field w j h at v o p n k e = go (ltb v (2 ^ w)) (j h (digits w v)) o (n h (digits w v)) k e
+no-zero-field w j h at v o p n k e = go (ltb v (2 ^ w)) (j h (digits w v)) o (n .0 h (digits w v)) k e
   where
     go : (t : Bool) (x : Fault) (o : Out (List Bool)) → ((i : ℕ) → x ≡ bad 0 i → ⊥) → (o ≡ refused 0 p → ⊥)
         → check (orBad t 4) at (check x at (also (digits w v ++_) o)) ≡ refused 0 p → ⊥
@@ -117,7 +138,7 @@ no-zero-message l vs p j c e = go (l .kind vs) (write (l .fmt) [] 0 vs) (λ x. n
 read-zero-field : (w : ℕ) (j : Judge) (h : List ℕ) (at : ℕ) (b : List Bool) (next : ℕ → List Bool → Out (List ℕ)) (p : ℕ) → Numbered j
     → ((v : ℕ) (r : List Bool) → next v r ≡ refused 0 p → ⊥) → readField w j h at b next ≡ refused 0 p → ⊥
 unfolding readField
-read-zero-field w j h at b next p n k e = go (j h (take w b)) (leb w (length b)) (next (valueOf (take w b)) (drop w b)) (n h (take w b)) (k (valueOf (take w b)) (drop w b)) e
+read-zero-field w j h at b next p n k e = go (j h (take w b)) (leb w (length b)) (next (valueOf (take w b)) (drop w b)) (n .0 h (take w b)) (k (valueOf (take w b)) (drop w b)) e
   where
     go : (x : Fault) (t : Bool) (o : Out (List ℕ)) → ((i : ℕ) → x ≡ bad 0 i → ⊥) → (o ≡ refused 0 p → ⊥)
         → check x at (check (orBad t 1) at (also (valueOf (take w b) ∷_) o)) ≡ refused 0 p → ⊥

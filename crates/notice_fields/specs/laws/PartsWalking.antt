@@ -161,10 +161,10 @@ module _ (s : List ℕ) (r : Walk) (n d most : ℕ) {there : Bool} {q : Walk} (i
 -- ---- their refusals are numbers of the paper
 
 angle-numbered : (d most : ℕ) → Numbered (walk (angle d most) 0)
-angle-numbered d most = walk-numbered (angle d most) 0 ((λ z. omega arith), ((λ z. omega arith), ((λ z. omega arith), ((λ z. omega arith), tt))))
+angle-numbered d most = walk-numbered (angle d most) ((λ z. omega arith), ((λ z. omega arith), ((λ z. omega arith), ((λ z. omega arith), tt))))
 
 pub time-numbered : Numbered (walk moment 0)
-time-numbered = walk-numbered moment 0 ((λ z. omega arith), ((λ z. omega arith), ((λ z. omega arith), ((λ z. omega arith), ((λ z. omega arith), tt)))))
+time-numbered = walk-numbered moment ((λ z. omega arith), ((λ z. omega arith), ((λ z. omega arith), ((λ z. omega arith), ((λ z. omega arith), tt)))))
 
 pub expiry-numbered : Numbered (orZero 21 (walk moment 0))
 expiry-numbered = zero-numbered 21 (walk moment 0) time-numbered
