@@ -178,7 +178,7 @@ module _ (i : ℕ) (s : List ℕ) (f : Course) (d : f ≡ courseOf i s) where
   pub walked-bad : (f .walk .code ≡ 0 → ⊥) → readMessage tides s ≡ refused (f .walk .code) (f .walk .offset)
   walked-bad n = x .walked .so ∙ stuck (f .walk) _ n
 
-  -- what reading tells is what the walk does: its number, and the first bit of the field at fault
+  -- What reading tells is what the walk does: its number, and the first bit of the field at fault. `courseOf` says what the whole walk is, field by field, and so where entries are passed at once too.
   pub walked-told : shown (f .walk .code) (f .walk .offset) ≡ told (readMessage tides s)
   walked-told = walked-refusal (x .walked)
 
