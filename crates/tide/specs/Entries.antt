@@ -41,7 +41,7 @@ passed s (suc m) r = record {
   width = r .width;
 }
 
--- some of n entries are passed: what is left to do behind them is what there was to do, and a refused one ends the walk
+-- Some of n entries are passed: what is left to do behind them is what there was to do, and a refused one ends the walk. Both sides are whole walks, code and offset included: so `records::walk` promises the walk field by field (`recordsWalked`), and what is told of a refusal has the same number and bit by the quick way as by the slow one (`walked-told`).
 abbrev pub Passes : List ℕ → ℕ → Walk → Run → Type 0
 Passes s n r x = (1 ≤ x .count) × (x .count ≤ n)
     × ((next : Walk → Walk) → repeatWalked n (entryStep s) next r ≡ cond (eqb (x .walk .code) 0) (repeatWalked (n - x .count) (entryStep s) next (x .walk)) (x .walk))

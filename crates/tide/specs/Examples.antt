@@ -1,20 +1,29 @@
--- Tide telegrams, their bits laid down by hand from document 000, 5.4.2 and tables 6, 8 and B.1: read as the record and the numbers that the tables say, written back as the same bytes, their heights, the longest ones, corrections, and refusals that this telegram alone has.
-use Prim.Native.Nat.{ℕ, zero, suc, _+_, _*_}
+-- Tide telegrams, their bits laid down by hand from document 000, 5.4.2 and tables 6, 8 and B.1: read as the record and the numbers that the tables say, written back as the same bytes, their heights, the longest ones, corrections, refusals that this telegram alone has, and what a caller is told of refusals, number and bit.
+use Prim.Native.Nat.{ℕ, zero, suc, _+_, _*_, _^_}
 use mathlib.Core.Path.{_≡_, refl}
+use mathlib.Core.Bool.{cond}
 use mathlib.Core.List.{List, [], _∷_, _++_}
-use lib.IntN.{pos, negℤ}
+use lib.IntN.{ℤ, pos, negℤ}
 use lib.ListN.{take, length, set}
 use Rattle.bits.specs.Bits.{bit, valueOf, digits, bitsOf, bytesOf, fieldAt}
 use Rattle.format.specs.Codes.{codes, there, headed}
 use Rattle.format.specs.Fmt.{accepted, refused, also, after, readField, read, writeField, sized, write, spot}
 use Rattle.format.specs.Groups.{repeat, repeatOf, repeatTold}
-use Rattle.format.specs.Message.{readMessage, writeMessage, correctMessage}
+use Rattle.format.specs.Message.{told, into, readMessage, writeMessage, correctMessage}
 use Rattle.format.specs.Promises.{readRecord}
 use Rattle.format.specs.Words.{walk, wide}
+use Rattle.format.specs.declared.Refusal.{Refusal}
 use Rattle.tide.specs.Heights.{heightsOf}
+use Rattle.tide.specs.HeightsPromises.{counted, answerOf as heightsAnswer}
 use Rattle.tide.specs.Limits.{mostNumbers, mostHeights}
+use Rattle.tide.specs.Promises.{housed, answerOf}
 use Rattle.tide.specs.Record.{Whole, valuesOf, recordOf}
 use Rattle.tide.specs.Tide.{placed, tides}
+use Rattle.tide.specs.WritingPromises.{enough}
+use Rattle.tide.specs.declared.heights.Answer.{Answer as HeightsAnswer}
+use Rattle.tide.specs.declared.heights.Answer.the-variants.{Refused as HeightsRefused}
+use Rattle.tide.specs.declared.reading.Answer.{Answer}
+use Rattle.tide.specs.declared.reading.Answer.the-variants.{Refused}
 
 -- table 6: next year or this, month, day, hour, minute
 abbrev at : (year month day hour minute : ℕ) → ℕ
@@ -148,3 +157,59 @@ refusals : (readMessage tides (set observedBytes 1 0x30) ≡ refused 2 0) × (re
     × (readMessage tides (set observedBytes 8 0xED) ≡ refused 5 70) × (readMessage tides (observedBytes ++ (0 ∷ [])) ≡ refused 1 72)
 unfolding readMessage tides headed codes there placed read readField walk wide repeat valueOf bit digits bitsOf bytesOf fieldAt
 refusals = (refl, refl, refl, refl, refl, refl, refl)
+
+-- ---- what a caller is told of a refusal (paper 02, C-12): its number and the first bit of the field at fault, counted in the tables.
+-- Type 0, version 8, class 11, count of records 12, and the first record from 21 on. With a port: position type 21, port 22, mark 28, count 29;
+-- its entry: next year 38, month 39, day 43, hour 48, minute 53, sign 59, value 60; the fill 70. With a point: position type 21, north or south 22,
+-- degrees 23, longitude 43, mark 65, count 66, the first entry 75, the second 107 with month 108, hour 117, sign 128 and value 129; the fill 139.
+
+abbrev at-bit : (code bit : ℕ) → Refusal
+at-bit code bit = record { code = code; bit = bit }
+
+-- what the calls promise to answer: reading into a row of so many numbers, writing into so many zero bytes, correcting, heights
+abbrev readInto : ℕ → List ℕ → Answer
+readInto room s = answerOf (housed room (readRecord tides recordOf s))
+
+abbrev wroteInto : ℕ → Whole → Refusal
+wroteInto room x = told (into (cond (enough (x .0) (x .1)) (times room (0 ∷ [])) []) (writeMessage tides (valuesOf x)))
+
+abbrev correctedTo : (i v : ℕ) → List ℕ → Refusal
+correctedTo i v s = told (correctMessage tides s i v)
+
+abbrev heightsInto : List ℤ → List ℕ → HeightsAnswer
+heightsInto row s = heightsAnswer (counted s row)
+
+-- no records; no entries; a month 0 and 13; a day 0; an hour 24; a minute 60; minus nothing; a fill bit that is not its first; a byte left over
+fields-told : (readInto 7 (set observedBytes 2 0x00) ≡ Refused (at-bit 4 12)) × (readInto 7 (set observedBytes 4 0x01) ≡ Refused (at-bit 4 29))
+    × (readInto 7 (set (set observedBytes 4 0x04) 5 0x10) ≡ Refused (at-bit 4 39)) × (readInto 7 (set observedBytes 5 0xB0) ≡ Refused (at-bit 4 39))
+    × (readInto 7 (set observedBytes 5 0x60) ≡ Refused (at-bit 4 43)) × (readInto 7 (set observedBytes 6 0xC3) ≡ Refused (at-bit 4 48))
+    × (readInto 7 (set (set observedBytes 6 0x77) 7 0x92) ≡ Refused (at-bit 4 53)) × (readInto 7 (set (set observedBytes 7 0xC0) 8 0x00) ≡ Refused (at-bit 4 60))
+    × (readInto 7 (set observedBytes 8 0xED) ≡ Refused (at-bit 5 70)) × (readInto 7 (observedBytes ++ (0 ∷ [])) ≡ Refused (at-bit 1 72))
+unfolding readMessage tides headed codes there placed read readField walk wide repeat recordOf valueOf bit digits bitsOf bytesOf fieldAt
+fields-told = (refl, refl, refl, refl, refl, refl, refl, refl, refl, refl)
+
+-- of the point: 91 degrees; a month 0 behind an entry that is good; cut in the second value, before its sign, and in the hour before that
+point-told : (readInto 11 (set (set forecastBytes 2 0x0D) 3 0x6C) ≡ Refused (at-bit 4 23)) × (readInto 11 (set forecastBytes 13 0x90) ≡ Refused (at-bit 4 108))
+    × (readInto 11 (take 17 forecastBytes) ≡ Refused (at-bit 1 129)) × (readInto 11 (take 16 forecastBytes) ≡ Refused (at-bit 1 128)) × (readInto 11 (take 15 forecastBytes) ≡ Refused (at-bit 1 117))
+unfolding readMessage tides headed codes there placed read readField walk wide repeat recordOf valueOf bit digits bitsOf bytesOf fieldAt
+point-told = (refl, refl, refl, refl, refl)
+
+-- no field gave these: version 2; class 1; 8 bytes; no room in the row. The heights have reading's, and their own want of room
+bare-told : (readInto 7 (set observedBytes 1 0x40) ≡ Refused (at-bit 2 0)) × (readInto 7 (set observedBytes 1 0x30) ≡ Refused (at-bit 2 0)) × (readInto 7 (take 8 observedBytes) ≡ Refused (at-bit 1 0))
+    × (readInto 6 observedBytes ≡ Refused (at-bit 6 0)) × (heightsInto (pos 0 ∷ []) (set (set observedBytes 7 0xC0) 8 0x00) ≡ HeightsRefused (at-bit 4 60)) × (heightsInto [] observedBytes ≡ HeightsRefused (at-bit 6 0))
+unfolding readMessage tides headed codes there placed read readField walk wide repeat recordOf valueOf bit digits bitsOf bytesOf fieldAt repeatOf repeatTold
+bare-told = (refl, refl, refl, refl, refl, refl)
+
+-- written: no records and 512; 512 entries; a time of more than 21 bits, at its first; a month 13; a sign 2; a value 1,024; minus nothing; a buffer and a row that are too short
+write-told : (wroteInto 9 (record { count = 0 }, observed .1) ≡ at-bit 4 12) × (wroteInto 9 (record { count = 512 }, observed .1) ≡ at-bit 4 12) × (wroteInto 9 (record { count = 1 }, set (observed .1) 3 512) ≡ at-bit 4 29)
+    × (wroteInto 9 (record { count = 1 }, set (observed .1) 4 (2 ^ 21)) ≡ at-bit 4 38) × (wroteInto 9 (record { count = 1 }, set (observed .1) 4 (at 0 13 16 14 30)) ≡ at-bit 4 39)
+    × (wroteInto 9 (record { count = 1 }, set (observed .1) 5 2) ≡ at-bit 4 59) × (wroteInto 9 (record { count = 1 }, set (observed .1) 6 1_024) ≡ at-bit 4 60) × (wroteInto 9 (record { count = 1 }, set (set (observed .1) 5 0) 6 0) ≡ at-bit 4 60)
+    × (wroteInto 8 observed ≡ at-bit 6 0) × (wroteInto 9 (record { count = 1 }, take 6 (observed .1)) ≡ at-bit 6 0)
+unfolding times writeMessage tides headed codes placed write writeField sized walk wide repeat repeatOf repeatTold valuesOf valueOf bit digits bitsOf bytesOf
+write-told = (refl, refl, refl, refl, refl, refl, refl, refl, refl, refl)
+
+-- corrected: the sign of a level of 0 made minus, at the value, which is not what was corrected; a value too wide, at its own; a time's month 13, and a time too wide; the count, which may not be; a telegram that is refused itself
+correct-told : (correctedTo 9 0 (set (set observedBytes 7 0xD0) 8 0x00) ≡ at-bit 4 60) × (correctedTo 10 1_024 observedBytes ≡ at-bit 4 60) × (correctedTo 8 (at 0 13 16 14 30) observedBytes ≡ at-bit 4 39)
+    × (correctedTo 8 (2 ^ 21) observedBytes ≡ at-bit 4 38) × (correctedTo 7 2 observedBytes ≡ at-bit 10 0) × (correctedTo 5 15 (set observedBytes 2 0x00) ≡ at-bit 4 12)
+unfolding correctMessage readMessage writeMessage tides headed codes there placed read readField write writeField sized spot walk wide repeat valueOf bit digits bitsOf bytesOf fieldAt
+correct-told = (refl, refl, refl, refl, refl, refl)

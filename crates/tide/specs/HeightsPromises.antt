@@ -4,9 +4,9 @@ use mathlib.Core.Path.{_≡_}
 use mathlib.Core.List.{List, []}
 use lib.IntN.{ℤ}
 use lib.ListN.{length}
-use Rattle.format.specs.Fmt.{Out, accepted, refused, also}
+use Rattle.format.specs.Fmt.{Out, accepted, also}
 use Rattle.format.specs.Message.{leaves, into}
-use Rattle.format.specs.Promises.{answered, readRecord}
+use Rattle.format.specs.Promises.{answered, refusedBy, readRecord}
 use Rattle.tide.specs.Heights.{heightsOf}
 use Rattle.tide.specs.Record.{Whole, recordOf}
 use Rattle.tide.specs.Tide.{tides}
@@ -29,12 +29,13 @@ shown s row = into row (heightsRead s)
 abbrev pub counted : List ℕ → List ℤ → Out ℕ
 counted s row = also (λ t. length (leaves (heightsRead s) [])) (shown s row)
 
+-- the call's own type of answer: how many, or the refusal as it is told; and taken apart
 abbrev pub answerOf : Out ℕ → Answer
 answerOf = answered Good Refused
 
 abbrev pub outOf : Answer → Out ℕ
 outOf (Good n) = accepted n
-outOf (Refused c) = refused c 0
+outOf (Refused c) = refusedBy c
 
 -- the answer, and the row t that is left
 abbrev pub Shows : List ℕ → List ℤ → Answer → List ℤ → Type 0

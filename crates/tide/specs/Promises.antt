@@ -7,6 +7,8 @@ use lib.ListN.{length}
 use Rattle.format.specs.Fmt.{Out}
 use Rattle.format.specs.Message.{ahead}
 use Rattle.format.specs.Promises.{answered, readRecord, tested}
+use Rattle.format.specs.Refusals.{bare}
+use Rattle.format.specs.declared.Refusal.{Refusal}
 use Rattle.tide.specs.Record.{Whole, recordOf}
 use Rattle.tide.specs.Tide.{tides}
 use Rattle.tide.specs.declared.reading.Told.{Told}
@@ -21,13 +23,13 @@ housed room = tested (λ x. leb (length (x .1)) room)
 abbrev pub toldOf : Whole → Told
 toldOf x = record { tide = x .0; numbers = length (x .1) }
 
--- the paper's number and values
+-- the paper's refusals and values
 abbrev pub answerOf : Out Whole → Answer
 answerOf = answered (λ x. Good (toldOf x)) Refused
 
-abbrev pub numberOf : Answer → ℕ
-numberOf (Good r) = 0
-numberOf (Refused c) = c
+abbrev pub refusalOf : Answer → Refusal
+refusalOf (Good r) = bare 0
+refusalOf (Refused c) = c
 
 -- the answer, and what is left of the row
 abbrev pub Reads : List ℕ → List ℕ → Answer → List ℕ → Type 0

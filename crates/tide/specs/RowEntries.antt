@@ -20,7 +20,7 @@ GoodEntries row n k = (j : ℕ) → j < n → let i = k + j * 3 in GoodEntry (ge
 abbrev pub quiet : (at offset v spot width : ℕ) → Walk
 quiet at offset v spot width = record { at = at; code = 0; offset = offset; v = v; seek = false; left = 0; spot = spot; width = width }
 
--- such a walk may pass n entries at once
+-- Such a walk may pass n entries at once. What it is then is promised as a whole walk, that of judging them one by one (`entriesJudged`, by `pass-quiet`), its offset included: a refusal behind them has the same number and bit.
 pub record Passes (row : List ℕ) (n k : ℕ) (w : Walk) : Type 0 where
   pub is : w ≡ quiet (w .at) (w .offset) (w .v) (w .spot) (w .width)
   pub near : w .at < 2 ^ 32

@@ -6,6 +6,7 @@ use lib.Dec.{leb}
 use lib.ListN.{length}
 use Rattle.format.specs.Message.{writeMessage}
 use Rattle.format.specs.Promises.{Lays}
+use Rattle.format.specs.declared.Refusal.{Refusal}
 use Rattle.tide.specs.Record.{valuesOf}
 use Rattle.tide.specs.Row.{recordsLong}
 use Rattle.tide.specs.Tide.{tides}
@@ -15,5 +16,5 @@ use Rattle.tide.specs.declared.reading.Tide.{Tide}
 abbrev pub enough : Tide → List ℕ → Bool
 enough r row = leb (recordsLong (r .count) row) (length row)
 
-abbrev pub TideWrites : List ℕ → Tide → List ℕ → ℕ → List ℕ → Type 0
+abbrev pub TideWrites : List ℕ → Tide → List ℕ → Refusal → List ℕ → Type 0
 TideWrites s r row = Lays (enough r row) (writeMessage tides (valuesOf (r, row))) s

@@ -8,11 +8,12 @@ ghost use Rattle.tide.specs.HeightsPromises.{Shows};
 ghost use Rattle.tide.specs.Standing.{front};
 use crate::entries::BYTES;
 use crate::reading::Tide;
+use format::Refusal;
 
 // How many heights, or the refusal.
 pub enum Answer {
     Good(usize),
-    Refused(u8),
+    Refused(Refusal),
 }
 
 // The heights of a telegram into the front of the row: one for each entry, all records in the telegram's order.
@@ -23,13 +24,13 @@ pub fn heights(s: &[u8], row: &mut [i32]) -> Answer
     let walk = f.walk;
     let code = walk.code;
     if code != 0 {
-        return Answer::Refused(code);
+        return Answer::Refused(walk.refusal());
     }
     let tide = f.tide;
     let extent = crate::row::measure(s, tide.count);
     let entries = extent.entries;
     if row.len() < entries {
-        return Answer::Refused(format::ROOM);
+        return Answer::Refused(Refusal::ROOM);
     }
     show(s, tide.count, row);
     Answer::Good(entries)

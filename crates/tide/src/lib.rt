@@ -6,7 +6,6 @@ pub use crate::reading::Answer;
 pub use crate::reading::Tide;
 pub use crate::reading::Told;
 pub use crate::reading::read;
-pub use crate::reading::refusal;
 pub use crate::writing::write;
 
 pub mod correcting;

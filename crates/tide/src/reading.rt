@@ -1,9 +1,8 @@
 // The tide telegram (paper 02, C-11; 000, 5.4): reading it.
 ghost use mathlib.Core.Path.{_≡_};
 ghost use Prim.Native.Nat.{_^_, _<_};
-ghost use Rattle.format.specs.Message.{told, readMessage};
 ghost use Rattle.tide.specs.Tide.{tides};
-ghost use Rattle.tide.specs.Promises.{Reads, refusalOf};
+ghost use Rattle.tide.specs.Promises.{Reads};
 ghost use Rattle.tide.specs.Steps.{headRead, unreadBy, behind, courseOf};
 use crate::records::MOST;
 use format::Refusal;
@@ -24,18 +23,6 @@ pub struct Told {
 pub enum Answer {
     Good(Told),
     Refused(Refusal),
-}
-
-impl Answer {
-    // Its refusal: none for a good one.
-    pub fn refusal(self) -> Refusal
-        ensures { λ r. ⌜ r ≡ refusalOf self ⌝ }
-    {
-        match self {
-            Answer::Good(_) => Refusal::NONE,
-            Answer::Refused(refusal) => refusal,
-        }
-    }
 }
 
 impl Tide {
@@ -77,15 +64,6 @@ pub fn read(s: &[u8], row: &mut [u32]) -> Answer
         return Answer::Refused(Refusal::ROOM);
     }
     Answer::Good(Told { tide, numbers })
-}
-
-// What reading a telegram answers, where room is enough: its refusal, or none.
-pub fn refusal(s: &[u8]) -> Refusal
-    ensures { λ r. ⌜ r ≡ told (readMessage tides (now (s .entry))) ⌝ }
-{
-    let course = fields(s, 0);
-    let walk = course.walk;
-    walk.refusal()
 }
 
 // The first tests, then the fields in bit order; on the way, field number `want` is found. What the first tests refuse is not walked.

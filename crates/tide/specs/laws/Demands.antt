@@ -13,6 +13,7 @@ use Rattle.format.specs.Fmt.{Out, accepted, refused, check, orBad, end, none, f
 use Rattle.format.specs.Groups.{repeat}
 use Rattle.format.specs.Message.{ahead}
 use Rattle.format.specs.Promises.{answered, readRecord}
+use Rattle.format.specs.declared.Refusal.{Refusal}
 use Rattle.format.specs.laws.Correct.{none-clash, later-inv}
 use Rattle.format.specs.laws.Family.{Family}
 use Rattle.format.specs.laws.Groups.{told-exact, told-again}
@@ -168,7 +169,7 @@ wholeOf a row = (a .tide, take (a .numbers) row)
 pub good : (s row : List ℕ) (a : Told) (row′ : List ℕ) → Reads s row (Good a) row′ → readRecord tides recordOf s ≡ accepted (wholeOf a row′)
 good s row a row′ (x, y) = go (readRecord tides recordOf s) x y
   where
-    clash : {X : Type 0} {c : ℕ} → Good a ≡ Refused c → X
+    clash : {X : Type 0} {c : Refusal} → Good a ≡ Refused c → X
     clash e = let z : _≡_ {A = ℕ} 0 1 = cc in absurd (omega arith)
 
     fits : (q : Whole) → Good a ≡ Good (toldOf q) → row′ ≡ ahead (q .1) row → q ≡ wholeOf a row′

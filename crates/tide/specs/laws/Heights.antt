@@ -16,6 +16,7 @@ use mir.ValLaws.{toZ-pos, toZ-ofZ}
 use Rattle.bits.specs.Answers.{got}
 use Rattle.format.specs.Fmt.{accepted, refused}
 use Rattle.format.specs.Promises.{readRecord}
+use Rattle.format.specs.Refusals.{shown, bare}
 use Rattle.walk.specs.laws.Stored.{sum-long, even-long, even-end, even-stands, told-stands, stored-turn}
 use Rattle.tide.specs.Heights.{heightOf, entryOf, entriesOf, recordHeights, heightsOf, entryShown, entriesShown, recordShown, heightsAt}
 use Rattle.tide.specs.HeightsPromises.{heightsIn, Shows}
@@ -70,14 +71,14 @@ module _ (s : List ℕ) where
 -- ---- the ways in which the call answers
 
 module _ (s : List ℕ) (row : List ℤ) where
-  pub shows-refused : {c p : ℕ} → readRecord tides recordOf s ≡ refused c p → Shows s row (Refused c) row
+  pub shows-refused : {c p : ℕ} → readRecord tides recordOf s ≡ refused c p → Shows s row (Refused (shown c p)) row
   shows-refused e = rw e (refl, refl)
 
   module _ {x : Whole} (e : readRecord tides recordOf s ≡ accepted x) where
     abbrev zs : List ℤ
     zs = heightsIn x
 
-    pub shows-short : length row < length zs → Shows s row (Refused 6) row
+    pub shows-short : length row < length zs → Shows s row (Refused (bare 6)) row
     shows-short l = rw (e, lt-leb (length zs) (length row) l) (refl, refl)
 
     pub shows-good : length zs ≤ length row → Shows s row (Good (length zs)) (sets row 0 zs)

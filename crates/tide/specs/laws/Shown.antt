@@ -10,8 +10,9 @@ use lib.ListN.{length}
 use borrow.Author.Tests.{eq-eqb}
 use Rattle.bits.specs.Answers.{got}
 use Rattle.format.specs.Fmt.{Out, accepted, refused, check, orBad, also}
-use Rattle.format.specs.Message.{codeOf, leaves, into, ahead, readMessage}
+use Rattle.format.specs.Message.{told, leaves, into, ahead, readMessage}
 use Rattle.format.specs.Promises.{readRecord}
+use Rattle.format.specs.declared.Refusal.{Refusal}
 use Rattle.format.specs.laws.Lead.{read-led}
 use Rattle.format.specs.laws.Round.{also-inv, accepted-inj}
 use Rattle.walk.specs.Walk.{onward}
@@ -23,7 +24,7 @@ use Rattle.tide.specs.Steps.{headRead, unreadBy, behind, courseOf}
 use Rattle.tide.specs.Tide.{tides}
 use Rattle.tide.specs.declared.heights.Answer.the-variants.{Good}
 use Rattle.tide.specs.laws.Heights.{heights-stand}
-use Rattle.tide.specs.laws.Told.{walked-good, walked-code}
+use Rattle.tide.specs.laws.Told.{walked-good, walked-told}
 
 count-stands : (s : List ℕ) → tides .lead s ≡ 0 → courseOf 0 s .tide .count ≡ got s 12 9
 unfolding courseOf onward
@@ -33,9 +34,9 @@ count-stands s z = ap (λ b. cond b (behind s (headRead 0 s)) (unreadBy (tides .
 pub read-stands : (s : List ℕ) (x : Whole) → readRecord tides recordOf s ≡ accepted x → let n = got s 12 9 in x ≡ (record { count = n }, recordsAt s n front)
 read-stands s x e =
     let (vs, m, k) = also-inv recordOf (readMessage tides s) e in
-    let zero : codeOf (readMessage tides s) ≡ 0 = ap codeOf m in
+    let zero : told (readMessage tides s) .code ≡ 0 = ap (λ o. told o .code) m in
     let f = courseOf 0 s in
-    let good = walked-good 0 s f refl (walked-code 0 s f refl ∙ zero) in
+    let good = walked-good 0 s f refl (ap (λ (r : Refusal). r .code) (walked-told 0 s f refl) ∙ zero) in
     let n : f .tide .count ≡ got s 12 9 = count-stands s (read-led tides s zero) in
     accepted-inj (sym e ∙ good) ∙ (λ i. (record { count = n i }, recordsAt s (n i) front))
 

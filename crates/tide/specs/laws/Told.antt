@@ -12,8 +12,10 @@ use borrow.Author.Tests.{le-leb, lt-leb, leb-true, ne-eqb, eqb-true, eqb-false}
 use Rattle.format.specs.Codes.{codes, there, headed}
 use Rattle.format.specs.Correcting.{standing}
 use Rattle.format.specs.Fmt.{Out, accepted, refused, check, also, Fmt, spot, end}
-use Rattle.format.specs.Message.{fault, codeOf, readMessage, ahead}
+use Rattle.format.specs.Message.{fault, told, readMessage, ahead}
 use Rattle.format.specs.Promises.{readRecord}
+use Rattle.format.specs.Refusals.{shown, bare}
+use Rattle.format.specs.declared.Refusal.{Refusal}
 use Rattle.format.specs.Words.{_‥_}
 use Rattle.format.specs.laws.Lead.{read-first, held-back, read-led}
 use Rattle.format.specs.laws.Round.{accepted-inj}
@@ -35,18 +37,18 @@ use Rattle.tide.specs.declared.reading.Answer.the-variants.{Good, Refuse
 use Rattle.tide.specs.declared.reading.Course.{Course}
 use Rattle.tide.specs.laws.Walking.{records-along}
 
-pub told : (n : ℕ) (xs : List ℕ) → recordOf (leading n xs) ≡ (record { count = n }, xs)
+pub record-is : (n : ℕ) (xs : List ℕ) → recordOf (leading n xs) ≡ (record { count = n }, xs)
 unfolding recordOf
-told n xs = refl
+record-is n xs = refl
 
 -- ---- the ways in which reading answers
 
 module _ (s row : List ℕ) where
-  pub reads-refused : {c p : ℕ} → readRecord tides recordOf s ≡ refused c p → Reads s row (Refused c) row
+  pub reads-refused : {c p : ℕ} → readRecord tides recordOf s ≡ refused c p → Reads s row (Refused (shown c p)) row
   reads-refused e = rw e (refl, refl)
 
   module _ {x : Whole} (e : readRecord tides recordOf s ≡ accepted x) where
-    pub reads-few : length row < length (x .1) → Reads s row (Refused 6) row
+    pub reads-few : length row < length (x .1) → Reads s row (Refused (bare 6)) row
     reads-few l = rw (e, lt-leb (length (x .1)) (length row) l) (refl, refl)
 
     pub reads-good : length (x .1) ≤ length row → Reads s row (Good (toldOf x)) (ahead (x .1) row)
@@ -157,13 +159,13 @@ module _ (i : ℕ) (s : List ℕ) where
       go true t = fields-on (eqb-true (tides .lead s) 0 t)
       go false t = fields-not (eqb-false (tides .lead s) 0 t)
 
--- the code of a whole walk is that of its answer
-walked-number : {o : Out (List ℕ)} {all : Fmt} {i : ℕ} {vs : List ℕ} {r : Walk} → Walked o all i vs r → r .code ≡ codeOf o
-walked-number {o} {vs = vs} {r = r} x = go (eqb (r .code) 0) refl
+-- what a whole walk tells, number and bit, is what is told of its answer
+walked-refusal : {o : Out (List ℕ)} {all : Fmt} {i : ℕ} {vs : List ℕ} {r : Walk} → Walked o all i vs r → shown (r .code) (r .offset) ≡ told o
+walked-refusal {o} {vs = vs} {r = r} x = go (eqb (r .code) 0) refl
   where
-    go : (t : Bool) → eqb (r .code) 0 ≡ t → r .code ≡ codeOf o
-    go true t = let z = eqb-true (r .code) 0 t in z ∙ sym (ap codeOf (x .so ∙ clear r (accepted vs) z))
-    go false t = sym (ap codeOf (x .so ∙ stuck r (accepted vs) (eqb-false (r .code) 0 t)))
+    go : (t : Bool) → eqb (r .code) 0 ≡ t → shown (r .code) (r .offset) ≡ told o
+    go true t = let z = eqb-true (r .code) 0 t in ap (λ c. shown c (r .offset)) z ∙ sym (ap told (x .so ∙ clear r (accepted vs) z))
+    go false t = sym (ap told (x .so ∙ stuck r (accepted vs) (eqb-false (r .code) 0 t)))
 
 -- the walk over a whole telegram: its record, or the refusal
 module _ (i : ℕ) (s : List ℕ) (f : Course) (d : f ≡ courseOf i s) where
@@ -171,24 +173,24 @@ module _ (i : ℕ) (s : List ℕ) (f : Course) (d : f ≡ courseOf i s) where
   x = fields-are i s d
 
   pub walked-good : f .walk .code ≡ 0 → readRecord tides recordOf s ≡ accepted (f .tide, recordsAt s (f .tide .count) front)
-  walked-good k = ap (also recordOf) (x .walked .so ∙ clear (f .walk) _ k) ∙ ap accepted (told (f .tide .count) (recordsAt s (f .tide .count) front))
+  walked-good k = ap (also recordOf) (x .walked .so ∙ clear (f .walk) _ k) ∙ ap accepted (record-is (f .tide .count) (recordsAt s (f .tide .count) front))
 
   pub walked-bad : (f .walk .code ≡ 0 → ⊥) → readMessage tides s ≡ refused (f .walk .code) (f .walk .offset)
   walked-bad n = x .walked .so ∙ stuck (f .walk) _ n
 
-  -- the code of reading is the walk's
-  pub walked-code : f .walk .code ≡ codeOf (readMessage tides s)
-  walked-code = walked-number (x .walked)
+  -- What reading tells is what the walk does: its number, and the first bit of the field at fault. `courseOf` says what the whole walk is, field by field, and so where entries are passed at once too.
+  pub walked-told : shown (f .walk .code) (f .walk .offset) ≡ told (readMessage tides s)
+  walked-told = walked-refusal (x .walked)
 
   -- the field i of a telegram that was read stands where the walk found it
   pub stands : (vs : List ℕ) → readMessage tides s ≡ accepted vs → spot (tides .fmt) [] vs i ≡ standing (f .walk .spot) (f .walk .width)
   stands vs a =
-      let c : f .walk .code ≡ 0 = walked-code ∙ ap codeOf a in
+      let c : f .walk .code ≡ 0 = ap (λ (r : Refusal). r .code) (walked-told ∙ ap told a) in
       let same = accepted-inj (sym (x .walked .so ∙ clear (f .walk) _ c) ∙ a) in
       ap (λ vs. spot (tides .fmt) [] vs i) (sym same) ∙ x .walked .spots c
 
   -- of what was read, and of all that is as long, the fields' walk is the fields' answer
-  pub fields-again : f .walk .code ≡ 0 → (t : List ℕ) → length t ≡ length s → {g : Course} → g ≡ behind t (headRead 0 t) → g .walk .code ≡ codeOf (fieldsRead t)
+  pub fields-again : f .walk .code ≡ 0 → (t : List ℕ) → length t ≡ length s → {g : Course} → g ≡ behind t (headRead 0 t) → shown (g .walk .code) (g .walk .offset) ≡ told (fieldsRead t)
   fields-again z t e d =
-      let small : length s ≤ 210 = lead-small s (read-led tides s (sym walked-code ∙ z)) in
-      ap (λ (g : Course). g .walk .code) d ∙ walked-number (behind-walked 0 t (omega (arith, e, small)))
+      let small : length s ≤ 210 = lead-small s (read-led tides s (ap (λ (r : Refusal). r .code) (sym walked-told) ∙ z)) in
+      ap (λ (g : Course). shown (g .walk .code) (g .walk .offset)) d ∙ walked-refusal (behind-walked 0 t (omega (arith, e, small)))

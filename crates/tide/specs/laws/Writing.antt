@@ -8,6 +8,8 @@ use lib.ListN.{length}
 use Rattle.format.specs.Codes.{headed}
 use Rattle.format.specs.Fmt.{write}
 use Rattle.format.specs.Promises.{roomFor}
+use Rattle.format.specs.Refusals.{bare}
+use Rattle.format.specs.declared.Refusal.{Refusal}
 use Rattle.format.specs.laws.Putting.{Puts}
 use Rattle.walk.specs.Judging.{closing}
 use Rattle.walk.specs.laws.Judging.{Judging, Judged, judge-end}
@@ -55,16 +57,16 @@ module _ (r : Tide) (row : List ℕ) (w : Walk) (x : HeadJudged (r .count) w) wh
 
 -- ---- the size that is made, and room
 
-module _ (s : List ℕ) (r : Tide) (row : List ℕ) (st : Stepped) (x : TideJudged r row st) {room code : ℕ}
+module _ (s : List ℕ) (r : Tide) (row : List ℕ) (st : Stepped) (x : TideJudged r row st) {room : ℕ} {code : Refusal}
     (is : room ≡ roomFor (length row) (st .next) (length s)) (e : code ≡ closing false 9 210 room (st .walk)) where
   abbrev values : List ℕ
   values = valuesOf (r, row)
 
-  pub tide-refused : (code ≡ 0 → ⊥) → TideWrites s r row code s
+  pub tide-refused : (code .code ≡ 0 → ⊥) → TideWrites s r row code s
   unfolding tides headed
   tide-refused = row-refused tides values s (st .walk) (x .judged) refl (omega arith) (length row) (st .next) (recordsLong (r .count) row) (x .asked) is e
 
   -- what was put stands in front
-  pub tide-stands : {t : List ℕ} → code ≡ 0 → Puts (tides .fmt) values s t → TideWrites s r row 0 t
+  pub tide-stands : {t : List ℕ} → code .code ≡ 0 → Puts (tides .fmt) values s t → TideWrites s r row (bare 0) t
   unfolding tides headed
   tide-stands = row-stands tides values s (st .walk) (x .judged) refl (omega arith) (length row) (st .next) (recordsLong (r .count) row) (x .asked) is e

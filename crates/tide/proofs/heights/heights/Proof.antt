@@ -8,7 +8,7 @@ use Rattle.format.specs.Fmt.{also}
 use Rattle.tide.specs.Heights.{heightsOf}
 use Rattle.tide.specs.Record.{recordOf}
 use Rattle.tide.specs.Standing.{front, recordsAt}
-use Rattle.tide.specs.declared.heights.Answer.the-variants.{Good}
+use Rattle.tide.specs.declared.heights.Answer.the-variants.{Good, Refused}
 use Rattle.tide.specs.declared.row.Extent.{Extent}
 use Rattle.tide.specs.laws.Heights.{heights-stand, heights-long, shows-refused, shows-short, shows-good}
 use Rattle.tide.specs.laws.Told.{walked-good, walked-bad}
@@ -18,10 +18,12 @@ use Rattle.tide.proofs.heights.heights.Tie as tie
 
 returns : tie.Need-returns
 returns c =
-    let f = c .before .before in
+    let test = c .before in
+    let f = test .before .before in
     let a = f .before .before .args in
     let s = a .s .now in
-    shows-refused s (a .row .now) (ap (also recordOf) (walked-bad 0 s (f .fields .result) (f .fields .ensures) (c .if1 .taken)))
+    let is = shows-refused s (a .row .now) (ap (also recordOf) (walked-bad 0 s (f .fields .result) (f .fields .ensures) (test .if1 .taken))) in
+    (ap Refused (c .refusal .ensures) ∙ is .0, is .1)
 
 returns-2 : tie.Need-returns-2
 returns-2 c =
@@ -59,4 +61,4 @@ returns-3 c =
     (ap Good (entries ∙ heights-long s n front ∙ sym (ap length stand)) ∙ is .0, c .before .show .ensures ∙ ap (sets row 0) (sym stand) ∙ is .1)
 
 pub heights-spec : {M : Type 1} → statement M
-heights-spec = tie.close (tie.spec (λ c κs. search needs) returns (λ c κs. search needs) returns-2 show-requires (λ c. search needs) returns-3)
+heights-spec = tie.close (tie.spec (λ c κs. search needs) (λ c κs. search needs) returns (λ c κs. search needs) returns-2 show-requires (λ c. search needs) returns-3)

@@ -6,7 +6,7 @@ use lib.ListN.{length}
 use Rattle.format.specs.Fmt.{also}
 use Rattle.tide.specs.Record.{recordOf}
 use Rattle.tide.specs.Standing.{front, recordsAt}
-use Rattle.tide.specs.declared.reading.Answer.the-variants.{Good}
+use Rattle.tide.specs.declared.reading.Answer.the-variants.{Good, Refused}
 use Rattle.tide.specs.laws.Told.{reads-refused, reads-few, reads-good, stored, kept-row, walked-good, walked-bad}
 use borrow.Author.Needs.{needs}
 use Rattle.tide.proofs.reading.read.Statement.{statement}
@@ -14,12 +14,12 @@ use Rattle.tide.proofs.reading.read.Tie as tie
 
 returns : tie.Need-returns
 returns c =
-    let f = c .before .before in
+    let test = c .before in
+    let f = test .before .before in
     let a = f .before .before .before .args in
     let s = a .s .now in
-    let row = a .row .now in
-    let r = f .fields .result in
-    reads-refused s row (ap (also recordOf) (walked-bad 0 s r (f .fields .ensures) (c .if1 .taken)))
+    let is = reads-refused s (a .row .now) (ap (also recordOf) (walked-bad 0 s (f .fields .result) (f .fields .ensures) (test .if1 .taken))) in
+    (ap Refused (c .refusal .ensures) ∙ is .0, is .1)
 
 returns-2 : tie.Need-returns-2
 returns-2 c =
@@ -52,4 +52,4 @@ returns-3 c =
     (ap (λ n. Good (record { tide = r .tide; numbers = n })) (x .0) ∙ is .0, x .1 ∙ stored row xs enough ∙ is .1)
 
 pub read-spec : {M : Type 1} → statement M
-read-spec = tie.close (tie.spec (λ c κs. search needs) returns (λ c κs. search needs) (λ c. search needs) returns-2 (λ c. search needs) returns-3)
+read-spec = tie.close (tie.spec (λ c κs. search needs) (λ c κs. search needs) returns (λ c κs. search needs) (λ c. search needs) returns-2 (λ c. search needs) returns-3)
