@@ -2,13 +2,13 @@
 use mathlib.Core.Path.{_≡_, refl, ap, _∙_, subst⁻¹}
 use mathlib.Core.Bool.{Bool, true, false, cond, _&&_}
 use mathlib.Core.List.{List, _∷_}
-use Prim.Native.Nat.{ℕ, suc, _+_, _*_, _/_, _%_, _<_, _^_}
+use Prim.Native.Nat.{ℕ, suc, _+_, _*_, _/_, _%_, _≤_, _<_, _^_}
 use native.Mathlib.Omega.{arith}
 use lib.Dec.{leb, lit<, lit≤}
 use lib.ListN.{length}
 use Rattle.bits.specs.Answers.{within, got}
 use Rattle.format.specs.Correcting.{putIn}
-use Rattle.format.specs.Fmt.{Out, bad, Fmt}
+use Rattle.format.specs.Fmt.{Out, Fault, bad, Fmt}
 use Rattle.walk.specs.Walk.{onward}
 use Rattle.format.specs.Words.{_‥_, only}
 use Rattle.format.specs.laws.Extent.{opens-field}
@@ -110,11 +110,14 @@ receipt-put {t = t} {at = at} {x = x} k e d =
 -- ---- its refusals are numbers of the paper
 
 slot-numbered : (k back most : ℕ) → Numbered (λ h b. cond (counted k back h) (only 8 4 (0 ‥ most) h b) (only 8 5 (0 ‥ 0) h b))
-slot-numbered k back most h b i = go (counted k back h)
+slot-numbered k back most = (
+  λ h b i. by (λ f. f ≡ bad 0 i → ⊥) (counted k back h) (only-numbered 8 3 (0 ‥ most) .0 h b i) (only-numbered 8 4 (0 ‥ 0) .0 h b i),
+  λ h b c i. by (λ f. f ≡ bad c i → i ≤ length b) (counted k back h) (only-numbered 8 3 (0 ‥ most) .1 h b c i) (only-numbered 8 4 (0 ‥ 0) .1 h b c i),
+)
   where
-    go : (x : Bool) → cond x (only 8 4 (0 ‥ most) h b) (only 8 5 (0 ‥ 0) h b) ≡ bad 0 i → ⊥
-    go true = only-numbered 8 3 (0 ‥ most) h b i
-    go false = only-numbered 8 4 (0 ‥ 0) h b i
+    by : (P : Fault → Type 0) (x : Bool) {f g : Fault} → P f → P g → P (cond x f g)
+    by P true m n = m
+    by P false m n = n
 
 pub receipt-numbered : (k : ℕ) (f : Fmt) → Judged f → Judged (receipt k f)
 receipt-numbered k f j = (slot-numbered k (4 * k) 23, (slot-numbered k (4 * k + 1) 59, (slot-numbered k (4 * k + 2) 23, (slot-numbered k (4 * k + 3) 59, j))))
