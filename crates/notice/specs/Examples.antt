@@ -1,4 +1,4 @@
--- A notice with an area of each kind, its bits laid down by hand from document 000, 5.2.2.3 and tables 1 to 9: read as the record, the numbers and the text that the tables say, written back as the same bytes, and corrected.
+-- A notice with an area of each kind, its bits laid down by hand from document 000, 5.2.2.3 and tables 1 to 9: read as the record, the numbers and the text that the tables say, written back as the same bytes, and corrected; and at which bit it is refused with one field spoiled, by the bits that the picture in docs/ARCHITECTURE.md has.
 use mathlib.Core.Path.{_≡_, refl}
 use mathlib.Core.Bool.{true}
 use mathlib.Core.List.{List, [], _∷_, _++_}
@@ -6,7 +6,7 @@ use Prim.Native.Nat.{ℕ, _+_, _*_}
 use lib.ListN.{set}
 use Rattle.bits.specs.Bits.{bit, valueOf, digits, bitsOf, bytesOf}
 use Rattle.format.specs.Fmt.{accepted, refused, readField, read, writeField, sized, write, spot}
-use Rattle.format.specs.Message.{readMessage, writeMessage, correctMessage}
+use Rattle.format.specs.Message.{told, readMessage, writeMessage, correctMessage}
 use Rattle.format.specs.Promises.{readRecord}
 use Rattle.format.specs.Words.{walk, wide, orZero}
 use Rattle.format.specs.Groups.{repeat, repeatOf, repeatTold}
@@ -89,3 +89,46 @@ longitude-corrected = refl
 kind-kept : (correctMessage (notices true) message 20 3 ≡ refused 10 0) × (correctMessage (notices true) message 26 3 ≡ refused 10 0)
 unfolding correctMessage readMessage writeMessage notices notice read readField write writeField sized spot walk wide orZero subtypes subtype repeat inLanguage english valueOf bit digits bitsOf bytesOf
 kind-kept = (refl, refl)
+
+-- ---- where it is refused
+
+-- The head: a source of 0, at bit 0; a station of 0, at 5; month 13 in the expiry, behind the bit of next year at 38.
+head-refused :
+    (told (readMessage (notices true) (set message 0 0x01)) ≡ record { code = 4; bit = 0 })
+    × (told (readMessage (notices true) (set message 0 0x68)) ≡ record { code = 4; bit = 5 })
+    × (told (readMessage (notices true) (set (set message 4 0x2F) 5 0xBB)) ≡ record { code = 4; bit = 39 })
+unfolding readMessage notices notice read readField walk orZero subtypes subtype valueOf bit digits bitsOf
+head-refused = (refl, refl, refl)
+
+-- The first area, at bit 63: its kind is 5.
+kind-refused : told (readMessage (notices true) (set (set message 7 0x8B) 8 0x67)) ≡ record { code = 4; bit = 63 }
+unfolding readMessage notices notice read readField walk orZero subtypes subtype repeat valueOf bit digits bitsOf
+kind-refused = refl
+
+-- One area, a point at N 31°61.57' E 121°30.84': kind at 63, how many at 66, south at 70, degrees at 71, minutes at 78.
+minutes-refused : told (readMessage (notices true) (0x69 ∷ 0x21 ∷ 0xC2 ∷ 0x69 ∷ 0x2E ∷ 0x7B ∷ 0x76 ∷ 0x82 ∷ 0x44 ∷ 0x7F ∷ 0xD7 ∷ 0x27 ∷ 0x97 ∷ 0xAA ∷ 0x25 ∷ 0x80 ∷ [])) ≡ record { code = 4; bit = 78 }
+unfolding readMessage notices notice read readField walk wide orZero subtypes subtype repeat valueOf bit digits bitsOf
+minutes-refused = refl
+
+-- A text is refused at its first bit, whichever byte of it is bad: no area and the text `AB` with a line feed behind it, at 63;
+text-refused : told (readMessage (notices true) (0x69 ∷ 0x21 ∷ 0xC2 ∷ 0x69 ∷ 0x2E ∷ 0x7B ∷ 0x76 ∷ 0x80 ∷ 0x82 ∷ 0x84 ∷ 0x14 ∷ [])) ≡ record { code = 4; bit = 63 }
+unfolding readMessage notices notice read readField walk orZero subtypes subtype repeat inLanguage english valueOf bit digits bitsOf bytesOf
+text-refused = refl
+
+-- behind areas of 11, 50, 93, 58 and 136 bits, the last of its 13 bytes being 0x7F, at 411; and the fill behind it, five bits that are not zero, at 515.
+end-refused : (told (readMessage (notices true) (set (set message 63 0xCF) 64 0xE0)) ≡ record { code = 4; bit = 411 }) × (told (readMessage (notices true) (set message 64 0xC1)) ≡ record { code = 5; bit = 515 })
+unfolding readMessage notices notice read readField walk wide orZero subtypes subtype repeat inLanguage english valueOf bit digits bitsOf bytesOf
+end-refused = (refl, refl)
+
+-- The same text written.
+text-unwritten : told (writeMessage (notices true) (valuesOf (warned .0, (warned .1 .0, set (warned .1 .1) 12 0x7F)))) ≡ record { code = 4; bit = 411 }
+unfolding writeMessage notices notice write writeField sized walk wide orZero subtypes subtype repeat repeatOf repeatTold inLanguage english valuesOf valueOf bit digits bitsOf bytesOf
+text-unwritten = refl
+
+-- Corrected: type 2, at bit 30, has no subtype 11, at 34; month 13 in the expiry, at 39; a year that 7 bits do not spell, at 23.
+corrections-refused :
+    (told (correctMessage (notices true) message 4 2) ≡ record { code = 4; bit = 34 })
+    × (told (correctMessage (notices true) message 6 ((((1 * 16 + 13) * 32 + 27) * 32 + 14) * 64 + 52)) ≡ record { code = 4; bit = 39 })
+    × (told (correctMessage (notices true) message 3 128) ≡ record { code = 4; bit = 23 })
+unfolding correctMessage readMessage writeMessage notices notice read readField write writeField sized spot walk wide orZero subtypes subtype repeat inLanguage english valueOf bit digits bitsOf bytesOf
+corrections-refused = (refl, refl, refl)

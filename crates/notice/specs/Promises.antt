@@ -8,6 +8,8 @@ use lib.ListN.{length}
 use Rattle.format.specs.Fmt.{Out}
 use Rattle.format.specs.Message.{ahead}
 use Rattle.format.specs.Promises.{answered, readRecord, tested}
+use Rattle.format.specs.Refusals.{bare}
+use Rattle.format.specs.declared.Refusal.{Refusal}
 use Rattle.notice.specs.Notice.{notices}
 use Rattle.notice.specs.Record.{Whole, recordOf}
 use Rattle.notice.specs.declared.reading.Told.{Told}
@@ -22,13 +24,14 @@ housed areas text = tested (λ x. leb (length (x .1 .0)) areas && leb (length (x
 abbrev pub toldOf : Whole → Told
 toldOf x = record { notice = x .0; numbers = length (x .1 .0); text = length (x .1 .1) }
 
--- the paper's number and values
+-- the paper's refusals and values
 abbrev pub answerOf : Out Whole → Answer
 answerOf = answered (λ x. Good (toldOf x)) Refused
 
-abbrev pub numberOf : Answer → ℕ
-numberOf (Good r) = 0
-numberOf (Refused c) = c
+-- its refusal
+abbrev pub refusalOf : Answer → Refusal
+refusalOf (Good r) = bare 0
+refusalOf (Refused c) = c
 
 -- the answer, and what is left of the row and the buffer
 abbrev pub Reads : Bool → List ℕ → List ℕ → List ℕ → Answer → List ℕ → List ℕ → Type 0

@@ -4,7 +4,7 @@ ghost use Prim.Native.Nat.{_≤_};
 ghost use lib.ListN.{length};
 ghost use Rattle.format.specs.Message.{told, readMessage};
 ghost use Rattle.notice.specs.Notice.{notices, sizes};
-ghost use Rattle.notice.specs.Promises.{Reads, refusalOf};
+ghost use Rattle.notice.specs.Promises.{Reads};
 ghost use Rattle.notice.specs.Steps.{openingOf, endingOf, unreadBy, courseOf};
 ghost use Rattle.packet.specs.Packet.{joined};
 use format::Refusal;
@@ -41,18 +41,6 @@ pub struct Told {
 pub enum Answer {
     Good(Told),
     Refused(Refusal),
-}
-
-impl Answer {
-    // Its refusal: none for a good one.
-    pub fn refusal(self) -> Refusal
-        ensures { λ r. ⌜ r ≡ refusalOf self ⌝ }
-    {
-        match self {
-            Answer::Good(_) => Refusal::NONE,
-            Answer::Refused(refusal) => refusal,
-        }
-    }
 }
 
 impl Notice {

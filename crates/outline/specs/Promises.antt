@@ -4,9 +4,9 @@ use mathlib.Core.Path.{_≡_}
 use mathlib.Core.Bool.{Bool}
 use mathlib.Core.List.{List}
 use lib.IntN.{ℤ}
-use Rattle.format.specs.Fmt.{Out, accepted, refused, also}
+use Rattle.format.specs.Fmt.{Out, accepted, also}
 use Rattle.format.specs.Message.{leaves, into}
-use Rattle.format.specs.Promises.{answered, readRecord}
+use Rattle.format.specs.Promises.{answered, refusedBy, readRecord}
 use Rattle.notice.specs.Notice.{notices}
 use Rattle.notice.specs.Record.{Whole, recordOf}
 use Rattle.outline.specs.Outline.{outlineOf, pointCount}
@@ -36,14 +36,14 @@ pointsTold english s = leaves (also countIn (told english s)) 0
 abbrev pub counted : Bool → List ℕ → List ℤ → Out ℕ
 counted english s row = also (λ t. pointsTold english s) (drawn english s row)
 
--- the paper's number and values
+-- the paper's refusals and values
 abbrev pub answerOf : Out ℕ → Answer
 answerOf = answered Good Refused
 
 -- an answer taken apart
 abbrev pub outOf : Answer → Out ℕ
 outOf (Good n) = accepted n
-outOf (Refused c) = refused c 0
+outOf (Refused c) = refusedBy c
 
 -- the answer, and the row t that is left
 abbrev pub Outlines : Bool → List ℕ → List ℤ → Answer → List ℤ → Type 0

@@ -8,6 +8,7 @@ ghost use Rattle.outline.specs.Promises.{Outlines};
 ghost use Rattle.outline.specs.Standing.{pointsDrawn, outlineAt};
 pub use crate::angles::latitude_of;
 pub use crate::angles::longitude_of;
+use format::Refusal;
 use notice_fields::areas::FRONT;
 use notice_fields::parts::LATITUDE;
 use notice_fields::parts::LONGITUDE;
@@ -18,7 +19,7 @@ pub mod angles;
 // How many points, or the refusal.
 pub enum Answer {
     Good(usize),
-    Refused(u8),
+    Refused(Refusal),
 }
 
 // The outline of a notice into the front of the row: of each point its latitude, then its longitude.
@@ -29,13 +30,13 @@ pub fn outline(s: &[u8], english: bool, row: &mut [i32]) -> Answer
     let walk = f.walk;
     let code = walk.code;
     if code != 0 {
-        return Answer::Refused(code);
+        return Answer::Refused(walk.refusal());
     }
     let notice = f.notice;
     let extent = notice_fields::row::measure(s, notice.count);
     let points = extent.points;
     if row.len() < points * 2 {
-        return Answer::Refused(format::ROOM);
+        return Answer::Refused(Refusal::ROOM);
     }
     draw(s, notice.count, row);
     Answer::Good(points)

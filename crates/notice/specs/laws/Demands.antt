@@ -12,6 +12,8 @@ use Rattle.bits.specs.laws.Bytes.{length-bytes, bytes-below}
 use Rattle.format.specs.Fmt.{Out, accepted, refused, check, orBad}
 use Rattle.format.specs.Message.{readMessage, ahead}
 use Rattle.format.specs.Promises.{answered, readRecord, Writes, Corrects}
+use Rattle.format.specs.Refusals.{bare}
+use Rattle.format.specs.declared.Refusal.{Refusal}
 use Rattle.format.specs.laws.Family.{Family, written-read, read-written}
 use Rattle.format.specs.Settled.{Differs}
 use Rattle.format.specs.laws.Settled.{accepted-correction}
@@ -108,7 +110,7 @@ wholeOf a row text = (a .notice, (take (a .numbers) row, take (a .text) text))
 pub good : (english : Bool) (s row text : List ℕ) (a : Told) (row′ text′ : List ℕ) → Reads english s row text (Good a) row′ text′ → readRecord (notices english) recordOf s ≡ accepted (wholeOf a row′ text′)
 good english s row text a row′ text′ (x, y, z) = go (readRecord (notices english) recordOf s) x y z
   where
-    clash : {X : Type 0} {c : ℕ} → Good a ≡ Refused c → X
+    clash : {X : Type 0} {c : Refusal} → Good a ≡ Refused c → X
     clash e = let z : _≡_ {A = ℕ} 0 1 = cc in absurd (omega arith)
 
     fits : (q : Whole) → Good a ≡ Good (toldOf q) → row′ ≡ ahead (q .1 .0) row → text′ ≡ ahead (q .1 .1) text → q ≡ wholeOf a row′ text′
@@ -128,23 +130,23 @@ good english s row text a row′ text′ (x, y, z) = go (readRecord (notices eng
         roomy false x y z = clash x
 
 -- What is written from a row and a text is read back as the same record, the numbers that the row was asked for, and the same text, where there is room for them.
-pub written-reads : (english : Bool) (s : List ℕ) (r : Notice) (row t u : List ℕ) → Bytes t → Writes (notices english) s 0 u (valuesOf (r, (row, t))) → let xs = areasTold (r .count) row in
+pub written-reads : (english : Bool) (s : List ℕ) (r : Notice) (row t u : List ℕ) → Bytes t → Writes (notices english) s (bare 0) u (valuesOf (r, (row, t))) → let xs = areasTold (r .count) row in
     (m : List ℕ) × (u ≡ m ++ drop (length m) s)
     × ((areas text : List ℕ) → length xs ≤ length areas → length t ≤ length text → Reads english m areas text (Good (toldOf (r, (xs, t)))) (ahead xs areas) (ahead t text))
 written-reads english s r row t u fine w =
-    let y = written-read (family english) s (r, (areasTold (r .count) row, t)) u (exact-told (some-areas (r .count)) row, fine) (subst⁻¹ (Writes (notices english) s 0 u) (asked-row r row t) w) in
+    let y = written-read (family english) s (r, (areasTold (r .count) row, t)) u (exact-told (some-areas (r .count)) row, fine) (subst⁻¹ (Writes (notices english) s (bare 0) u) (asked-row r row t) w) in
     (y .message, y .front, λ areas text k l. reads-good english (y .message) areas text (y .reads) k l)
 
 module _ (english : Bool) (s row text : List ℕ) (a : Told) (row′ text′ : List ℕ) (fine : Bytes s) (reads : Reads english s row text (Good a) row′ text′) where
   -- What is read is written back as the same bytes.
-  pub read-writes-back : (u : List ℕ) (code : ℕ) (t : List ℕ) → length s ≤ length u → Writes (notices english) u code t (valuesOf (wholeOf a row′ text′)) → (code ≡ 0) × (t ≡ s ++ drop (length s) u)
+  pub read-writes-back : (u : List ℕ) (code : Refusal) (t : List ℕ) → length s ≤ length u → Writes (notices english) u code t (valuesOf (wholeOf a row′ text′)) → (code ≡ bare 0) × (t ≡ s ++ drop (length s) u)
   read-writes-back = read-written (family english) s (wholeOf a row′ text′) fine (good english s row text a row′ text′ reads)
 
 -- An expiry that was corrected leaves the areas' count, four bits at 59, and every other bit: what stands before its own 21 bits, and what stands behind them.
-pub expiry-leaves-count : (english : Bool) (s : List ℕ) (v : ℕ) (t : List ℕ) → Bytes s → Corrects (notices english) s 6 v 0 t → (fieldAt t 59 4 ≡ fieldAt s 59 4) × Differs false s 38 21 v t
+pub expiry-leaves-count : (english : Bool) (s : List ℕ) (v : ℕ) (t : List ℕ) → Bytes s → Corrects (notices english) s 6 v (bare 0) t → (fieldAt t 59 4 ≡ fieldAt s 59 4) × Differs false s 38 21 v t
 unfolding notices
 expiry-leaves-count english s v t fine e =
-    let c = accepted-correction (family english) spotOf (spotted english) s fine 6 v 0 t e refl in
+    let c = accepted-correction (family english) spotOf (spotted english) s fine 6 v (bare 0) t e refl in
     let offset : c .offset ≡ 38 = cc in
     let width : c .width ≡ 21 = cc in
     let alone = subst (λ p. Differs false s p 21 v t) offset (subst (λ w. Differs false s (c .offset) w v t) width (c .alone)) in

@@ -1,4 +1,4 @@
--- Demand 1 for reading a notice into a row and a buffer: a refusal leaves both as they were, and where 0 is answered the notice was read and both had room. (Writing: `refused-laying` in format.) Assumes nothing.
+-- Demand 1 for reading a notice into a row and a buffer: a refusal leaves both as they were, and where none is told the notice was read and both had room. (Writing: `refused-laying` in format.) Assumes nothing.
 use mathlib.Core.Path.{_≡_, refl, sym, ap, _∙_}
 use mathlib.Core.Bool.{Bool, _&&_, and-eq-true-iff}
 use mathlib.Core.List.{List}
@@ -7,12 +7,12 @@ use lib.Dec.{leb}
 use lib.ListN.{length}
 use borrow.Author.Tests.{leb-true}
 use Rattle.format.specs.Fmt.{Out, accepted, refused}
-use Rattle.format.specs.Message.{codeOf, ahead}
+use Rattle.format.specs.Message.{told, ahead}
 use Rattle.format.specs.Promises.{answered, readRecord}
 use Rattle.format.specs.laws.Family.{never-read}
 use Rattle.format.specs.laws.Lent.{tested-zero}
 use Rattle.notice.specs.Notice.{notices}
-use Rattle.notice.specs.Promises.{housed, toldOf, answerOf, numberOf, Reads}
+use Rattle.notice.specs.Promises.{housed, toldOf, answerOf, refusalOf, Reads}
 use Rattle.notice.specs.Record.{Whole, recordOf}
 use Rattle.notice.specs.declared.reading.Answer.{Answer}
 use Rattle.notice.specs.declared.reading.Answer.the-variants.{Good}
@@ -23,18 +23,18 @@ module _ (english : Bool) (s areas text : List ℕ) (a : Answer) (areas′ text�
   read = housed (length areas) (length text) (readRecord (notices english) recordOf s)
 
   -- A refusal leaves the row and the buffer.
-  pub refused-reading : (numberOf a ≡ 0 → ⊥) → (areas′ ≡ areas) × (text′ ≡ text)
+  pub refused-reading : (refusalOf a .code ≡ 0 → ⊥) → (areas′ ≡ areas) × (text′ ≡ text)
   refused-reading h = go read (e .0) (e .1) (e .2)
     where
       go : (o : Out Whole) → a ≡ answerOf o → areas′ ≡ answered (λ x. ahead (x .1 .0) areas) (λ c. areas) o → text′ ≡ answered (λ x. ahead (x .1 .1) text) (λ c. text) o → (areas′ ≡ areas) × (text′ ≡ text)
-      go (accepted x) is x₁ x₂ = absurd (h (ap numberOf is))
+      go (accepted x) is x₁ x₂ = absurd (h (ap (λ a. refusalOf a .code) is))
       go (refused c p) is x₁ x₂ = (x₁, x₂)
 
-  -- 0: the notice is read, its numbers and its text find room, and stand in front.
-  pub zero-reading : numberOf a ≡ 0
+  -- No refusal: the notice is read, its numbers and its text find room, and stand in front.
+  pub zero-reading : refusalOf a .code ≡ 0
       → (x : Whole) × (readRecord (notices english) recordOf s ≡ accepted x) × (length (x .1 .0) ≤ length areas) × (length (x .1 .1) ≤ length text) × (a ≡ Good (toldOf x)) × (areas′ ≡ ahead (x .1 .0) areas) × (text′ ≡ ahead (x .1 .1) text)
   zero-reading z =
-      let (x, is, fits, all) = tested-zero (λ x. leb (length (x .1 .0)) (length areas) && leb (length (x .1 .1)) (length text)) (readRecord (notices english) recordOf s) (never-read (family english) s) (number read (ap numberOf (sym (e .0)) ∙ z)) in
+      let (x, is, fits, all) = tested-zero (λ x. leb (length (x .1 .0)) (length areas) && leb (length (x .1 .1)) (length text)) (readRecord (notices english) recordOf s) (never-read (family english) s) (number read (ap (λ a. refusalOf a .code) (sym (e .0)) ∙ z)) in
       let (m, n) = and-eq-true-iff (leb (length (x .1 .0)) (length areas)) (leb (length (x .1 .1)) (length text)) .0 fits in (
         x,
         is,
@@ -45,6 +45,6 @@ module _ (english : Bool) (s areas text : List ℕ) (a : Answer) (areas′ text�
         e .2 ∙ ap (answered (λ x. ahead (x .1 .1) text) (λ c. text)) all,
       )
     where
-      number : (o : Out Whole) → numberOf (answerOf o) ≡ 0 → codeOf o ≡ 0
+      number : (o : Out Whole) → refusalOf (answerOf o) .code ≡ 0 → told o .code ≡ 0
       number (accepted x) q = refl
       number (refused c p) q = q

@@ -11,8 +11,10 @@ use native.Mathlib.Nat.{zero-add}
 use borrow.Author.Tests.{le-leb, lt-leb, leb-true, ltb-true, eqb-true, eqb-false}
 use Rattle.bits.specs.Bits.{Bytes, valueOf, bitsOf}
 use Rattle.format.specs.Fmt.{accepted, refused, check, also, none, spot}
-use Rattle.format.specs.Message.{between, fault, codeOf, readMessage, ahead}
+use Rattle.format.specs.Message.{between, fault, told as Message·told, readMessage, ahead}
 use Rattle.format.specs.Promises.{readRecord}
+use Rattle.format.specs.Refusals.{shown, bare}
+use Rattle.format.specs.declared.Refusal.{Refusal}
 use Rattle.bits.specs.Bits.{bytesAt}
 use Rattle.bits.specs.Answers.{gettable}
 use Rattle.bits.specs.laws.Runs.{length-run, bytes-run}
@@ -62,14 +64,14 @@ and-false true = refl
 and-false false = refl
 
 module _ (english : Bool) (s a t : List ℕ) where
-  pub reads-refused : {c p : ℕ} → readRecord (notices english) recordOf s ≡ refused c p → Reads english s a t (Refused c) a t
-  reads-refused e = rw e (refl, refl, refl)
+  pub reads-refused : {c p : ℕ} {r : Refusal} → r ≡ shown c p → readRecord (notices english) recordOf s ≡ refused c p → Reads english s a t (Refused r) a t
+  reads-refused is e = rw e (ap Refused is, refl, refl)
 
   module _ {x : Whole} (e : readRecord (notices english) recordOf s ≡ accepted x) where
-    pub reads-few : length a < length (x .1 .0) → Reads english s a t (Refused 6) a t
+    pub reads-few : length a < length (x .1 .0) → Reads english s a t (Refused (bare 6)) a t
     reads-few l = rw (e, lt-leb (length (x .1 .0)) (length a) l) (refl, refl, refl)
 
-    pub reads-short : length t < length (x .1 .1) → Reads english s a t (Refused 6) a t
+    pub reads-short : length t < length (x .1 .1) → Reads english s a t (Refused (bare 6)) a t
     reads-short l = rw (e, lt-leb (length (x .1 .1)) (length t) l, and-false (leb (length (x .1 .0)) (length a))) (refl, refl, refl)
 
     pub reads-good : length (x .1 .0) ≤ length a → length (x .1 .1) ≤ length t → Reads english s a t (Good (toldOf x)) (ahead (x .1 .0) a) (ahead (x .1 .1) t)
@@ -156,18 +158,21 @@ module _ (english : Bool) (i : ℕ) (s : List ℕ) (f : Course) (d : f ≡ cours
   pub walked-bad : (f .walk .code ≡ 0 → ⊥) → readMessage (notices english) s ≡ refused (f .walk .code) (f .walk .offset)
   walked-bad n = x .walked .so ∙ stuck (f .walk) _ n
 
-  -- the code of reading is the walk's
-  pub walked-code : f .walk .code ≡ codeOf (readMessage (notices english) s)
-  walked-code = go (eqb (f .walk .code) 0) refl
+  -- what reading tells is what the walk's refusal tells
+  pub walked-refusal : {r : Refusal} → r ≡ shown (f .walk .code) (f .walk .offset) → r ≡ Message·told (readMessage (notices english) s)
+  walked-refusal is = is ∙ go (eqb (f .walk .code) 0) refl
     where
-      go : (t : Bool) → eqb (f .walk .code) 0 ≡ t → f .walk .code ≡ codeOf (readMessage (notices english) s)
-      go true t = let z = eqb-true (f .walk .code) 0 t in z ∙ sym (ap codeOf (x .walked .so ∙ clear (f .walk) _ z))
-      go false t = sym (ap codeOf (walked-bad (eqb-false (f .walk .code) 0 t)))
+      go : (t : Bool) → eqb (f .walk .code) 0 ≡ t → shown (f .walk .code) (f .walk .offset) ≡ Message·told (readMessage (notices english) s)
+      go true t = let z = eqb-true (f .walk .code) 0 t in ap (λ c. shown c (f .walk .offset)) z ∙ sym (ap Message·told (x .walked .so ∙ clear (f .walk) _ z))
+      go false t = sym (ap Message·told (walked-bad (eqb-false (f .walk .code) 0 t)))
+
+  walked-code : f .walk .code ≡ Message·told (readMessage (notices english) s) .code
+  walked-code = ap (λ r. r .code) (walked-refusal refl)
 
   -- where the field i of a notice that was read stands: in the head, or where the walk found it
   pub stands : (vs : List ℕ) → readMessage (notices english) s ≡ accepted vs → spot (notice english) [] vs i ≡ cond (ltb i 8) (getD spots i none) (standing (f .walk .spot) (f .walk .width))
   stands vs a =
-      let c : f .walk .code ≡ 0 = walked-code ∙ ap codeOf a in
+      let c : f .walk .code ≡ 0 = walked-code ∙ ap (λ o. Message·told o .code) a in
       let same = accepted-inj (sym (x .walked .so ∙ clear (f .walk) _ c) ∙ a) in
       ap (λ vs. spot (notice english) [] vs i) (sym same) ∙ go c (ltb i 8) refl
     where

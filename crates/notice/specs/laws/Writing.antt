@@ -1,6 +1,6 @@
 -- What writing a notice answers, from its judging and its room: a row that is too short leaves no room. Assumes nothing.
 use Prim.Native.Nat.{ℕ, _*_, _≤_}
-use mathlib.Core.Path.{_≡_, refl, sym, _∙_}
+use mathlib.Core.Path.{_≡_, refl, sym, ap, _∙_}
 use mathlib.Core.Bool.{Bool, true, false, cond}
 use mathlib.Core.List.{List, []}
 use native.Mathlib.Omega.{arith}
@@ -9,6 +9,8 @@ use lib.ListN.{length}
 use borrow.Author.Tests.{eqb-true}
 use Rattle.format.specs.Fmt.{accepted, write}
 use Rattle.format.specs.Promises.{roomFor}
+use Rattle.format.specs.Refusals.{bare}
+use Rattle.format.specs.declared.Refusal.{Refusal}
 use Rattle.format.specs.laws.Putting.{Puts}
 use Rattle.walk.specs.Judging.{beyond, closing}
 use Rattle.walk.specs.laws.RowsMade.{Closes, closes, row-refused, row-stands}
@@ -32,7 +34,7 @@ before-text w r = go (eqb (r .code) 0) refl
     go true e z = eqb-true (r .code) 0 e
     go false e z = z
 
-module _ (english : Bool) (s : List ℕ) (r : Notice) (areas text : List ℕ) (st : Stepped) (x : NoticeJudged english r areas text st) {room code : ℕ}
+module _ (english : Bool) (s : List ℕ) (r : Notice) (areas text : List ℕ) (st : Stepped) (x : NoticeJudged english r areas text st) {room : ℕ} {code : Refusal}
     (is : room ≡ roomFor (length areas) (st .next) (length s)) (e : code ≡ closing false 8 joined room (beyond (length text * 8) 0 (st .walk))) where
   abbrev pub all : Walk
   all = beyond (length text * 8) 0 (st .walk)
@@ -43,21 +45,21 @@ module _ (english : Bool) (s : List ℕ) (r : Notice) (areas text : List ℕ) (s
   asked : all .code ≡ 0 → st .next ≡ areasLong (r .count) areas
   asked z = x .asked (before-text (length text * 8) (st .walk) z)
 
-  pub notice-refused : (code ≡ 0 → ⊥) → NoticeWrites english s r areas text code s
+  pub notice-refused : (code .code ≡ 0 → ⊥) → NoticeWrites english s r areas text code s
   unfolding notices
   notice-refused = row-refused (notices english) values s all (x .judged) refl (omega arith) (length areas) (st .next) (areasLong (r .count) areas) asked is e
 
   -- an accepted notice: its values were written, and their size and room are good
-  notice-fits : code ≡ 0 → Closes 8 joined room all
-  notice-fits z = closes 8 joined room all (sym e ∙ z)
+  notice-fits : code .code ≡ 0 → Closes 8 joined room all
+  notice-fits z = closes 8 joined room all (ap (λ r. r .code) (sym e) ∙ z)
 
-  pub notice-laid : code ≡ 0 → write (notice english) [] 0 values ≡ accepted (x .judged .laid)
+  pub notice-laid : code .code ≡ 0 → write (notice english) [] 0 values ≡ accepted (x .judged .laid)
   notice-laid z = x .judged .so ∙ clear all (accepted (x .judged .laid)) (notice-fits z .clean)
 
-  pub text-small : code ≡ 0 → length text ≤ joined
+  pub text-small : code .code ≡ 0 → length text ≤ joined
   unfolding beyond
   text-small z = omega (arith, notice-fits z .small)
 
-  pub notice-stands : {t : List ℕ} → code ≡ 0 → Puts (notice english) values s t → NoticeWrites english s r areas text 0 t
+  pub notice-stands : {t : List ℕ} → code .code ≡ 0 → Puts (notice english) values s t → NoticeWrites english s r areas text (bare 0) t
   unfolding notices
   notice-stands = row-stands (notices english) values s all (x .judged) refl (omega arith) (length areas) (st .next) (areasLong (r .count) areas) asked is e

@@ -8,8 +8,10 @@ use borrow.Author.Tests.{le-leb}
 use lib.ListN.{length, take, drop, length-append}
 use Rattle.bits.specs.Bits.{Bytes}
 use Rattle.format.specs.Fmt.{accepted, refused, check}
-use Rattle.format.specs.Message.{fault, codeOf, readMessage, writeMessage, ahead}
+use Rattle.format.specs.Message.{fault, told as Message·told, readMessage, writeMessage, ahead}
 use Rattle.format.specs.Promises.{plain, readRecord, Writes, Corrects}
+use Rattle.format.specs.Refusals.{bare}
+use Rattle.format.specs.declared.Refusal.{Refusal}
 use Rattle.format.specs.laws.Family.{never-read, never-written, read-values}
 use Rattle.format.specs.Settled.{SettledBy}
 use Rattle.format.specs.laws.Answers.{plain-good, code-plain}
@@ -31,12 +33,12 @@ use Rattle.notice.specs.WritingPromises.{enough, NoticeWrites}
 
 -- ---- what writing a notice promises, where the row has enough, is what every layout's writing does
 
-pub enough-writes : (english : Bool) (s : List ℕ) (r : Notice) (row t : List ℕ) (code : ℕ) (u : List ℕ) → enough r row ≡ true → NoticeWrites english s r row t code u
+pub enough-writes : (english : Bool) (s : List ℕ) (r : Notice) (row t : List ℕ) (code : Refusal) (u : List ℕ) → enough r row ≡ true → NoticeWrites english s r row t code u
     → Writes (notices english) s code u (valuesOf (r, (row, t)))
 enough-writes english s r row t code u = enough-lays (notices english) (valuesOf (r, (row, t))) s (enough r row) code u
 
--- where it answered 0, the row had enough
-pub accepted-writes : (english : Bool) (s : List ℕ) (r : Notice) (row t u : List ℕ) → Bytes t → NoticeWrites english s r row t 0 u → (enough r row ≡ true) × Writes (notices english) s 0 u (valuesOf (r, (row, t)))
+-- where it told no refusal, the row had enough
+pub accepted-writes : (english : Bool) (s : List ℕ) (r : Notice) (row t u : List ℕ) → Bytes t → NoticeWrites english s r row t (bare 0) u → (enough r row ≡ true) × Writes (notices english) s (bare 0) u (valuesOf (r, (row, t)))
 unfolding notices
 accepted-writes english s r row t u fine = accepted-lays (notices english) (valuesOf (r, (row, t))) s (enough r row) u (omega arith) never
   where
@@ -44,13 +46,13 @@ accepted-writes english s r row t u fine = accepted-lays (notices english) (valu
     never p e = never-written (family english) (r, (areasTold (r .count) row, t)) p (exact-told (some-areas (r .count)) row, fine) (ap (writeMessage (notices english)) (asked-row r row t) ∙ e)
 
 -- two answers that it allows are equal
-pub one-writing : (english : Bool) (s : List ℕ) (r : Notice) (row t : List ℕ) (c d : ℕ) (u w : List ℕ) → NoticeWrites english s r row t c u → NoticeWrites english s r row t d w → (c ≡ d) × (u ≡ w)
+pub one-writing : (english : Bool) (s : List ℕ) (r : Notice) (row t : List ℕ) (c d : Refusal) (u w : List ℕ) → NoticeWrites english s r row t c u → NoticeWrites english s r row t d w → (c ≡ d) × (u ≡ w)
 one-writing english s r row t = one-laying (enough r row) (writeMessage (notices english) (valuesOf (r, (row, t)))) s
 
 -- ---- demand 2
 
 -- What is written from a row and a text is read back as the same record, the numbers that the row was asked for, and the same text, where there is room for them.
-pub written-reads : (english : Bool) (s : List ℕ) (r : Notice) (row t u : List ℕ) → Bytes t → NoticeWrites english s r row t 0 u → let xs = areasTold (r .count) row in
+pub written-reads : (english : Bool) (s : List ℕ) (r : Notice) (row t u : List ℕ) → Bytes t → NoticeWrites english s r row t (bare 0) u → let xs = areasTold (r .count) row in
     (m : List ℕ) × (u ≡ m ++ drop (length m) s)
     × ((areas text : List ℕ) → length xs ≤ length areas → length t ≤ length text → Reads english m areas text (Good (toldOf (r, (xs, t)))) (ahead xs areas) (ahead t text))
 written-reads english s r row t u fine x = written-values english s r row t u fine (accepted-writes english s r row t u fine x .1)
@@ -62,8 +64,8 @@ module _ (english : Bool) (s row text : List ℕ) (a : Told) (row′ text′ : L
   lent = read-values (family english) s (wholeOf a row′ text′) fine (good english s row text a row′ text′ reads) .1
 
   -- What is read is written back as the same bytes, from the numbers that were read, whatever stands behind them in the row.
-  pub read-writes-back : (us u : List ℕ) (code : ℕ) (t : List ℕ) → length s ≤ length u → NoticeWrites english u (a .notice) (take (a .numbers) row′ ++ us) (take (a .text) text′) code t
-      → (code ≡ 0) × (t ≡ s ++ drop (length s) u)
+  pub read-writes-back : (us u : List ℕ) (code : Refusal) (t : List ℕ) → length s ≤ length u → NoticeWrites english u (a .notice) (take (a .numbers) row′ ++ us) (take (a .text) text′) code t
+      → (code ≡ bare 0) × (t ≡ s ++ drop (length s) u)
   read-writes-back us u code t l x =
       let r = a .notice in
       let xs = take (a .numbers) row′ in
@@ -73,14 +75,14 @@ module _ (english : Bool) (s row text : List ℕ) (a : Told) (row′ text′ : L
 
 -- ---- demand 3
 
--- Every correction of a notice, by any number and any value. Its own refusal is c; where that is 0, a, row′ and text′ are what reading it gave.
-pub corrected : (english : Bool) (s row text : List ℕ) (a : Told) (row′ text′ : List ℕ) → Bytes s → (c : ℕ) → c ≡ codeOf (readMessage (notices english) s) → (c ≡ 0 → Reads english s row text (Good a) row′ text′)
-    → (i v code : ℕ) (t : List ℕ) → Corrects (notices english) s i v code t
-    → SettledBy (λ x u d y. let z = changed i v x in NoticeWrites english u (z .0) (z .1 .0) (z .1 .1) d y) (λ x. spotOf x i) false s (check (fault c) 0 (accepted (wholeOf a row′ text′))) v code t
+-- Every correction of a notice, by any number and any value. Its own refusal is c; where that is none, a, row′ and text′ are what reading it gave.
+pub corrected : (english : Bool) (s row text : List ℕ) (a : Told) (row′ text′ : List ℕ) → Bytes s → (c : Refusal) → c ≡ Message·told (readMessage (notices english) s) → (c .code ≡ 0 → Reads english s row text (Good a) row′ text′)
+    → (i v : ℕ) (code : Refusal) (t : List ℕ) → Corrects (notices english) s i v code t
+    → SettledBy (λ x u d y. let z = changed i v x in NoticeWrites english u (z .0) (z .1 .0) (z .1 .1) d y) (λ x. spotOf x i) false s (check (fault (c .code)) (c .bit) (accepted (wholeOf a row′ text′))) v code t
 unfolding notices
 corrected english s row text a row′ text′ fine c own reads i v code t corrects =
     let q = readRecord (notices english) recordOf s in
-    let o = check (fault c) 0 (accepted (wholeOf a row′ text′)) in
+    let o = check (fault (c .code)) (c .bit) (accepted (wholeOf a row′ text′)) in
     let told : o ≡ plain q = code-plain q c (wholeOf a row′ text′) (own ∙ same-code recordOf (readMessage (notices english) s)) (never-read (family english) s) (λ z. good english s row text a row′ text′ (reads z)) in
     settled-with (λ x. spotOf x i) false s v (λ x u d y. Writes (notices english) u d y (valuesOf (changed i v x))) _ o code t
     (λ x p w is there u d y wrote.

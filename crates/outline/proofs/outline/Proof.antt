@@ -19,10 +19,11 @@ use Rattle.outline.proofs.outline.Statement.{statement}
 use Rattle.outline.proofs.outline.Tie as tie
 
 returns : tie.Need-returns
-returns c = let f = c .before .before in
+returns c = let test = c .before in
+    let f = test .before .before in
     let a = f .before .before .args in
     let s = a .s .now in
-    outlines-refused (a .english) s (a .row .now) (ap (also recordOf) (walked-bad (a .english) 0 s (f .fields .result) (f .fields .ensures) (c .if1 .taken)))
+    outlines-refused (a .english) s (a .row .now) (c .refusal .ensures) (ap (also recordOf) (walked-bad (a .english) 0 s (f .fields .result) (f .fields .ensures) (test .if1 .taken)))
 
 mul-if2 : tie.Need-mul-if2
 mul-if2 c = let f = c .before .before .before .before in
@@ -63,7 +64,7 @@ pub outline-spec : {M : Type 1} → statement M
 outline-spec =
     tie.close
     (tie.spec
-    (λ c κs. search needs)
+    (λ c κs. search needs) (λ c κs. search needs)
     returns
     (λ c κs. search needs)
     mul-if2

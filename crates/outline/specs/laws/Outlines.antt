@@ -12,6 +12,8 @@ use borrow.Author.Tests.{le-leb, lt-leb}
 use lib.Dec.{leb}
 use Rattle.format.specs.Fmt.{Out, accepted, refused, check, orBad, also}
 use Rattle.format.specs.Message.{readMessage, leaves, into}
+use Rattle.format.specs.Refusals.{shown, bare}
+use Rattle.format.specs.declared.Refusal.{Refusal}
 use Rattle.format.specs.laws.Zero.{read-zero-message}
 use Rattle.notice.specs.Notice.{notices}
 use Rattle.notice.specs.Record.{Whole, recordOf}
@@ -21,14 +23,14 @@ use Rattle.outline.specs.declared.Answer.{Answer}
 use Rattle.outline.specs.declared.Answer.the-variants.{Good, Refused}
 
 module _ (english : Bool) (s : List ℕ) (row : List ℤ) where
-  pub outlines-refused : {c p : ℕ} → told english s ≡ refused c p → Outlines english s row (Refused c) row
-  outlines-refused e = rw e (refl, refl)
+  pub outlines-refused : {c p : ℕ} {r : Refusal} → r ≡ shown c p → told english s ≡ refused c p → Outlines english s row (Refused r) row
+  outlines-refused is e = rw e (ap Refused is, refl)
 
   module _ {x : Whole} (e : told english s ≡ accepted x) where
     abbrev points : List ℤ
     points = outlineIn x
 
-    pub outlines-short : length row < length points → Outlines english s row (Refused 6) row
+    pub outlines-short : length row < length points → Outlines english s row (Refused (bare 6)) row
     outlines-short l = rw (e, lt-leb (length points) (length row) l) (refl, refl)
 
     pub outlines-good : length points ≤ length row → Outlines english s row (Good (countIn x)) (sets row 0 points)
@@ -41,7 +43,7 @@ module _ (english : Bool) (s : List ℕ) (row : List ℤ) where
   one-outline a b t u f g = (f .0 ∙ sym (g .0), f .1 ∙ sym (g .1))
 
   -- a refusal leaves the row as it was
-  pub refused-outline : (c : ℕ) (t : List ℤ) → Outlines english s row (Refused c) t → t ≡ row
+  pub refused-outline : (c : Refusal) (t : List ℤ) → Outlines english s row (Refused c) t → t ≡ row
   refused-outline c t f = go (drawn english s row) (f .0) (f .1)
     where
       go : (o : Out (List ℤ)) → Refused c ≡ answerOf (also (λ t. pointsTold english s) o) → t ≡ leaves o row → t ≡ row
@@ -49,14 +51,14 @@ module _ (english : Bool) (s : List ℕ) (row : List ℤ) where
       go (refused d p) a e = e
 
   -- no refusal has the number 0
-  pub no-zero-outline : (t : List ℤ) → Outlines english s row (Refused 0) t → ⊥
+  pub no-zero-outline : (c : Refusal) (t : List ℤ) → c .code ≡ 0 → Outlines english s row (Refused c) t → ⊥
   unfolding notices
-  no-zero-outline t f = go (readMessage (notices english) s) refl (f .0)
+  no-zero-outline c t z f = go (readMessage (notices english) s) refl (f .0)
     where
-      full : (b : Bool) (u : List ℤ) → Refused 0 ≡ answerOf (also (λ t. pointsTold english s) (check (orBad b 6) 0 (accepted u))) → ⊥
-      full true u a = let z : _≡_ {A = ℕ} 0 1 = cc in omega arith
-      full false u a = let z : _≡_ {A = ℕ} 0 6 = cc in omega arith
+      full : (b : Bool) (u : List ℤ) → Refused c ≡ answerOf (also (λ t. pointsTold english s) (check (orBad b 6) 0 (accepted u))) → ⊥
+      full true u a = let k : _≡_ {A = ℕ} 0 1 = cc in omega (arith, k)
+      full false u a = let k : c ≡ bare 6 = cc in omega (arith, z, ap (λ r. r .code) k)
 
-      go : (o : Out (List ℕ)) → readMessage (notices english) s ≡ o → Refused 0 ≡ answerOf (also (λ t. pointsTold english s) (into row (also outlineIn (also recordOf o)))) → ⊥
+      go : (o : Out (List ℕ)) → readMessage (notices english) s ≡ o → Refused c ≡ answerOf (also (λ t. pointsTold english s) (into row (also outlineIn (also recordOf o)))) → ⊥
       go (accepted vs) m a = full (leb (length (outlineIn (recordOf vs))) (length row)) _ a
-      go (refused c p) m a = let z : c ≡ 0 = cc in read-zero-message (notices english) s p (judged english) (m ∙ ap (λ c. refused c p) z)
+      go (refused d p) m a = let k : c ≡ shown d p = cc in read-zero-message (notices english) s p (judged english) (m ∙ ap (λ d. refused d p) (ap (λ r. r .code) (sym k) ∙ z))

@@ -16,11 +16,12 @@ use Rattle.notice.proofs.reading.read.Statement.{statement}
 use Rattle.notice.proofs.reading.read.Tie as tie
 
 returns : tie.Need-returns
-returns c = let f = c .before .before in
+returns c = let test = c .before in
+    let f = test .before .before in
     let a = f .before .before .before .before .args in
     let s = a .s .now in
     let r = f .fields .result in
-    reads-refused (a .english) s (a .areas .now) (a .text .now) (ap (also recordOf) (walked-bad (a .english) 0 s r (f .fields .ensures) (c .if1 .taken)))
+    reads-refused (a .english) s (a .areas .now) (a .text .now) (c .refusal .ensures) (ap (also recordOf) (walked-bad (a .english) 0 s r (f .fields .ensures) (test .if1 .taken)))
 
 returns-2 : tie.Need-returns-2
 returns-2 c = let f = c .before .before .before .before in
@@ -67,7 +68,7 @@ pub read-spec : {M : Type 1} → statement M
 read-spec =
     tie.close
     (tie.spec
-    (λ c κs. search needs)
+    (λ c κs. search needs) (λ c κs. search needs)
     returns
     returns-2
     (λ c κs. search needs) (λ c. search needs)

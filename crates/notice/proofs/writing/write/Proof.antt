@@ -12,7 +12,7 @@ use Rattle.notice.proofs.writing.write.Tie as tie
 
 returns : tie.Need-returns
 returns c =
-    let k = c .before in
+    let k = c .before .before in
     let m = k .before in
     let j = m .before .before in
     let a = j .before .before .before .before .args in
@@ -22,7 +22,7 @@ put-requires : tie.Need-put-requires
 unfolding valuesOf Notice·notice
 put-requires c κs =
     let i = c .before in
-    let k = i .before in
+    let k = i .before .before in
     let m = k .before in
     let j = m .before .before in
     let a = j .before .before .before .before .args in
@@ -38,7 +38,7 @@ returns-2 : tie.Need-returns-2
 returns-2 c =
     let p = c .before .before in
     let i = p .before .before in
-    let k = i .before in
+    let k = i .before .before in
     let m = k .before in
     let j = m .before .before in
     let a = j .before .before .before .before .args in
