@@ -217,6 +217,7 @@ fn close(s: &[u8], w: Walk, english: bool) -> Ending
     let rest = w.rest(s);
     let text = rest.v as usize;
     let fault = choose_code(text::in_language(s, w.at, text, english), 0, format::RANGE);
-    let walk = rest.wide(text * 8, fault).end(s);
+    // A text is refused at its first bit, whichever byte of it is bad.
+    let walk = rest.on(text * 8, false, 0, fault, 0).end(s);
     Ending { walk, text }
 }

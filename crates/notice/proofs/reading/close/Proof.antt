@@ -20,9 +20,9 @@ returns c =
     let a = c .before .before .before .args in
     sym (ending-refused (a .english) (a .s .now) (a .w) (c .if1 .taken))
 
-mul-wide : tie.Need-mul-wide
+mul-on : tie.Need-mul-on
 unfolding onward
-mul-wide c =
+mul-on c =
     let r = c .before .before in
     let a = r .before .before .before .before .args in
     omega (arith, ap (λ r. r .v) (r .rest .ensures))
@@ -40,7 +40,7 @@ returns-2 c =
     let at = a .w .at in
     let walked : ℕ → Walk → Walk = λ n rest. ended s (onward (n * 8) false 0 (cond (spanned (length s) at n && inLanguage (a .english) (bytesAt s at n)) 0 4) 0 rest) in
     let fault = ch .choose-code .ensures ∙ ap (λ b. cond b 0 4) (sp .in-language .ensures) in
-    let walk : c .end .result ≡ walked (r .rest .result .v) (r .rest .result) = c .end .ensures ∙ ap (λ (w : Walk). ended s w) (w .wide .ensures ∙ ap (λ f. onward (r .rest .result .v * 8) false 0 f 0 (r .rest .result)) fault) in
+    let walk : c .end .result ≡ walked (r .rest .result .v) (r .rest .result) = c .end .ensures ∙ ap (λ (w : Walk). ended s w) (w .on .ensures ∙ ap (λ f. onward (r .rest .result .v * 8) false 0 f 0 (r .rest .result)) fault) in
     ap (λ (w : Walk). record { walk = w; text = r .rest .result .v }) walk ∙ ap (λ (q : Walk). record { walk = walked (q .v) q; text = q .v }) (r .rest .ensures) ∙ sym (ending-good (a .english) s (a .w) (i .if1 .left))
 
 pub close-spec : {M : Type 1} → statement M
@@ -49,6 +49,6 @@ close-spec =
     (tie.spec
     returns
     (λ c κs. search needs) (λ c κs. search needs) (λ c κs. search needs)
-    mul-wide
+    mul-on
     (λ c κs. search needs) (λ c κs. search needs)
     returns-2)
