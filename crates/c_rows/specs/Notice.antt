@@ -6,7 +6,9 @@ use lib.Dec.{leb}
 use lib.IntN.{ℤ, pos, natAbs}
 use lib.ListN.{length, drop, getD}
 use Rattle.format.specs.Fmt.{Out, accepted, orBad, check, after}
-use Rattle.format.specs.Message.{codeOf, ahead}
+use Rattle.format.specs.Message.{told, ahead}
+use Rattle.format.specs.Refusals.{bare}
+use Rattle.format.specs.declared.Refusal.{Refusal}
 use Rattle.format.specs.Promises.{readRecord, answered}
 use Rattle.c_rows.specs.Language.{spoken}
 use Rattle.notice.specs.Notice.{notices}
@@ -55,23 +57,22 @@ recordOf source station serial year kind subtype expiry count = record {
 abbrev pub roomy : ℕ → Out Whole → Out Whole
 roomy row o = after o (λ x. check (orBad (leb 10 row) 6) 0 (accepted x))
 
--- the number of a refusal, or else that of a row too short
-abbrev pub unroomed : ℕ → ℕ
-unroomed zero = 6
-unroomed (suc c) = suc c
+-- a refusal, or else that of a row too short
+abbrev pub unroomed : Refusal → Refusal
+unroomed own = cond (eqb (own .code) 0) (bare 6) own
 
 -- the reading of the bytes s, for a row, areas and a text of these lengths
 abbrev pub reading : ℕ → List ℕ → (row areas text : ℕ) → Out Whole
 reading language s row areas text = spoken language (λ english. roomy row (housed areas text (readRecord (notices english) wholeOf s)))
 
--- an answer's number, and what it leaves of the row, the areas and the text
-abbrev pub Lent : Out Whole → List ℤ → List ℕ → List ℕ → ℕ → List ℤ → List ℕ → List ℕ → Type 0
+-- an answer's refusal, and what it leaves of the row, the areas and the text
+abbrev pub Lent : Out Whole → List ℤ → List ℕ → List ℕ → Refusal → List ℤ → List ℕ → List ℕ → Type 0
 Lent o row areas text code row′ areas′ text′ =
-    (code ≡ codeOf o)
+    (code ≡ told o)
     × (row′ ≡ answered (λ x. rowOf (toldOf x) ++ drop 10 row) (λ c. row) o)
     × (areas′ ≡ answered (λ x. ahead (x .1 .0) areas) (λ c. areas) o)
     × (text′ ≡ answered (λ x. ahead (x .1 .1) text) (λ c. text) o)
 
 -- what the reading call promises
-abbrev pub NoticeFills : ℕ → List ℕ → List ℤ → List ℕ → List ℕ → ℕ → List ℤ → List ℕ → List ℕ → Type 0
+abbrev pub NoticeFills : ℕ → List ℕ → List ℤ → List ℕ → List ℕ → Refusal → List ℤ → List ℕ → List ℕ → Type 0
 NoticeFills language s row areas text = Lent (reading language s (length row) (length areas) (length text)) row areas text

@@ -7,7 +7,8 @@ use lib.IntN.{ℤ}
 use lib.ListN.{length, getD}
 use Rattle.c_rows.specs.Row.{entries}
 use Rattle.format.specs.Fmt.{Out, orBad, check, also}
-use Rattle.format.specs.Message.{codeOf, leaves, into, writeMessage}
+use Rattle.format.specs.Message.{told, leaves, into, writeMessage}
+use Rattle.format.specs.declared.Refusal.{Refusal}
 use Rattle.format.specs.Promises.{readRecord}
 use Rattle.txhz.specs.Txhz.{txhzs, valuesOf, recordOf as framed}
 use Rattle.txhz.specs.declared.reading.Receipt.{Receipt}
@@ -46,6 +47,6 @@ recordOf address receiver count b = record {
 abbrev pub txhzInto : List ℕ → List ℕ → ℕ → ℕ → ℕ → Out (List ℕ)
 txhzInto s b address receiver count = check (orBad (eqb (length b) 20) 1) 0 (into s (writeMessage txhzs (valuesOf (recordOf address receiver count b))))
 
--- what the writing call promises: its number, and the buffer t that it leaves
-abbrev pub TxhzWrites : List ℕ → List ℕ → ℕ → ℕ → ℕ → ℕ → List ℕ → Type 0
-TxhzWrites s b address receiver count code t = (code ≡ codeOf (txhzInto s b address receiver count)) × (t ≡ leaves (txhzInto s b address receiver count) s)
+-- what the writing call promises: its refusal, and the buffer t that it leaves
+abbrev pub TxhzWrites : List ℕ → List ℕ → ℕ → ℕ → ℕ → Refusal → List ℕ → Type 0
+TxhzWrites s b address receiver count code t = (code ≡ told (txhzInto s b address receiver count)) × (t ≡ leaves (txhzInto s b address receiver count) s)

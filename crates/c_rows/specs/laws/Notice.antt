@@ -9,7 +9,9 @@ use lib.IntN.{ℤ}
 use lib.ListN.{length, drop}
 use borrow.Author.Tests.{le-leb, lt-leb, leb-true}
 use Rattle.format.specs.Fmt.{Out, accepted, refused, orBad, check, also, after}
-use Rattle.format.specs.Message.{codeOf, readMessage, ahead}
+use Rattle.format.specs.Message.{told, readMessage, ahead}
+use Rattle.format.specs.Refusals.{shown, bare}
+use Rattle.format.specs.declared.Refusal.{Refusal}
 use Rattle.format.specs.Promises.{readRecord, answered}
 use Rattle.format.specs.laws.Zero.{read-zero-message}
 use Rattle.c_rows.specs.Row.{Fills}
@@ -23,9 +25,9 @@ use Rattle.notice.specs.declared.reading.Answer.the-variants.{Good, Refused}
 use Rattle.c_rows.specs.Notice.{rowOf, toldIn, roomy, unroomed, Lent, NoticeFills}
 
 -- a refusal leaves the row, the areas and the text as they were
-pub refused-lent : (o : Out Whole) (row : List ℤ) (areas text : List ℕ) (c : ℕ) (row′ : List ℤ) (areas′ text′ : List ℕ)
-    → Lent o row areas text c row′ areas′ text′ → (c ≡ 0 → ⊥) → (row′ ≡ row) × (areas′ ≡ areas) × (text′ ≡ text)
-refused-lent (accepted x) row areas text c row′ areas′ text′ l n = absurd (n (l .0))
+pub refused-lent : (o : Out Whole) (row : List ℤ) (areas text : List ℕ) (c : Refusal) (row′ : List ℤ) (areas′ text′ : List ℕ)
+    → Lent o row areas text c row′ areas′ text′ → (c .code ≡ 0 → ⊥) → (row′ ≡ row) × (areas′ ≡ areas) × (text′ ≡ text)
+refused-lent (accepted x) row areas text c row′ areas′ text′ l n = absurd (n (ap (λ r. r .code) (l .0)))
 refused-lent (refused d p) row areas text c row′ areas′ text′ l n = (l .1, l .2, l .3)
 
 -- no notice is refused by 0
@@ -53,7 +55,7 @@ good-rooms english s areas text {r} = go (readRecord (notices english) wholeOf s
     go (refused c p) e = let z : _≡_ {A = ℕ} 0 1 = cc in absurd (omega arith)
 
 module _ (language : ℕ) (s : List ℕ) (row : List ℤ) (areas text : List ℕ) where
-  pub lent-not : 1 < language → NoticeFills language s row areas text 4 row areas text
+  pub lent-not : 1 < language → NoticeFills language s row areas text (bare 4) row areas text
   lent-not h = rw (lt-leb language 1 h) (refl, refl, refl, refl)
 
   module _ (either : language ≤ 1) where
@@ -64,24 +66,24 @@ module _ (language : ℕ) (s : List ℕ) (row : List ℤ) (areas text : List ℕ
     housing = housed (length areas) (length text)
 
     -- what a reading in a language promises
-    shown : {c : ℕ} {row′ : List ℤ} {areas′ text′ : List ℕ} → Lent (roomy (length row) (housing (also wholeOf found))) row areas text c row′ areas′ text′ → NoticeFills language s row areas text c row′ areas′ text′
-    shown x = rw (le-leb language 1 either) x
+    fills-in : {c : Refusal} {row′ : List ℤ} {areas′ text′ : List ℕ} → Lent (roomy (length row) (housing (also wholeOf found))) row areas text c row′ areas′ text′ → NoticeFills language s row areas text c row′ areas′ text′
+    fills-in x = rw (le-leb language 1 either) x
 
-    pub lent-short : length row < 10 → NoticeFills language s row areas text (unroomed (codeOf found)) row areas text
-    lent-short few = shown (go found (named (eqb language 1) s))
+    pub lent-short : length row < 10 → NoticeFills language s row areas text (unroomed (told found)) row areas text
+    lent-short few = fills-in (go found (named (eqb language 1) s))
       where
-        go : (o : Out (List ℕ)) → ((p : ℕ) → o ≡ refused 0 p → ⊥) → Lent (roomy (length row) (housing (also wholeOf o))) row areas text (unroomed (codeOf o)) row areas text
+        go : (o : Out (List ℕ)) → ((p : ℕ) → o ≡ refused 0 p → ⊥) → Lent (roomy (length row) (housing (also wholeOf o))) row areas text (unroomed (told o)) row areas text
         go (refused zero p) n = absurd (n p refl)
-        go (refused (suc c) p) n = (refl, refl, refl, refl)
+        go (refused (suc c) p) n = (rw (ne-eqb (suc c) 0 (λ z. omega arith)) refl, refl, refl, refl)
         go (accepted vs) n = none (leb (length (wholeOf vs .1 .0)) (length areas) && leb (length (wholeOf vs .1 .1)) (length text))
           where
-            none : (b : Bool) → Lent (roomy (length row) (check (orBad b 6) 0 (accepted (wholeOf vs)))) row areas text 6 row areas text
+            none : (b : Bool) → Lent (roomy (length row) (check (orBad b 6) 0 (accepted (wholeOf vs)))) row areas text (bare 6) row areas text
             none true = rw (lt-leb 10 (length row) few) (refl, refl, refl, refl)
             none false = (refl, refl, refl, refl)
 
     module _ {areas′ text′ : List ℕ} (ten : 10 ≤ length row) where
-      pub lent-good : {r : Told} {c : ℕ} {row′ : List ℤ} → Reads (eqb language 1) s areas text (Good r) areas′ text′ → Fills (accepted (rowOf r)) row c row′ → NoticeFills language s row areas text c row′ areas′ text′
-      lent-good {r} {c} {row′} (e, a, t) f = shown (go (housing (also wholeOf found)) e a t)
+      pub lent-good : {r : Told} {c : Refusal} {row′ : List ℤ} → Reads (eqb language 1) s areas text (Good r) areas′ text′ → Fills (accepted (rowOf r)) row c row′ → NoticeFills language s row areas text c row′ areas′ text′
+      lent-good {r} {c} {row′} (e, a, t) f = fills-in (go (housing (also wholeOf found)) e a t)
         where
           go : (o : Out Whole) → Good r ≡ answerOf o → areas′ ≡ answered (λ x. ahead (x .1 .0) areas) (λ c. areas) o → text′ ≡ answered (λ x. ahead (x .1 .1) text) (λ c. text) o
               → Lent (roomy (length row) o) row areas text c row′ areas′ text′
@@ -91,29 +93,29 @@ module _ (language : ℕ) (s : List ℕ) (row : List ℤ) (areas text : List ℕ
               let full = one-filling f (row-full {o = accepted (rowOf r)} row {xs = rowOf r} refl ten) in
               rw (le-leb 10 (length row) ten) (full .0, full .1 ∙ ap (λ r. rowOf r ++ drop 10 row) is, a, t)
 
-      pub lent-bad : {d : ℕ} → Reads (eqb language 1) s areas text (Refused d) areas′ text′ → NoticeFills language s row areas text d row areas′ text′
-      lent-bad {d} (e, a, t) = shown (go (housing (also wholeOf found)) e a t)
+      pub lent-bad : {d : Refusal} → Reads (eqb language 1) s areas text (Refused d) areas′ text′ → NoticeFills language s row areas text d row areas′ text′
+      lent-bad {d} (e, a, t) = fills-in (go (housing (also wholeOf found)) e a t)
         where
           go : (o : Out Whole) → Refused d ≡ answerOf o → areas′ ≡ answered (λ x. ahead (x .1 .0) areas) (λ c. areas) o → text′ ≡ answered (λ x. ahead (x .1 .1) text) (λ c. text) o
               → Lent (roomy (length row) o) row areas text d row areas′ text′
-          go (refused c p) e a t = let k : d ≡ c = cc in (k, refl, a, t)
+          go (refused c p) e a t = let k : d ≡ shown c p = cc in (k, refl, a, t)
           go (accepted x) e a t = let z : _≡_ {A = ℕ} 0 1 = cc in absurd (omega arith)
 
-    -- A reading that did not want for room answers by the notice's own number; where that is 0, the row tells what was read.
-    pub told-in : {c : ℕ} {row′ : List ℤ} {areas′ text′ : List ℕ} → NoticeFills language s row areas text c row′ areas′ text′ → (c ≡ 6 → ⊥)
-        → (c ≡ codeOf found) × (c ≡ 0 → Reads (eqb language 1) s areas text (Good (toldIn row′)) areas′ text′)
+    -- A reading that did not want for room answers by the notice's own refusal; where that is none, the row tells what was read.
+    pub told-in : {c : Refusal} {row′ : List ℤ} {areas′ text′ : List ℕ} → NoticeFills language s row areas text c row′ areas′ text′ → (c .code ≡ 6 → ⊥)
+        → (c ≡ told found) × (c .code ≡ 0 → Reads (eqb language 1) s areas text (Good (toldIn row′)) areas′ text′)
     told-in {c} {row′} {areas′} {text′} fills roomed =
         go found (named (eqb language 1) s) (subst (λ b. Lent (check (orBad b 4) 0 (roomy (length row) (housing (also wholeOf found)))) row areas text c row′ areas′ text′) (le-leb language 1 either) fills)
       where
         tells : Out Whole → Type 0
         tells o = (Good (toldIn row′) ≡ answerOf o) × (areas′ ≡ answered (λ x. ahead (x .1 .0) areas) (λ c. areas) o) × (text′ ≡ answered (λ x. ahead (x .1 .1) text) (λ c. text) o)
 
-        go : (o : Out (List ℕ)) → ((p : ℕ) → o ≡ refused 0 p → ⊥) → Lent (roomy (length row) (housing (also wholeOf o))) row areas text c row′ areas′ text′ → (c ≡ codeOf o) × (c ≡ 0 → tells (housing (also wholeOf o)))
-        go (refused d p) n l = (l .0, λ z. absurd (n p (ap (λ c. refused c p) (sym (l .0) ∙ z))))
+        go : (o : Out (List ℕ)) → ((p : ℕ) → o ≡ refused 0 p → ⊥) → Lent (roomy (length row) (housing (also wholeOf o))) row areas text c row′ areas′ text′ → (c ≡ told o) × (c .code ≡ 0 → tells (housing (also wholeOf o)))
+        go (refused d p) n l = (l .0, λ z. absurd (n p (ap (λ c. refused c p) (ap (λ r. r .code) (sym (l .0)) ∙ z))))
         go (accepted vs) n l = fits (leb (length (wholeOf vs .1 .0)) (length areas) && leb (length (wholeOf vs .1 .1)) (length text)) (leb 10 (length row)) l
           where
             fits : (a b : Bool) → let o = check (orBad a 6) 0 (accepted (wholeOf vs)) in
-                Lent (after o (λ x. check (orBad b 6) 0 (accepted x))) row areas text c row′ areas′ text′ → (c ≡ 0) × (c ≡ 0 → tells o)
-            fits false b l = absurd (roomed (l .0))
-            fits true false l = absurd (roomed (l .0))
+                Lent (after o (λ x. check (orBad b 6) 0 (accepted x))) row areas text c row′ areas′ text′ → (c ≡ bare 0) × (c .code ≡ 0 → tells o)
+            fits false b l = absurd (roomed (ap (λ r. r .code) (l .0)))
+            fits true false l = absurd (roomed (ap (λ r. r .code) (l .0)))
             fits true true l = (l .0, λ z. (ap (λ row. Good (toldIn row)) (l .1), l .2, l .3))

@@ -5,6 +5,7 @@ use mathlib.Core.List.{List, _∷_}
 use lib.IntN.{ℤ, pos}
 use lib.ListN.{length}
 use Rattle.format.specs.Promises.{readRecord}
+use Rattle.format.specs.declared.Refusal.{Refusal}
 use Rattle.format.specs.laws.Family.{never-read}
 use Rattle.area.specs.Area.{areas, recordOf as areaOf}
 use Rattle.area.specs.laws.Demands.{family as areaFamily}
@@ -36,30 +37,30 @@ use Rattle.c_rows.specs.Txsq.{rowOf as txsqRow, numbersOf as txsqNumbers
 use Rattle.c_rows.specs.Txxx.{rowOf as txxxRow, numbersOf as txxxNumbers}
 use Rattle.c_rows.specs.Warning.{rowOf as warningRow, numbersOf as warningNumbers}
 
-module _ (s : List ℕ) (row : List ℤ) (c : ℕ) (t : List ℤ) where
-  pub zero-report : Fills (reportNumbers s) row c t → c ≡ 0 → Filled (λ r. reportRow r) (readRecord reports reportOf s) row t
+module _ (s : List ℕ) (row : List ℤ) (c : Refusal) (t : List ℤ) where
+  pub zero-report : Fills (reportNumbers s) row c t → c .code ≡ 0 → Filled (λ r. reportRow r) (readRecord reports reportOf s) row t
   zero-report = zero-filling (λ r. reportRow r) (readRecord reports reportOf s) (never-read reportFamily s)
 
-  pub zero-gljc : Fills (gljcNumbers s) row c t → c ≡ 0 → Filled (λ r. entries (gljcRow r)) (readRecord gljcs gljcOf s) row t
+  pub zero-gljc : Fills (gljcNumbers s) row c t → c .code ≡ 0 → Filled (λ r. entries (gljcRow r)) (readRecord gljcs gljcOf s) row t
   zero-gljc = zero-filling (λ r. entries (gljcRow r)) (readRecord gljcs gljcOf s) (never-read gljcFamily s)
 
-  pub zero-txsq : Fills (txsqNumbers s) row c t → c ≡ 0 → Filled (λ r. entries (txsqRow (r .0))) (readRecord txsqs txsqOf s) row t
+  pub zero-txsq : Fills (txsqNumbers s) row c t → c .code ≡ 0 → Filled (λ r. entries (txsqRow (r .0))) (readRecord txsqs txsqOf s) row t
   zero-txsq = zero-filling (λ r. entries (txsqRow (r .0))) (readRecord txsqs txsqOf s) (never-read txsqFamily s)
 
-  pub zero-txxx : Fills (txxxNumbers s) row c t → c ≡ 0 → Filled (λ r. entries (txxxRow (r .0))) (readRecord txxxs txxxOf s) row t
+  pub zero-txxx : Fills (txxxNumbers s) row c t → c .code ≡ 0 → Filled (λ r. entries (txxxRow (r .0))) (readRecord txxxs txxxOf s) row t
   zero-txxx = zero-filling (λ r. entries (txxxRow (r .0))) (readRecord txxxs txxxOf s) (never-read txxxFamily s)
 
-  pub zero-txhz : Fills (txhzNumbers s) row c t → c ≡ 0 → Filled (λ r. entries (txhzRow r)) (readRecord txhzs txhzOf s) row t
+  pub zero-txhz : Fills (txhzNumbers s) row c t → c .code ≡ 0 → Filled (λ r. entries (txhzRow r)) (readRecord txhzs txhzOf s) row t
   zero-txhz = zero-filling (λ r. entries (txhzRow r)) (readRecord txhzs txhzOf s) (never-read txhzFamily s)
 
-  pub zero-warning : Fills (warningNumbers s) row c t → c ≡ 0 → Filled (λ r. entries (warningRow r)) (readRecord warnings warningOf s) row t
+  pub zero-warning : Fills (warningNumbers s) row c t → c .code ≡ 0 → Filled (λ r. entries (warningRow r)) (readRecord warnings warningOf s) row t
   zero-warning = zero-filling (λ r. entries (warningRow r)) (readRecord warnings warningOf s) (never-read warningFamily s)
 
-  pub zero-area : Fills (areaNumbers s) row c t → c ≡ 0 → Filled (λ r. areaRow r) (readRecord areas areaOf s) row t
+  pub zero-area : Fills (areaNumbers s) row c t → c .code ≡ 0 → Filled (λ r. areaRow r) (readRecord areas areaOf s) row t
   zero-area = zero-filling (λ r. areaRow r) (readRecord areas areaOf s) (never-read areaFamily s)
 
-  pub zero-packet : Fills (packetNumbers s) row c t → c ≡ 0 → Filled (λ r. entries (packetRow (r .0) (length (r .1)))) (readRecord packets packetOf s) row t
+  pub zero-packet : Fills (packetNumbers s) row c t → c .code ≡ 0 → Filled (λ r. entries (packetRow (r .0) (length (r .1)))) (readRecord packets packetOf s) row t
   zero-packet = zero-filling (λ r. entries (packetRow (r .0) (length (r .1)))) (readRecord packets packetOf s) (never-read packetFamily s)
 
-  pub zero-sentence : Fills (sentenceNumbers s) row c t → c ≡ 0 → Filled (λ x. pos (x .0) ∷ reportRow (x .1)) (readSentence s) row t
+  pub zero-sentence : Fills (sentenceNumbers s) row c t → c .code ≡ 0 → Filled (λ x. pos (x .0) ∷ reportRow (x .1)) (readSentence s) row t
   zero-sentence = zero-filling (λ x. pos (x .0) ∷ reportRow (x .1)) (readSentence s) (λ p e. no-zero-heard s (sym (ap heardOf e)))

@@ -6,7 +6,7 @@ use Prim.Native.Nat.{ℕ, zero, suc}
 use native.Mathlib.Nat.{add-zero}
 use lib.Dec.{eqb}
 use Rattle.format.specs.Fmt.{Out, accepted, refused, check, also}
-use Rattle.format.specs.Message.{Layout, fault, told, readMessage}
+use Rattle.format.specs.Message.{Layout, fault, told, leaves, refuses, readMessage}
 use Rattle.format.specs.Promises.{answered, refusedBy, plain, readRecord}
 use Rattle.format.specs.Refusals.{shown, bare}
 use Rattle.format.specs.declared.Refusal.{Refusal}
@@ -69,6 +69,10 @@ module _ {Q A : Type 0} (good : Q → A) (bad : Refusal → A) (outOf : A → Ou
       let (r, x, k) = good-accepts (λ r. r .0) o e in
       let shown = d ∙ ap (answered (λ r. r .1) (λ n. [])) x in
       x ∙ (λ i. accepted (k i, sym shown i))
+
+  -- a bad one is what the reading tells, and leaves what is lent
+  pub refused-told : (o : Out Q) (s : Q) {c : Refusal} → bad c ≡ answered good bad o → (c ≡ told o) × (s ≡ leaves o s)
+  refused-told o s e = let (p, is, k) = bad-refuses (λ r. r) o e in let (tells, stays) = refuses {s = s} is in (k ∙ tells, stays)
 
   -- what a good or a bad one tells is the reading, with the bit that is shown
   pub answer-plain : (o : Out Q) {a : A} → a ≡ answered good bad o → outOf a ≡ plain o

@@ -1,7 +1,8 @@
 -- The notice's layout is sound, and its judges refuse by the paper's numbers: so the laws on all layouts hold of it. Assumes nothing.
 use mathlib.Core.Path.{_≡_, refl}
 use mathlib.Core.Bool.{Bool, true, false, cond, _&&_, false≢true}
-use Prim.Native.Nat.{ℕ}
+use mathlib.Core.List.{List}
+use Prim.Native.Nat.{ℕ, _≤_}
 use native.Mathlib.Omega.{arith}
 use lib.Dec.{leb}
 use lib.ListN.{length}
@@ -32,11 +33,15 @@ sound english = record {
 -- ---- every judge refuses by a number of the paper
 
 spoken : (english : Bool) (n : ℕ) → Numbered (λ h b. unless (inLanguage english (bytesOf n b)) 4 0)
-spoken english n h b i e = go (inLanguage english (bytesOf n b)) e
+spoken english n = (λ h b i. named (inLanguage english (bytesOf n b)), λ h b c i. points (inLanguage english (bytesOf n b)) b c i)
   where
-    go : (x : Bool) → unless x 4 0 ≡ bad 0 i → ⊥
-    go true e = let z : _≡_ {A = ℕ} 0 1 = cc in omega arith
-    go false e = let z : _≡_ {A = ℕ} 4 0 = cc in omega arith
+    named : (x : Bool) {i : ℕ} → unless x 4 0 ≡ bad 0 i → ⊥
+    named true e = let z : _≡_ {A = ℕ} 0 1 = cc in omega arith
+    named false e = let z : _≡_ {A = ℕ} 4 0 = cc in omega arith
+
+    points : (x : Bool) (b : List Bool) (c i : ℕ) → unless x 4 0 ≡ bad c i → i ≤ length b
+    points true b c i e = let z : _≡_ {A = ℕ} 0 1 = cc in absurd (omega arith)
+    points false b c i e = let z : _≡_ {A = ℕ} 0 i = cc in omega arith
 
 pub judged : (english : Bool) → Judged (notice english)
 unfolding notice

@@ -3,8 +3,8 @@ use mathlib.Core.Path.{refl, sym, _∙_}
 use lib.Dec.{eqb}
 use borrow.Author.Needs.{needs}
 use borrow.Author.Tests.{le-leb, lt-leb}
-use Rattle.format.specs.Message.{refuses, accepts}
-use Rattle.format.specs.laws.Answers.{good-read, bad-refuses}
+use Rattle.format.specs.Message.{accepts}
+use Rattle.format.specs.laws.Answers.{good-read, refused-told}
 use Rattle.outline.specs.Promises.{counted, outOf}
 use Rattle.outline.specs.declared.Answer.the-variants.{Good, Refused}
 use Rattle.c_rows.proofs.outlines.outline.Statement.{statement}
@@ -30,7 +30,7 @@ returns-3 c =
     let i = d .before .before in
     let a = i .before .before .args in
     let e = d .outline .ensures in
-    let (code, points) = refuses (bad-refuses Good Refused outOf (λ q. refl) (λ c. refl) (λ r. r) (counted (eqb (a .language) 1) (a .s .now) (a .row .now)) (sym (w .answer2 .given .1) ∙ e .0) .1) in
+    let (code, points) = refused-told Good Refused outOf (λ q. refl) (λ c. refl) (counted (eqb (a .language) 1) (a .s .now) (a .row .now)) (a .points .now) (sym (w .answer2 .given .1) ∙ e .0) in
     rw (le-leb (a .language) 1 (i .if1 .left)) (code, e .1, points)
 
 pub outline-spec : {M : Type 1} → statement M

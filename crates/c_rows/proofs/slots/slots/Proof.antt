@@ -1,7 +1,7 @@
 -- `slots` hands on the answer of `slots::slots`.
 use mathlib.Core.Path.{refl, sym, _∙_}
-use Rattle.format.specs.Message.{refuses, accepts}
-use Rattle.format.specs.laws.Answers.{good-read, bad-refuses}
+use Rattle.format.specs.Message.{accepts}
+use Rattle.format.specs.laws.Answers.{good-read, refused-told}
 use Rattle.ais.specs.Slots.{slotsFor, outOf}
 use Rattle.ais.specs.declared.slot_count.Needed.the-variants.{Slots, Refused}
 use borrow.Author.Needs.{needs}
@@ -22,7 +22,7 @@ returns-2 c =
     let slots = m .before .before in
     let st = slots .before in
     let a = st .args in
-    refuses (bad-refuses Slots Refused outOf (λ q. refl) (λ c. refl) (λ r. r) (slotsFor (a .message) (a .bytes)) (sym (m .needed2 .given .1) ∙ slots .slots .ensures) .1)
+    refused-told Slots Refused outOf (λ q. refl) (λ c. refl) (slotsFor (a .message) (a .bytes)) (a .slots .now) (sym (m .needed2 .given .1) ∙ slots .slots .ensures)
 
 pub slots-spec : {M : Type 1} → statement M
 slots-spec =

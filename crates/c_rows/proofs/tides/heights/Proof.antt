@@ -1,7 +1,7 @@
 -- `heights` hands on the answer of `tide::heights::heights`.
 use mathlib.Core.Path.{refl, sym, _∙_}
-use Rattle.format.specs.Message.{refuses, accepts}
-use Rattle.format.specs.laws.Answers.{good-read, bad-refuses}
+use Rattle.format.specs.Message.{accepts}
+use Rattle.format.specs.laws.Answers.{good-read, refused-told}
 use Rattle.tide.specs.HeightsPromises.{counted, outOf}
 use Rattle.tide.specs.declared.heights.Answer.the-variants.{Good, Refused}
 use borrow.Author.Needs.{needs}
@@ -23,7 +23,7 @@ returns-2 c =
     let d = w .before .before .before in
     let a = d .before .before .before .args in
     let e = d .heights .ensures in
-    let (code, count) = refuses (bad-refuses Good Refused outOf (λ q. refl) (λ c. refl) (λ r. r) (counted (a .s .now) (a .row .now)) (sym (w .answer2 .given .1) ∙ e .0) .1) in
+    let (code, count) = refused-told Good Refused outOf (λ q. refl) (λ c. refl) (counted (a .s .now) (a .row .now)) (a .count .now) (sym (w .answer2 .given .1) ∙ e .0) in
     (code, e .1, count)
 
 pub heights-spec : {M : Type 1} → statement M
