@@ -4,7 +4,7 @@ ghost use mathlib.Core.Bool.{cond};
 ghost use mathlib.Core.Path.{_≡_};
 ghost use lib.Dec.{eqb};
 ghost use Rattle.daylog.specs.Promises.{Lists, Ends, Heads};
-pub use crate::kinds::code;
+pub use crate::kinds::refusal;
 use crate::kinds::entry;
 use crate::lines::line;
 use crate::lines::text;
@@ -15,6 +15,7 @@ pub use crate::records::keep;
 pub use crate::turns::State;
 pub use crate::turns::begin;
 pub use crate::turns::turn;
+use format::Refusal;
 
 pub mod kinds;
 pub mod lines;
@@ -78,7 +79,7 @@ pub fn ending(out: &mut [u8], number: u64, left: u64) -> Laid
     if left == 0 {
         return Laid { code: 0, bytes: 0 };
     }
-    let bytes = line(out, 0, number, b"broken", format::SIZE, left);
+    let bytes = line(out, 0, number, b"broken", Refusal::SIZE, left);
     Laid {
         code: no_room(bytes),
         bytes,
@@ -89,7 +90,7 @@ pub fn ending(out: &mut [u8], number: u64, left: u64) -> Laid
 pub fn heading(out: &mut [u8]) -> Laid
     ensures { λ r. ⌜ Heads (now (out .entry)) r (now (out .exit)) ⌝ }
 {
-    let bytes = text(out, 0, b"n kind code bytes\n");
+    let bytes = text(out, 0, b"n kind code bytes bit\n");
     Laid {
         code: no_room(bytes),
         bytes,

@@ -6,42 +6,46 @@ ghost use lib.Dec.{leb};
 ghost use lib.ListN.{length};
 ghost use Rattle.daylog.specs.LinesText.{decimal as Text·decimal, line as Text·line};
 ghost use Rattle.daylog.specs.Stores.{placed, Stores};
+use format::Refusal;
 
-// All of the longest line but its word: two numbers of 20 digits, a code of 3, three spaces and the line feed.
-const COLUMNS: usize = 47;
+// All of the longest line but its word: three numbers of 20 digits, a code of 3, four spaces and the line feed.
+const COLUMNS: usize = 68;
 
-// A line: number, word, code and bytes. Where it has no room, answers the same offset and leaves every byte.
-pub fn line(out: &mut [u8], at: usize, number: u64, word: &[u8], code: u8, bytes: u64) -> usize
-    ensures { λ r. ⌜ Stores (now (out .entry)) at (placed (now (out .entry)) at (Text·line number (now (word .entry)) code bytes)) r (now (out .exit)) ⌝ }
+// A line: number, word, code, bytes and bit. Where it has no room, answers the same offset and leaves every byte.
+pub fn line(out: &mut [u8], at: usize, number: u64, word: &[u8], refusal: Refusal, bytes: u64) -> usize
+    ensures { λ r. ⌜ Stores (now (out .entry)) at (placed (now (out .entry)) at (Text·line number (now (word .entry)) refusal bytes)) r (now (out .exit)) ⌝ }
 {
-    if line_fits(out.len(), at, number, word, code, bytes) {
-        return columns(out, at, number, word, code, bytes);
+    if line_fits(out.len(), at, number, word, refusal, bytes) {
+        return columns(out, at, number, word, refusal, bytes);
     }
     at
 }
 
 // Whether the line has room at offset `at` of `len` bytes. Where the longest one with its word has, no digit is counted.
-fn line_fits(len: usize, at: usize, number: u64, word: &[u8], code: u8, bytes: u64) -> bool
-    ensures { λ r. ⌜ r ≡ leb (at + length (Text·line number (now (word .entry)) code bytes)) len ⌝ }
+fn line_fits(len: usize, at: usize, number: u64, word: &[u8], refusal: Refusal, bytes: u64) -> bool
+    ensures { λ r. ⌜ r ≡ leb (at + length (Text·line number (now (word .entry)) refusal bytes)) len ⌝ }
 {
     if has_room(len, at, word.len() + COLUMNS) {
         return true;
     }
-    let digits = digit_count(number) + digit_count(code as u64) + digit_count(bytes);
-    has_room(len, at, word.len() + digits + 4)
+    let told = digit_count(refusal.code as u64) + digit_count(refusal.bit as u64);
+    let digits = digit_count(number) + told + digit_count(bytes);
+    has_room(len, at, word.len() + digits + 5)
 }
 
-fn columns(out: &mut [u8], at: usize, number: u64, word: &[u8], code: u8, bytes: u64) -> usize
-    requires { ⌜ at + length (Text·line number (now word) code bytes) ≤ length (now out) ⌝ }
-    ensures { λ r. ⌜ Stores (now (out .entry)) at (Text·line number (now (word .entry)) code bytes) r (now (out .exit)) ⌝ }
+fn columns(out: &mut [u8], at: usize, number: u64, word: &[u8], refusal: Refusal, bytes: u64) -> usize
+    requires { ⌜ at + length (Text·line number (now word) refusal bytes) ≤ length (now out) ⌝ }
+    ensures { λ r. ⌜ Stores (now (out .entry)) at (Text·line number (now (word .entry)) refusal bytes) r (now (out .exit)) ⌝ }
 {
     let at = decimal(out, at, number);
     let at = mark(out, at, b' ');
     let at = put(out, at, word);
     let at = mark(out, at, b' ');
-    let at = decimal(out, at, code as u64);
+    let at = decimal(out, at, refusal.code as u64);
     let at = mark(out, at, b' ');
     let at = decimal(out, at, bytes);
+    let at = mark(out, at, b' ');
+    let at = decimal(out, at, refusal.bit as u64);
     mark(out, at, b'\n')
 }
 

@@ -69,7 +69,7 @@ fn window(t: State, input: &mut [u8], got: usize, text: &mut [u8]) -> State
     requires { ⌜ t .waiting + got ≤ length (now input) ⌝ }
     ensures { λ r. ⌜ Gives r (now (input .exit)) (now (text .exit))
         (listingOf t (take (t .waiting + got) (now (input .entry))) (now (input .entry)) got (now (text .entry))) ⌝ }
-    ensures { λ r. ⌜ (55 ≤ length (now (text .entry)) → t .waiting < length (now (input .entry)) → r .code ≡ 0) ⌝ }
+    ensures { λ r. ⌜ (76 ≤ length (now (text .entry)) → t .waiting < length (now (input .entry)) → r .code ≡ 0) ⌝ }
 {
     let have = t.waiting + got;
     let listed = list(&input[..have], t.number, text);
@@ -109,7 +109,7 @@ fn is_bad(s: &[u8]) -> bool
 // Counts what was read of a broken record, in an input of `len` bytes.
 fn count(t: State, len: usize, got: usize, text: &mut [u8]) -> State
     ensures { λ r. ⌜ ((input : List ℕ) → length input ≡ len → Gives r input (now (text .exit)) (counting t input got (now (text .entry)))) ⌝ }
-    ensures { λ r. ⌜ (55 ≤ length (now (text .entry)) → t .waiting < len → r .code ≡ 0) ⌝ }
+    ensures { λ r. ⌜ (76 ≤ length (now (text .entry)) → t .waiting < len → r .code ≡ 0) ⌝ }
 {
     if got == 0 {
         return end(t, t.left, len, text);
@@ -121,7 +121,7 @@ fn count(t: State, len: usize, got: usize, text: &mut [u8]) -> State
 // The log has ended, and `left` bytes are left. Where the input had no room to read into, nobody knows that: 6.
 fn end(t: State, left: u64, len: usize, text: &mut [u8]) -> State
     ensures { λ r. ⌜ ((input : List ℕ) → length input ≡ len → Gives r input (now (text .exit)) (Turns·ending t left input (now (text .entry)))) ⌝ }
-    ensures { λ r. ⌜ (55 ≤ length (now (text .entry)) → t .waiting < len → r .code ≡ 0) ⌝ }
+    ensures { λ r. ⌜ (76 ≤ length (now (text .entry)) → t .waiting < len → r .code ≡ 0) ⌝ }
 {
     if t.waiting < len {
         let line = ending(text, t.number, left);
