@@ -5,16 +5,18 @@ use mathlib.Core.List.{List}
 use lib.Dec.{leb, eqb}
 use lib.ListN.{length}
 use Rattle.bits.specs.Bits.{fieldAt}
-use Rattle.format.specs.Message.{readMessage, codeOf as refusal}
+use Rattle.format.specs.Message.{readMessage, told}
+use Rattle.format.specs.Refusals.{bare}
+use Rattle.format.specs.declared.Refusal.{Refusal}
 use Rattle.area.specs.Area.{areas}
 use Rattle.warning.specs.Warning.{warnings}
 
 -- as the message of that number is read; another is 2
-unfoldable pub codeAs : ℕ → List ℕ → ℕ
-codeAs message s =
-    cond (eqb message 6) (refusal (readMessage areas s))
-    (cond (eqb message 8) (refusal (readMessage warnings s)) 2)
+unfoldable pub refusalAs : ℕ → List ℕ → Refusal
+refusalAs message s =
+    cond (eqb message 6) (told (readMessage areas s))
+    (cond (eqb message 8) (told (readMessage warnings s)) (bare 2))
 
--- the smallest size (1), then by the message's number
-unfoldable pub codeOf : List ℕ → ℕ
-codeOf s = cond (leb 23 (length s)) (codeAs (fieldAt s 0 6) s) 1
+-- the smallest size (1), then by the message's number; neither is met at a field
+unfoldable pub refusalOf : List ℕ → Refusal
+refusalOf s = cond (leb 23 (length s)) (refusalAs (fieldAt s 0 6) s) (bare 1)

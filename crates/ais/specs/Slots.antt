@@ -4,7 +4,7 @@ use mathlib.Core.Bool.{cond}
 use mathlib.Core.List.{List, [], _∷_}
 use lib.Dec.{leb, eqb}
 use Rattle.format.specs.Fmt.{Out, accepted, refused}
-use Rattle.format.specs.Promises.{answered}
+use Rattle.format.specs.Promises.{answered, refusedBy}
 use Rattle.ais.specs.declared.slot_count.Needed.{Needed}
 use Rattle.ais.specs.declared.slot_count.Needed.the-variants.{Slots, Refused}
 
@@ -28,11 +28,11 @@ slotsIn ls n = cond (eqb n 0) (refused 1 0) (firstOf 1 ls n)
 unfoldable pub slotsFor : ℕ → ℕ → Out ℕ
 slotsFor message n = cond (eqb message 6) (slotsIn addressed n) (cond (eqb message 8) (slotsIn broadcast n) (refused 2 0))
 
--- the paper's number and value
+-- the paper's refusals and value; no refusal has a bit
 abbrev pub answerOf : Out ℕ → Needed
 answerOf = answered Slots Refused
 
 -- an answer taken apart
 abbrev pub outOf : Needed → Out ℕ
 outOf (Slots n) = accepted n
-outOf (Refused c) = refused c 0
+outOf (Refused c) = refusedBy c

@@ -3,10 +3,11 @@ ghost use mathlib.Core.Path.{_≡_};
 ghost use lib.ListN.{length};
 ghost use Prim.Native.Nat.{_<_};
 ghost use Rattle.ais.specs.Slots.{slotsFor, slotsIn, answerOf};
+use format::Refusal;
 
 pub enum Needed {
     Slots(u8),
-    Refused(u8),
+    Refused(Refusal),
 }
 
 // The most data bytes of 1 to 5 slots, for message 6 and for message 8.
@@ -24,7 +25,7 @@ pub fn slots(message: u8, bytes: usize) -> Needed
     if message == 8 {
         return slots_in(&BROADCAST, bytes);
     }
-    Needed::Refused(format::KIND)
+    Needed::Refused(Refusal::KIND)
 }
 
 // By a table of the most bytes of 1 slot, of 2, and so on.
@@ -33,7 +34,7 @@ fn slots_in(limits: &[usize], bytes: usize) -> Needed
     ensures { λ r. ⌜ r ≡ answerOf (slotsIn (now (limits .entry)) bytes) ⌝ }
 {
     if bytes == 0 {
-        return Needed::Refused(format::SIZE);
+        return Needed::Refused(Refusal::SIZE);
     }
     let mut i = 0;
     while i < limits.len() {
@@ -42,5 +43,5 @@ fn slots_in(limits: &[usize], bytes: usize) -> Needed
         }
         i += 1;
     }
-    Needed::Refused(format::SIZE)
+    Needed::Refused(Refusal::SIZE)
 }

@@ -5,9 +5,11 @@ use mathlib.Core.List.{List, [], _∷_}
 use lib.ListN.{getD}
 use Rattle.ais_common.specs.Lead.{application, headOf, leads}
 use Rattle.ais_common.specs.declared.head.Asked.{Asked}
-use Rattle.format.specs.Fmt.{Out, accepted, refused, Fmt, end, choice}
-use Rattle.format.specs.Message.{Layout, codeOf}
-use Rattle.format.specs.Promises.{answered}
+use Rattle.format.specs.Fmt.{Out, accepted, Fmt, end, choice}
+use Rattle.format.specs.Message.{Layout}
+use Rattle.format.specs.Promises.{answered, refusedBy}
+use Rattle.format.specs.Refusals.{bare}
+use Rattle.format.specs.declared.Refusal.{Refusal}
 use Rattle.format.specs.Words.{_‥_, only, _▹_, num, code, fill}
 use Rattle.ais_common.specs.Time.{time, shortTime, spellTime, timeOf, spellShort, shortOf}
 use Rattle.area.specs.Shapes.{kindOf, typeOf, shape, shapeKind, shapeValues, shapeOf}
@@ -77,14 +79,15 @@ recordOf vs = record {
   advice = getD vs 17 0;
 }
 
--- the paper's number and values
+-- the paper's refusals and values
 abbrev pub answerOf : Out Area → Answer
 answerOf = answered Good Refused
 
--- an answer taken apart, and its number
+-- an answer taken apart, and its refusal
 abbrev pub outOf : Answer → Out Area
 outOf (Good r) = accepted r
-outOf (Refused c) = refused c 0
+outOf (Refused c) = refusedBy c
 
-abbrev pub numberOf : Answer → ℕ
-numberOf a = codeOf (outOf a)
+abbrev pub refusalOf : Answer → Refusal
+refusalOf (Good r) = bare 0
+refusalOf (Refused c) = c

@@ -8,8 +8,9 @@ use Rattle.ais_common.specs.Lead.{told}
 use Rattle.bits.specs.Bits.{bit, valueOf, digits, bitsOf, bytesOf, fieldAt}
 use Rattle.walk.specs.Sign.{intOf, spellOf}
 use Rattle.format.specs.Fmt.{accepted, refused, readField, read, writeField, write, spot}
-use Rattle.format.specs.Message.{codeOf, readMessage, writeMessage, correctMessage}
+use Rattle.format.specs.Message.{told as refusal, readMessage, writeMessage, correctMessage}
 use Rattle.format.specs.Promises.{readRecord}
+use Rattle.format.specs.Refusals.{bare}
 use Rattle.format.specs.Words.{walk, wide}
 use Rattle.ais_common.specs.Time.{spellTime, timeOf, spellShort, shortOf}
 use Rattle.area.specs.Area.{area, areas, valuesAs, valuesOf, recordOf}
@@ -55,7 +56,7 @@ unfolding writeMessage areas area write writeField walk wide valuesAs spellOf sp
 circle-back = refl
 
 -- 180° is good and what stands past it is not, but for 181°, which means none
-circle-far : codeOf (writeMessage areas (valuesOf (dumped 108_000_000))) ≡ 0
+circle-far : refusal (writeMessage areas (valuesOf (dumped 108_000_000))) ≡ bare 0
 unfolding writeMessage areas area write writeField walk wide valuesAs spellOf spellTime spellShort valueOf bit digits bytesOf
 circle-far = refl
 
@@ -63,7 +64,7 @@ circle-past : writeMessage areas (valuesOf (dumped 108_000_001)) ≡ refused 4 9
 unfolding writeMessage areas area write writeField walk wide valuesAs spellOf spellTime spellShort valueOf bit digits
 circle-past = refl
 
-circle-none : codeOf (writeMessage areas (valuesOf (dumped 108_600_000))) ≡ 0
+circle-none : refusal (writeMessage areas (valuesOf (dumped 108_600_000))) ≡ bare 0
 unfolding writeMessage areas area write writeField walk wide valuesAs spellOf spellTime spellShort valueOf bit digits bytesOf
 circle-none = refl
 

@@ -1,19 +1,31 @@
--- What the code's steps over a shape leave: where reading, judging or putting stood at it, bit 94, it stands behind it, bit 204. Assumes nothing.
+-- What the code's steps leave: reading the fields before the shape stands at it, bit 94; over a shape, where reading, judging or putting stood at it, it stands behind it, bit 204. Assumes nothing.
 use Prim.Native.Nat.{ℕ, _+_, _<_, _^_}
 use mathlib.Core.Path.{_≡_}
 use mathlib.Core.Bool.{Bool}
 use mathlib.Core.List.{List, [], _∷_, reverseAux}
 use lib.IntN.{ℤ}
-use Rattle.format.specs.Fmt.{Out, Fmt}
+use Rattle.bits.specs.Bits.{bitsOf}
+use Rattle.format.specs.Fmt.{Out, Fmt, check, read}
+use Rattle.format.specs.Message.{fault}
 use Rattle.format.specs.laws.Putting.{Putting}
 use Rattle.walk.specs.Reading.{signedly}
 use Rattle.walk.specs.laws.Judging.{Judging}
 use Rattle.walk.specs.laws.Step.{Reading}
 use Rattle.walk.specs.declared.walk.Walk.{Walk}
 use Rattle.area.specs.Shapes.{Kind, kindOf, typeOf, point, shape, spellEast, spellNorth, shapeKind, shapeValues}
+use Rattle.area.specs.Area.{tail, area}
+use Rattle.area.specs.declared.reading.Opened.{Opened}
 use Rattle.area.specs.declared.reading.shapes.Passed.{Passed}
 use Rattle.area.specs.declared.reading.shapes.Shape.{Shape}
 use Rattle.area.specs.declared.reading.shapes.Shape.the-variants.{Circle, Rectangle}
+
+-- the values before the shape, in bit order, in front of others
+abbrev opening : Opened → List ℕ → List ℕ
+opening g vs = 6 ∷ g .repeat ∷ g .source ∷ g .sequence ∷ g .destination ∷ g .resent ∷ 0 ∷ 412 ∷ 11 ∷ g .kind ∷ g .walk .v ∷ vs
+
+-- they were read behind the first tests' answer `lead`
+pub record OpeningRead (s : List ℕ) (lead : ℕ) (g : Opened) : Type 0 where
+  pub on : Reading (check (fault lead) 0 (read area [] 0 (bitsOf s))) area 0 s (shape (kindOf (g .walk .v)) tail) (reverseAux (opening g []) []) 94 (opening g) (g .walk)
 
 -- the walk past a longitude, and past a latitude
 abbrev pub eastRead : List ℕ → Walk → Walk

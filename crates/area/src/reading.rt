@@ -6,6 +6,7 @@ ghost use Rattle.format.specs.Fmt.{also};
 ghost use Rattle.format.specs.Message.{fieldsOf};
 ghost use Rattle.area.specs.Area.{area, areas, recordOf, answerOf, refusalOf};
 ghost use Rattle.area.specs.Promises.{Reads};
+ghost use Rattle.area.specs.Steps.{OpeningRead};
 ghost use Rattle.area.specs.declared.reading.Answer.the-variants.{Good, Refused};
 pub use ais_common::head::AUTHORITY;
 use format::Refusal;
@@ -95,13 +96,21 @@ pub fn lead(s: &[u8]) -> u8
     ais_common::head::lead(s.len(), head, asked)
 }
 
-// The fields in bit order, behind the first tests' answer. Another size is refused at once: no field has then to be tested for it.
-pub fn fields(s: &[u8], lead: u8) -> Answer
-    ensures { λ r. ⌜ r ≡ answerOf (also recordOf (fieldsOf area 31 31 lead (now (s .entry)))) ⌝ }
+// The fields before the shape, and the walk behind them, whose last value is the shape's number.
+pub struct Opened {
+    pub repeat: u8,
+    pub source: u32,
+    pub sequence: u8,
+    pub destination: u32,
+    pub resent: u8,
+    pub kind: u8,
+    pub walk: walk::walk::Walk,
+}
+
+// They are read in bit order, behind the first tests' answer.
+fn opening(s: &[u8], lead: u8) -> Opened
+    ensures { λ r. ⌜ OpeningRead (now (s .entry)) lead r ⌝ }
 {
-    if s.len() != Area::LEAST {
-        return Answer::Refused(Refusal::bare(choose_code(no_refusal(lead), format::SIZE, lead)));
-    }
     let w = walk::walk::Walk::begin(lead, 0).code(s, 6, MESSAGE);
     let w = w.num(s, 2, 0, 3);
     let repeat = w.v as u8;
@@ -116,7 +125,30 @@ pub fn fields(s: &[u8], lead: u8) -> Answer
     let w = w.fill(s, 1).code(s, 10, AUTHORITY).code(s, 6, APPLICATION);
     let w = w.num(s, 4, 1, 14);
     let kind = w.v as u8;
-    let w = w.number(s, 2, false, 1, 2, format::KIND);
+    Opened {
+        repeat,
+        source,
+        sequence,
+        destination,
+        resent,
+        kind,
+        walk: w.number(s, 2, false, 1, 2, format::KIND),
+    }
+}
+
+// The fields in bit order. Another size is refused at once: no field has then to be tested for it. What is refused before the shape is
+// answered there.
+pub fn fields(s: &[u8], lead: u8) -> Answer
+    ensures { λ r. ⌜ r ≡ answerOf (also recordOf (fieldsOf area 31 31 lead (now (s .entry)))) ⌝ }
+{
+    if s.len() != Area::LEAST {
+        return Answer::Refused(Refusal::bare(choose_code(no_refusal(lead), format::SIZE, lead)));
+    }
+    let begun = opening(s, lead);
+    let w = begun.walk;
+    if w.code != 0 {
+        return Answer::Refused(w.refusal());
+    }
     let passed = shapes::read(s, w.v, w);
     let shape = passed.shape;
     let w = ais_common::time::read(s, passed.walk);
@@ -127,12 +159,12 @@ pub fn fields(s: &[u8], lead: u8) -> Answer
     let advice = w.v as u8;
     let w = w.fill(s, 6).end(s);
     let r = Area {
-        repeat,
-        source,
-        sequence,
-        destination,
-        resent,
-        kind,
+        repeat: begun.repeat,
+        source: begun.source,
+        sequence: begun.sequence,
+        destination: begun.destination,
+        resent: begun.resent,
+        kind: begun.kind,
         shape,
         time,
         second_time,

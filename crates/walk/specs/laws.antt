@@ -4,6 +4,7 @@ pub mod Reading
 pub mod Group
 pub mod Along
 pub mod Walked
+pub mod Stopped
 pub mod Judging
 pub mod Pieces
 pub mod Parts

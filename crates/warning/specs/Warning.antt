@@ -6,9 +6,11 @@ use lib.ListN.{getD, drop}
 use Rattle.ais_common.specs.Lead.{application, headOf, leads}
 use Rattle.ais_common.specs.declared.head.Asked.{Asked}
 use Rattle.warning.specs.Bodies.{Kind, kindOf, typeOf, body, bodyKind, bodyLong, bodyValues, bodyOf}
-use Rattle.format.specs.Fmt.{Out, accepted, refused, Fmt, end, choice}
-use Rattle.format.specs.Message.{Layout, codeOf}
-use Rattle.format.specs.Promises.{answered}
+use Rattle.format.specs.Fmt.{Out, accepted, Fmt, end, choice}
+use Rattle.format.specs.Message.{Layout}
+use Rattle.format.specs.Promises.{answered, refusedBy}
+use Rattle.format.specs.Refusals.{bare}
+use Rattle.format.specs.declared.Refusal.{Refusal}
 use Rattle.format.specs.Words.{_‥_, only, _▹_, num, code, fill}
 use Rattle.ais_common.specs.Time.{time, spellTime, timeOf}
 use Rattle.warning.specs.declared.reading.Warning.{Warning}
@@ -94,14 +96,15 @@ recordAs t vs = record {
 abbrev pub recordOf : List ℕ → Warning
 recordOf vs = recordAs (kindOf (getD vs 6 0)) vs
 
--- the paper's number and values
+-- the paper's refusals and values
 abbrev pub answerOf : Out Warning → Answer
 answerOf = answered Good Refused
 
--- an answer taken apart, and its number
+-- an answer taken apart, and its refusal
 abbrev pub outOf : Answer → Out Warning
 outOf (Good r) = accepted r
-outOf (Refused c) = refused c 0
+outOf (Refused c) = refusedBy c
 
-abbrev pub numberOf : Answer → ℕ
-numberOf a = codeOf (outOf a)
+abbrev pub refusalOf : Answer → Refusal
+refusalOf (Good r) = bare 0
+refusalOf (Refused c) = c

@@ -89,7 +89,8 @@ pub fn lead(s: &[u8]) -> u8
     ais_common::head::lead(s.len(), head, asked)
 }
 
-// The fields in bit order, behind the first tests' answer. Another size is refused at once: no field has then to be tested for it.
+// The fields in bit order, behind the first tests' answer. Another size is refused at once: no field has then to be tested for it. What is
+// refused before the body is answered there.
 pub fn fields(s: &[u8], lead: u8) -> Answer
     ensures { λ r. ⌜ r ≡ answerOf (also recordOf (fieldsOf warning 23 23 lead (now (s .entry)))) ⌝ }
 {
@@ -108,6 +109,9 @@ pub fn fields(s: &[u8], lead: u8) -> Answer
     let longitude = w.v as u32;
     let w = w.num(s, 23, 0, 7_200_000);
     let latitude = w.v as u32;
+    if w.code != 0 {
+        return Answer::Refused(w.refusal());
+    }
     let passed = crate::bodies::read(s, kind, w);
     let body = passed.body;
     let w = ais_common::time::read(s, passed.walk);

@@ -14,6 +14,8 @@ use Rattle.walk.specs.laws.Sign.{spell-int}
 use Rattle.format.specs.Fmt.{Spot, accepted, end, spot}
 use Rattle.format.specs.Settled.{Settled}
 use Rattle.format.specs.Promises.{readRecord, Writes, Corrects}
+use Rattle.format.specs.Refusals.{bare}
+use Rattle.format.specs.declared.Refusal.{Refusal}
 use Rattle.format.specs.Words.{_‥_, num, fill, wide}
 use Rattle.format.specs.laws.Answers.{good-read, answer-plain}
 use Rattle.format.specs.laws.Entries.{entries}
@@ -168,13 +170,13 @@ pub good : (s : List ℕ) (r : Area) → Reads s (Good r) → readRecord areas r
 good s r = good-read Good Refused outOf (λ q. refl) (λ c. refl) (readRecord areas recordOf s)
 
 -- What is written is read back as the same record.
-pub written-reads : (s : List ℕ) (r : Area) (t : List ℕ) → Writes areas s 0 t (valuesOf r) → Reads (take 31 t) (Good r)
+pub written-reads : (s : List ℕ) (r : Area) (t : List ℕ) → Writes areas s (bare 0) t (valuesOf r) → Reads (take 31 t) (Good r)
 unfolding areas
 written-reads s r t w = sym (ap answerOf (written-front family s r t 31 tt w (one-size areas 31 refl refl (valuesOf r))))
 
 -- What is read is written back as the same bytes.
-pub read-writes-back : (s : List ℕ) (r : Area) → Bytes s → Reads s (Good r) → (u : List ℕ) (code : ℕ) (t : List ℕ) → length s ≤ length u → Writes areas u code t (valuesOf r)
-    → (code ≡ 0) × (t ≡ s ++ drop (length s) u)
+pub read-writes-back : (s : List ℕ) (r : Area) → Bytes s → Reads s (Good r) → (u : List ℕ) (code : Refusal) (t : List ℕ) → length s ≤ length u → Writes areas u code t (valuesOf r)
+    → (code ≡ bare 0) × (t ≡ s ++ drop (length s) u)
 read-writes-back s r fine a = read-written family s r fine (good s r a)
 
 -- the shape's number in the bytes is that of the record's shape
@@ -193,7 +195,7 @@ looked-stands s n k fine is there r e =
     ap (λ t. spot (areas .fmt) [] (valuesOf r) (fieldOf t n)) (sym shape) ∙ spotted r (fieldOf k n) ∙ ap (λ t. spotOf t (fieldOf k n)) (sym kind) ∙ there
 
 -- Demand 3: every correction of an area, by any number and any value.
-pub corrected : (s : List ℕ) (a : Answer) → Bytes s → Reads s a → (n v code : ℕ) (t : List ℕ) → Corrects areas s (fieldOf (fieldAt s 92 2) n) v code t
+pub corrected : (s : List ℕ) (a : Answer) → Bytes s → Reads s a → (n v : ℕ) (code : Refusal) (t : List ℕ) → Corrects areas s (fieldOf (fieldAt s 92 2) n) v code t
     → Settled areas spotBy valuesOf changedBy s (outOf a) n v code t
 corrected s a fine reads n v code t c =
     settled-named family (λ r. spotOf (shapeKind (r .shape))) spotted s fine (fieldOf (fieldAt s 92 2) n) v code t c namedBy n (λ r e. ap (λ k. fieldOf k n) (shape-number s r fine e))

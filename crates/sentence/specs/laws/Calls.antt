@@ -8,7 +8,10 @@ use lib.ListN.{length, drop, drop-of-length-le}
 use borrow.Author.Tests.{le-leb, lt-leb, leb-true, leb-false}
 use Rattle.bits.specs.Bits.{Bytes}
 use Rattle.format.specs.Fmt.{Out, accepted, refused, also}
-use Rattle.format.specs.Message.{codeOf, leaves, into, writeMessage}
+use Rattle.format.specs.Message.{told, leaves, into, writeMessage}
+use Rattle.format.specs.Refusals.{shown, bare}
+use Rattle.format.specs.laws.Refusals.{shown-bare}
+use Rattle.format.specs.declared.Refusal.{Refusal}
 use Rattle.format.specs.laws.Whole.{made}
 use Rattle.format.specs.laws.Family.{never-written}
 use Rattle.format.specs.Promises.{readRecord, Writes}
@@ -18,7 +21,7 @@ use Rattle.sentence.specs.Pattern.{Laid, opening, summedUp, sentence, ad
 use Rattle.sentence.specs.Spelling.{allDigits, decimal, unhexed}
 use Rattle.sentence.specs.Sentence.{readSentence, writeSentence, roomFor, heardOf, sentOf, laidOver, Sends}
 use Rattle.sentence.specs.laws.Parts.{summed-long}
-use Rattle.sentence.specs.laws.Tests.{led, passed, pattern-both}
+use Rattle.sentence.specs.laws.Tests.{led, passed, around-bare, pattern-both}
 use Rattle.distress.specs.declared.reading.Report.{Report}
 use Rattle.distress.specs.declared.reading.Answer.{Answer}
 use Rattle.distress.specs.declared.reading.Answer.the-variants.{Good as GoodReport, Refused as BadReport}
@@ -34,12 +37,12 @@ pub heard-fails : (s : List ℕ) (c p : ℕ) → aroundSo s ≡ refused c p → 
 unfolding readSentence
 heard-fails s c p e = rw e refl
 
-pub heard-refused : (s : List ℕ) (x : Around) (c : ℕ) → x ≡ aroundOf (aroundSo s) → x ≡ Refuses c → heardOf (readSentence s) ≡ Refused c
+pub heard-refused : (s : List ℕ) (x : Around) (c : ℕ) → x ≡ aroundOf (aroundSo s) → x ≡ Refuses c → heardOf (readSentence s) ≡ Refused (bare c)
 heard-refused s x c e f = go (aroundSo s) refl e
   where
-    go : (o : Out (ℕ × List ℕ)) → aroundSo s ≡ o → x ≡ aroundOf o → heardOf (readSentence s) ≡ Refused c
+    go : (o : Out (ℕ × List ℕ)) → aroundSo s ≡ o → x ≡ aroundOf o → heardOf (readSentence s) ≡ Refused (bare c)
     go (accepted y) g e = let z : _≡_ {A = ℕ} 0 1 = cc in absurd (omega arith)
-    go (refused d p) g e = let z : d ≡ c = cc in ap heardOf (heard-fails s d p g) ∙ ap Refused z
+    go (refused d p) g e = let z : d ≡ c = cc in ap heardOf (heard-fails s d p g) ∙ ap (λ p. Refused (shown d p)) (around-bare s d p g) ∙ ap Refused (shown-bare d ∙ ap bare z)
 
 -- an accepted sentence: its size, its digits, and what is inside
 pub record Taken (s : List ℕ) (a : ℕ) : Type 0 where
@@ -82,20 +85,20 @@ unfolding reports
 bytewise vs bs e = let m = made reports bs vs e in record { long = long vs bs e; fine = subst Bytes (m .closes) (m .fine) }
 
 -- what writing into 17 bytes says
-pub record Reported (r : Report) (code : ℕ) (t : List ℕ) : Type 0 where
-  pub good : code ≡ 0 → writeMessage reports (valuesOf r) ≡ accepted t
-  pub bad : (code ≡ 0 → ⊥) → codeOf (writeMessage reports (valuesOf r)) ≡ code
+pub record Reported (r : Report) (code : Refusal) (t : List ℕ) : Type 0 where
+  pub good : code .code ≡ 0 → writeMessage reports (valuesOf r) ≡ accepted t
+  pub bad : (code .code ≡ 0 → ⊥) → code ≡ told (writeMessage reports (valuesOf r))
 
-pub reported : (u : List ℕ) (r : Report) (code : ℕ) (t : List ℕ) → length u ≡ 17 → Writes reports u code t (valuesOf r) → Reported r code t
+pub reported : (u : List ℕ) (r : Report) (code : Refusal) (t : List ℕ) → length u ≡ 17 → Writes reports u code t (valuesOf r) → Reported r code t
 reported u r code t n (z, x) = go (writeMessage reports (valuesOf r)) refl z x
   where
-    go : (o : Out (List ℕ)) → writeMessage reports (valuesOf r) ≡ o → code ≡ codeOf (into u o) → t ≡ leaves (into u o) u → Reported r code t
-    go (refused c p) e z x = record { good = λ h. absurd (never-written family r p tt (e ∙ ap (λ c. refused c p) (sym z ∙ h))); bad = λ h. ap codeOf e ∙ sym z }
+    go : (o : Out (List ℕ)) → writeMessage reports (valuesOf r) ≡ o → code ≡ told (into u o) → t ≡ leaves (into u o) u → Reported r code t
+    go (refused c p) e z x = record { good = λ h. absurd (never-written family r p tt (e ∙ ap (λ c. refused c p) (sym (ap (λ c. c .code) z) ∙ h))); bad = λ h. z ∙ sym (ap told e) }
     go (accepted m) e z x =
         let l = bytewise (valuesOf r) m e .long in
         let y : into u (accepted m) ≡ accepted m =
         rw (le-leb (length m) (length u) (omega arith)) (ap (λ q. accepted (m ++ q)) (drop-of-length-le u {i = length m} (omega arith)) ∙ ap accepted (append-nil m)) in
-        record { good = λ h. e ∙ ap accepted (sym (x ∙ ap (λ o. leaves o u) y)); bad = λ h. absurd (h (z ∙ ap codeOf y)) }
+        record { good = λ h. e ∙ ap accepted (sym (x ∙ ap (λ o. leaves o u) y)); bad = λ h. absurd (h (ap (λ c. c .code) (z ∙ ap told y))) }
 
 -- ---- writing
 
@@ -103,25 +106,25 @@ pub sends : (s : List ℕ) (a : ℕ) (r : Report) (o : Out (List ℕ)) → roomF
 sends s a r o e = (ap sentOf (sym e), ap (λ o. laidOver o s) (sym e))
 
 module _ (s : List ℕ) (a : ℕ) (r : Report) where
-  pub bad-address : addressGood a ≡ false → Sends s a r (Unsent 4) s
+  pub bad-address : addressGood a ≡ false → Sends s a r (Unsent (bare 4)) s
   unfolding writeSentence
   bad-address e = sends s a r (refused 4 0) (rw e refl)
 
   module _ (good : addressGood a ≡ true) where
-    pub bad-report : (c : ℕ) → (c ≡ 0 → ⊥) → codeOf (writeMessage reports (valuesOf r)) ≡ c → Sends s a r (Unsent c) s
+    pub bad-report : (c : Refusal) → (c .code ≡ 0 → ⊥) → c ≡ told (writeMessage reports (valuesOf r)) → Sends s a r (Unsent c) s
     unfolding writeSentence
     bad-report c h e = go (writeMessage reports (valuesOf r)) refl e
       where
-        go : (o : Out (List ℕ)) → writeMessage reports (valuesOf r) ≡ o → codeOf o ≡ c → Sends s a r (Unsent c) s
-        go (accepted m) f e = absurd (h (sym e))
-        go (refused d p) f e = sends s a r (refused c p) (rw (good, f, e) refl)
+        go : (o : Out (List ℕ)) → writeMessage reports (valuesOf r) ≡ o → c ≡ told o → Sends s a r (Unsent c) s
+        go (accepted m) f e = absurd (h (ap (λ c. c .code) e))
+        go (refused d p) f e = subst (λ c. Sends s a r (Unsent c) s) (sym e) (sends s a r (refused d p) (rw (good, f) refl))
 
     module _ (bs : List ℕ) (made : writeMessage reports (valuesOf r) ≡ accepted bs) where
       wrote : writeSentence a r ≡ accepted (sentence a bs)
       unfolding writeSentence
       wrote = rw (good, made) refl
 
-      no-room : length s < length (sentence a bs) → Sends s a r (Unsent 6) s
+      no-room : length s < length (sentence a bs) → Sends s a r (Unsent (bare 6)) s
       no-room h = sends s a r (refused 6 0) (ap (roomFor s) wrote ∙ rw (lt-leb (length (sentence a bs)) (length s) h) refl)
 
       pub all-sent : length (sentence a bs) ≤ length s → roomFor s (writeSentence a r) ≡ accepted (sentence a bs)
@@ -145,7 +148,7 @@ module _ (s : List ℕ) (a : ℕ) (r : Report) where
               laid .1 ∙ ap (λ b. cond b (summedUp (opening ds bs) ++ drop (length (summedUp (opening ds bs))) s) s) e ∙ ap (λ w. w ++ drop (length w) s) is ∙ ap (λ o. laidOver o s) (sym x),
             )
 
-        pub none-laid : b ≡ false → Sends s a r (Unsent 6) t
+        pub none-laid : b ≡ false → Sends s a r (Unsent (bare 6)) t
         none-laid e =
             let room = leb-false (length (summedUp (opening ds bs))) (length s) (sym (laid .0) ∙ e) in
             let x = no-room (omega (arith, room, ap length is)) in

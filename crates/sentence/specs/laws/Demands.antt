@@ -11,6 +11,7 @@ use borrow.Author.Tests.{le-leb, leb-true}
 use Rattle.bits.specs.Bits.{Bytes}
 use Rattle.format.specs.Fmt.{Out, accepted, refused, orBad, check, also}
 use Rattle.format.specs.Message.{writeMessage}
+use Rattle.format.specs.declared.Refusal.{Refusal}
 use Rattle.format.specs.laws.Family.{never-read, never-written, written-record, read-writes}
 use Rattle.format.specs.Promises.{readRecord}
 use Rattle.distress.specs.laws.Demands.{family, good}
@@ -133,36 +134,44 @@ heard-sent s a r h u x t room w =
 
 -- ---- no refusal has the number 0
 
-pub no-zero-heard : (s : List ℕ) → Hears s (Refused 0) → ⊥
-no-zero-heard s h = go (aroundSo s) refl
+-- the number of an answer
+abbrev heardNumber : Heard → ℕ
+heardNumber (Good a r) = 0
+heardNumber (Refused c) = c .code
+
+abbrev sentNumber : Sent → ℕ
+sentNumber (Written n) = 0
+sentNumber (Unsent c) = c .code
+
+pub no-zero-heard : {n : ℕ} (s : List ℕ) → Hears s (Refused (record { code = 0; bit = n })) → ⊥
+no-zero-heard {n} s h = go (aroundSo s) refl
   where
     go : (o : Out (ℕ × List ℕ)) → aroundSo s ≡ o → ⊥
     go (refused c p) e =
-        let q = ap heardOf (heard-fails s c p e) in
-        let z : c ≡ 0 = cc in
+        let z : c ≡ 0 = sym (ap heardNumber (h ∙ ap heardOf (heard-fails s c p e))) in
         never-around s p (e ∙ ap (λ c. refused c p) z)
     go (accepted x) e = inside (readRecord reports reportOf (x .1)) refl (h ∙ heard-inside s (x .0) (x .1) e)
       where
-        inside : (o : Out Report) → readRecord reports reportOf (x .1) ≡ o → Refused 0 ≡ heardAs (x .0) (answerOf o) → ⊥
+        inside : (o : Out Report) → readRecord reports reportOf (x .1) ≡ o → Refused (record { code = 0; bit = n }) ≡ heardAs (x .0) (answerOf o) → ⊥
         inside (accepted r) f k = let z : _≡_ {A = ℕ} 0 1 = cc in omega arith
-        inside (refused c p) f k = let z : c ≡ 0 = cc in never-read family (x .1) p (f ∙ ap (λ c. refused c p) z)
+        inside (refused c p) f k = let z : c ≡ 0 = sym (ap heardNumber k) in never-read family (x .1) p (f ∙ ap (λ c. refused c p) z)
 
-pub no-zero-sent : (s : List ℕ) (a : ℕ) (r : Report) (t : List ℕ) → Sends s a r (Unsent 0) t → ⊥
+pub no-zero-sent : {n : ℕ} (s : List ℕ) (a : ℕ) (r : Report) (t : List ℕ) → Sends s a r (Unsent (record { code = 0; bit = n })) t → ⊥
 unfolding writeSentence
-no-zero-sent s a r t (d, l) = go (addressGood a) (writeMessage reports (valuesOf r)) refl d
+no-zero-sent {n} s a r t (d, l) = go (addressGood a) (writeMessage reports (valuesOf r)) refl d
   where
-    go : (x : Bool) (o : Out (List ℕ)) → writeMessage reports (valuesOf r) ≡ o → Unsent 0 ≡ sentOf (roomFor s (check (orBad x 4) 0 (also (sentence a) o))) → ⊥
-    go false o f d = let z : _≡_ {A = ℕ} 4 0 = cc in omega arith
-    go true (refused c p) f d = let z : c ≡ 0 = cc in never-written family r p tt (f ∙ ap (λ c. refused c p) z)
+    go : (x : Bool) (o : Out (List ℕ)) → writeMessage reports (valuesOf r) ≡ o → Unsent (record { code = 0; bit = n }) ≡ sentOf (roomFor s (check (orBad x 4) 0 (also (sentence a) o))) → ⊥
+    go false o f d = let z : _≡_ {A = ℕ} 0 4 = ap sentNumber d in omega arith
+    go true (refused c p) f d = let z : c ≡ 0 = sym (ap sentNumber d) in never-written family r p tt (f ∙ ap (λ c. refused c p) z)
     go true (accepted bs) f d = room (leb (length (sentence a bs)) (length s)) d
       where
-        room : (y : Bool) → Unsent 0 ≡ sentOf (check (orBad y 6) 0 (accepted (sentence a bs))) → ⊥
-        room false d = let z : _≡_ {A = ℕ} 6 0 = cc in omega arith
+        room : (y : Bool) → Unsent (record { code = 0; bit = n }) ≡ sentOf (check (orBad y 6) 0 (accepted (sentence a bs))) → ⊥
+        room false d = let z : _≡_ {A = ℕ} 0 6 = ap sentNumber d in omega arith
         room true d = let z : _≡_ {A = ℕ} 0 1 = cc in omega arith
 
 -- ---- a refusal leaves the buffer
 
-pub refused-sending : (s : List ℕ) (a : ℕ) (r : Report) (c : ℕ) (t : List ℕ) → Sends s a r (Unsent c) t → t ≡ s
+pub refused-sending : (s : List ℕ) (a : ℕ) (r : Report) (c : Refusal) (t : List ℕ) → Sends s a r (Unsent c) t → t ≡ s
 refused-sending s a r c t (d, l) = go (roomFor s (writeSentence a r)) d l
   where
     go : (o : Out (List ℕ)) → Unsent c ≡ sentOf o → t ≡ laidOver o s → t ≡ s

@@ -94,6 +94,17 @@ around-led s code e h = rw (← e) (go code h _)
     go zero h o = absurd (h refl)
     go (suc c) h o = refl
 
+-- a refusal of the sentence itself has no bit
+pub around-bare : (s : List ℕ) (c p : ℕ) → aroundSo s ≡ refused c p → p ≡ 0
+unfolding aroundSo
+around-bare s c p e = go (leadOf s) (patternLike s) e
+  where
+    go : (d : ℕ) (y : Bool)
+        → _≡_ {A = Out (ℕ × List ℕ)} (check (fault d) 0 (check (orBad y 4) 0 (accepted (spelt 0 (addressPart s), unhexed (hexPart s))))) (refused c p) → p ≡ 0
+    go zero true e = let z : _≡_ {A = ℕ} 0 1 = cc in absurd (omega arith)
+    go zero false e = cc
+    go (suc d) y e = cc
+
 pub around-unlike : (s : List ℕ) → leadOf s ≡ 0 → patternLike s ≡ false → aroundSo s ≡ refused 4 0
 unfolding aroundSo
 around-unlike s e h = rw (e, h) refl

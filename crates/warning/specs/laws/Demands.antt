@@ -17,6 +17,8 @@ use Rattle.warning.specs.laws.Walking.{body-numbered}
 use Rattle.format.specs.Fmt.{Spot, accepted, end, spot}
 use Rattle.format.specs.Settled.{Settled}
 use Rattle.format.specs.Promises.{readRecord, Writes, Corrects}
+use Rattle.format.specs.Refusals.{bare}
+use Rattle.format.specs.declared.Refusal.{Refusal}
 use Rattle.format.specs.Words.{_‥_, wide, num, fill}
 use Rattle.format.specs.laws.Answers.{good-read, answer-plain}
 use Rattle.format.specs.laws.Entries.{entries, entries-behind}
@@ -223,17 +225,17 @@ pub good : (s : List ℕ) (r : Warning) → Reads s (Good r) → readRecord warn
 good s r = good-read Good Refused outOf (λ q. refl) (λ c. refl) (readRecord warnings recordOf s)
 
 -- What is written is read back as the same record.
-pub written-reads : (s : List ℕ) (r : Warning) (t : List ℕ) → Writes warnings s 0 t (valuesOf r) → Reads (take 23 t) (Good r)
+pub written-reads : (s : List ℕ) (r : Warning) (t : List ℕ) → Writes warnings s (bare 0) t (valuesOf r) → Reads (take 23 t) (Good r)
 unfolding warnings
 written-reads s r t w = sym (ap answerOf (written-front family s r t 23 tt w (one-size warnings 23 refl refl (valuesOf r))))
 
 -- What is read is written back as the same bytes.
-pub read-writes-back : (s : List ℕ) (r : Warning) → Bytes s → Reads s (Good r) → (u : List ℕ) (code : ℕ) (t : List ℕ) → length s ≤ length u → Writes warnings u code t (valuesOf r)
-    → (code ≡ 0) × (t ≡ s ++ drop (length s) u)
+pub read-writes-back : (s : List ℕ) (r : Warning) → Bytes s → Reads s (Good r) → (u : List ℕ) (code : Refusal) (t : List ℕ) → length s ≤ length u → Writes warnings u code t (valuesOf r)
+    → (code ≡ bare 0) × (t ≡ s ++ drop (length s) u)
 read-writes-back s r fine a = read-written family s r fine (good s r a)
 
 -- Demand 3: every correction of a warning, by any number and any value.
-pub corrected : (s : List ℕ) (a : Answer) → Bytes s → Reads s a → (n v code : ℕ) (t : List ℕ) → Corrects warnings s (fieldOf (fieldAt s 56 4) n) v code t
+pub corrected : (s : List ℕ) (a : Answer) → Bytes s → Reads s a → (n v : ℕ) (code : Refusal) (t : List ℕ) → Corrects warnings s (fieldOf (fieldAt s 56 4) n) v code t
     → Settled warnings spotBy valuesOf changedBy s (outOf a) n v code t
 corrected s a fine reads n v code t c =
     settled-named family (λ r. spotOf (bodyKind (r .body))) spotted s fine (fieldOf (fieldAt s 56 4) n) v code t c namedBy n (λ r e. ap (λ k. fieldOf k n) (type-number s r fine e))

@@ -31,14 +31,14 @@ mul-if2 c = let k = c .before in omega (arith, c .loop-test .taken, k .before .b
 shared-slice-read-if2 : tie.Need-shared-slice-read-if2 Inv-loop μ-loop
 shared-slice-read-if2 c = omega (arith, c .before .loop-test .taken)
 
-add-t9 : tie.Need-add-t9 Inv-loop μ-loop
-add-t9 c =
+add-t10 : tie.Need-add-t10 Inv-loop μ-loop
+add-t10 c =
     let test = c .before .before in
     let loop = test .before in let st = loop .before .before in
     omega (arith, test .loop-test .taken, st .pre)
 
-cast-t10 : tie.Need-cast-t10 Inv-loop μ-loop
-cast-t10 c =
+cast-t11 : tie.Need-cast-t11 Inv-loop μ-loop
+cast-t11 c =
     let test = c .before .before in
     let loop = test .before in let st = loop .before .before in
     omega (arith, test .loop-test .taken, st .pre)
@@ -108,8 +108,8 @@ slots-in-spec =
     loop-holds
     mul-if2
     shared-slice-read-if2
-    add-t9
-    cast-t10
+    add-t10
+    cast-t11
     returns-2
     add-i
     loop-less

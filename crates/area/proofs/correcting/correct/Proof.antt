@@ -2,7 +2,7 @@
 use mathlib.Core.Path.{refl}
 use Rattle.bits.specs.Bits.{Bytes, fieldAt}
 use Rattle.format.specs.laws.Corrections.{family-sized}
-use Rattle.area.specs.Area.{areas, numberOf}
+use Rattle.area.specs.Area.{areas, refusalOf}
 use Rattle.area.specs.Changed.{fieldOf}
 use Rattle.area.specs.laws.Demands.{family, looked-stands}
 use Rattle.area.specs.declared.reading.Answer.the-variants.{Good, Refused}
@@ -27,7 +27,7 @@ returns c =
     let k = get .get .result in
     let (there, slim) = look .stands .ensures in
     let fine : Bytes s = λ i. known .slice-known .given i .fits in
-    family-sized family Good Refused numberOf (λ r. refl) (λ c. refl) s (fieldOf (fieldAt s 92 2) (a .field)) (a .value) _ _ (was .read .ensures) (number .refusal .ensures)
+    family-sized family Good Refused refusalOf (λ r. refl) (λ c. refl) s (fieldOf (fieldAt s 92 2) (a .field)) (a .value) _ _ (was .read .ensures) (number .refusal .ensures)
     (looked-stands s (a .field) k fine (get .get .ensures) there) slim
     fine (begin .begin .ensures) refl (f .fields .ensures) (again .refusal2 .ensures) (finish .finish .ensures)
 

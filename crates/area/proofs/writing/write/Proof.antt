@@ -1,6 +1,7 @@
 -- `write` answers as the walk over the values, the size made and the room decide.
 use mathlib.Core.Path.{refl, ap₂, subst}
 use Rattle.format.specs.Promises.{Writes}
+use Rattle.format.specs.Refusals.{bare}
 use Rattle.walk.specs.laws.Making.{write-refused, write-bare}
 use Rattle.area.specs.Area.{areas, valuesAs}
 use borrow.Author.Needs.{needs}
@@ -12,7 +13,7 @@ use Rattle.ais_common.proofs.time.Time.spelled.Reads as Time-spelled-reads
 returns : tie.Need-returns
 unfolding areas
 returns c =
-    let closes = c .before in
+    let closes = c .before .before in
     let j = closes .before in
     let y = j .before in
     let x = y .before in
@@ -26,13 +27,13 @@ unfolding areas
 returns-2 c =
     let p = c .before .before in
     let test = p .before .before in
-    let closes = test .before in
+    let closes = test .before .before in
     let j = closes .before in
     let y = j .before in
     let x = y .before in
     let st = x .before .before in
     let a = st .args in
-    subst (Writes areas (a .buf .now) 0 _) (ap₂ (valuesAs (a .r)) (x .spelled .ensures) (y .spelled2 .ensures))
+    subst (Writes areas (a .buf .now) (bare 0) _) (ap₂ (valuesAs (a .r)) (x .spelled .ensures) (y .spelled2 .ensures))
     (write-bare areas _ (a .buf .now) (j .judged .ensures) refl (closes .closes .ensures) (test .if1 .left) (p .put .ensures))
 
 pub write-spec : {M : Type 1} → statement M

@@ -1,4 +1,4 @@
--- `read`: a refused sentence gives its number; an accepted one, taken apart, gives the report's own answer.
+-- `read`: a refused sentence gives its number, with no bit; an accepted one, taken apart, gives the report's own answer.
 use borrow.Author.Needs.{needs}
 use mathlib.Core.Path.{_≡_, sym, ap, _∙_}
 use native.Mathlib.Omega.{arith}
@@ -8,6 +8,7 @@ use borrow.Author.Tests.{eq-eqb}
 use Rattle.sentence.specs.Spelling.{unhexed}
 use Rattle.sentence.specs.Pattern.{hexPart, refusalOf}
 use Rattle.format.specs.Fmt.{accepted}
+use Rattle.format.specs.Refusals.{bare}
 use Rattle.sentence.specs.declared.reading.Heard.the-variants.{Refused}
 use Rattle.sentence.specs.laws.Parts.{length-part}
 use Rattle.sentence.specs.laws.Calls.{heard-refused, Taken, taken, heardAs, heard-inside}
@@ -30,9 +31,9 @@ unhexed-here c =
 
 returns : tie.Need-returns
 returns c =
-    let t = c .before in
+    let t = c .before .before in
     let m = t .before .before in
-    ap Refused (c .refusal .ensures ∙ ap refusalOf (t .enum-told .given .1))
+    ap Refused (c .bare .ensures ∙ ap bare (c .before .refusal .ensures ∙ ap refusalOf (t .enum-told .given .1)))
     ∙ sym (heard-refused (m .before .before .args .s .now) (m .accept .result) (t .enum-told .given .0 .0) (m .accept .ensures) (t .enum-told .given .1))
 
 sub-unhex : tie.Need-sub-unhex
@@ -63,13 +64,13 @@ returns-3 c =
     let to = k .before .outer .given .0 .0 in
     sym
     (heard-inside s to (u .unhex .result) (apart k .inside ∙ ap (λ b. accepted (to, b)) (sym (unhexed-here u)))
-    ∙ ap (heardAs to) (sym (r .read .ensures) ∙ g .code .given .1))
+    ∙ ap (heardAs to) (sym (r .read .ensures) ∙ g .refusal2 .given .1))
 
 pub read-spec : {M : Type 1} → statement M
 read-spec =
     tie.close
     (tie.spec
-    (λ c κs. search needs) (λ c. search needs) (λ c. search needs) (λ c κs. search needs)
+    (λ c κs. search needs) (λ c. search needs) (λ c. search needs) (λ c κs. search needs) (λ c κs. search needs)
     returns
     sub-unhex
     sub-unhex-2

@@ -23,18 +23,18 @@ report c = reported (replicate 17 0) (c .before .before .before .before .before 
 
 -- the digits that are laid down are the address's
 digits : (c : tie.After-decimal) → let d = c .decimal .result in
-    take (10 - d .from) (drop (d .from) (d .chars)) ≡ decimal 7 (c .before .before .before .before .before .before .before .before .args .address)
+    take (10 - d .from) (drop (d .from) (d .chars)) ≡ decimal 7 (c .before .before .before .before .before .before .before .before .before .args .address)
 digits c =
     let d = c .decimal in
-    let g = c .before .before .before .before .before in
+    let g = c .before .before .before .before .before .before in
     let l = d .ensures .long in
     take-all (10 - d .result .from) (drop (d .result .from) (d .result .chars)) (omega (arith, length-drop (d .result .from) (d .result .chars)))
     ∙ spells-digits (d .ensures)
     ∙ decimal-wide 3 7 (g .before .before .before .args .address) (omega arith)
 
-from-there : (c : tie.After-decimal) → c .decimal .result .from + length (decimal 7 (c .before .before .before .before .before .before .before .before .args .address)) ≡ 10
+from-there : (c : tie.After-decimal) → c .decimal .result .from + length (decimal 7 (c .before .before .before .before .before .before .before .before .before .args .address)) ≡ 10
 from-there c =
-    let g = c .before .before .before .before .before in
+    let g = c .before .before .before .before .before .before in
     let a = g .before .before .before .args .address in
     omega (arith, spells-from (c .decimal .ensures), ap length (decimal-wide 3 7 a (omega arith)))
 
@@ -47,7 +47,7 @@ returns-2 c = let a = c .before .before .before .args in
     bad-address (a .buf .now) (a .address) (a .r) (rw (lt-leb (a .address) 2_097_151 (c .if2 .taken), and-false (leb 1 (a .address))) refl)
 
 returns-3 : tie.Need-returns-3
-returns-3 c = let w = c .before .before in
+returns-3 c = let w = c .before .before .before in
     let g = w .before .before in
     let a = g .before .before .before .args in
     bad-report (a .buf .now) (a .address) (a .r) (within g) (w .write .result) (c .if3 .taken) (report w .bad (c .if3 .taken))
@@ -65,7 +65,7 @@ returns-4 : tie.Need-returns-4
 returns-4 c =
     let y = c .before .before .before in
     let d = y .before .before .before .before .before in
-    let w = d .before .before .before in
+    let w = d .before .before .before .before in
     let g = w .before .before in
     let a = g .before .before .before .args in
     all-laid (a .buf .now) (a .address) (a .r) (within g) (w .write .last .0) (report w .good (d .before .if3 .left)) _ (y .lay .last .0) (y .lay .result) (digits d) (y .lay .ensures)
@@ -75,7 +75,7 @@ returns-5 : tie.Need-returns-5
 returns-5 c =
     let y = c .before .before .before in
     let d = y .before .before .before .before .before in
-    let w = d .before .before .before in
+    let w = d .before .before .before .before in
     let g = w .before .before in
     let a = g .before .before .before .args in
     none-laid (a .buf .now) (a .address) (a .r) (within g) (w .write .last .0) (report w .good (d .before .if3 .left)) _ (y .lay .last .0) (y .lay .result) (digits d) (y .lay .ensures)

@@ -1,6 +1,7 @@
 -- `write` answers as the walk over the values, the size and the room decide.
 use mathlib.Core.Path.{refl, subst}
 use Rattle.format.specs.Promises.{Writes}
+use Rattle.format.specs.Refusals.{bare}
 use Rattle.walk.specs.laws.Making.{write-refused, write-bare}
 use Rattle.warning.specs.Warning.{warnings, valuesAs}
 use borrow.Author.Needs.{needs}
@@ -10,8 +11,7 @@ use Rattle.warning.proofs.writing.write.Tie as tie
 returns : tie.Need-returns
 unfolding warnings
 returns c =
-    let f = c in
-    let closes = f .before in
+    let closes = c .before .before in
     let judged = closes .before in
     let time = judged .before in
     let st = time .before .before in
@@ -24,13 +24,13 @@ unfolding warnings
 returns-2 c =
     let put = c .before .before in
     let f = put .before .before in
-    let closes = f .before in
+    let closes = f .before .before in
     let judged = closes .before in
     let time = judged .before in
     let st = time .before .before in
     let a = st .args in
     let s = a .buf .now in
-    subst (λ t. Writes warnings s 0 (put .put .last .0) (valuesAs (a .r) t)) (time .spelled .ensures)
+    subst (λ t. Writes warnings s (bare 0) (put .put .last .0) (valuesAs (a .r) t)) (time .spelled .ensures)
     (write-bare warnings _ s (judged .judged .ensures) refl (closes .closes .ensures) (f .if1 .left) (put .put .ensures))
 
 pub write-spec : {M : Type 1} → statement M
