@@ -5,11 +5,10 @@ mod body;
 mod time;
 mod warning;
 
-use super::{field, narrow, need, signed, within};
+use super::{field, narrow, need, signed, within, Tested};
 use record::{Ais, Area, Refusal, Warning};
 
-/// What a message has of its own. Both have three fills. The fields up to a fill are all refused by 4, so that their
-/// order does not show, and they are judged together.
+/// What a message has of its own. Both have three fills.
 ///
 /// The steps of reading and writing are inlined, so that the compiler asks once for the warning type or shape.
 pub trait Kind: Ais {
@@ -19,8 +18,8 @@ pub trait Kind: Ais {
     /// The record of a message of its size, and the bits of its fills.
     fn unpack(message: &[u8]) -> (Self, [u64; 3]);
 
-    /// Whether the fields up to each fill stand in their ranges.
-    fn good(&self) -> [bool; 3];
+    /// The fields stand in their ranges, and the fills are zero: makes these tests in bit order.
+    fn tests(&self, fills: [u64; 3], test: &mut impl FnMut(bool, Refusal));
 
     /// Makes the message of a good record.
     fn pack(&self, message: &mut [u8]);
@@ -31,18 +30,30 @@ pub trait Kind: Ais {
     fn change(&mut self, field: usize, value: u64) -> Result<(), Refusal>;
 }
 
+/// What a message spells: its record, and the bits of its fills.
+#[derive(Clone, Copy)]
+struct Spelled<M>(M, [u64; 3]);
+
+impl<M: Kind> Tested for Spelled<M> {
+    #[inline]
+    fn tests(&self, test: &mut impl FnMut(bool, Refusal)) {
+        self.0.tests(self.1, test);
+    }
+}
+
 const SMALLEST: usize = 23;
 const LARGEST_MMSI: u32 = 999_999_999;
+
+/// The bits that the first fields start at, the same in both messages.
+const REPEAT: u32 = 6;
+const SOURCE: u32 = 8;
 
 pub fn read<M: Kind>(message: &[u8]) -> Result<M, Refusal> {
     let start = message.first_chunk().ok_or(Refusal::SIZE)?;
     need(M::handled(start), Refusal::KIND)?;
     need(message.len() == M::BYTES, Refusal::SIZE)?;
     let (record, fills) = M::unpack(message);
-    for (good, fill) in record.good().into_iter().zip(fills) {
-        need(good, Refusal::RANGE)?;
-        need(fill == 0, Refusal::FILL)?;
-    }
+    Spelled(record, fills).judge()?;
     Ok(record)
 }
 
@@ -61,7 +72,7 @@ pub fn read_any(message: &[u8]) -> Result<(), Refusal> {
 }
 
 pub fn write<M: Kind>(buf: &mut [u8], record: &M) -> Result<(), Refusal> {
-    need(record.good() == [true; 3], Refusal::RANGE)?;
+    Spelled(*record, [0; 3]).judge()?;
     record.pack(buf.get_mut(..M::BYTES).ok_or(Refusal::ROOM)?);
     Ok(())
 }

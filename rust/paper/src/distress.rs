@@ -1,22 +1,32 @@
 //! The distress report and its sentence (01, "Distress report"; 001, annex A).
 
-use super::{narrow, signed, within, xor, LARGEST_ADDRESS};
+use super::{narrow, signed, within, xor, Tested, LARGEST_ADDRESS};
 use record::{Refusal, Report};
 
 const CODE: [u8; 2] = [0xBD, 0xC1];
 
-/// The fields stand in their ranges. All of them are refused by 4, so their order does not show, and they are judged
-/// together, without branches.
-fn good(r: &Report) -> bool {
-    (r.mmsi <= 999_999_999)
-        & within(r.longitude, 10_800_000, 10_860_000)
-        & within(r.latitude, 5_400_000, 5_460_000)
-        & (r.day <= 31)
-        & (r.hour <= 24)
-        & (r.minute <= 60)
-        & (r.speed <= 126)
-        & (r.course <= 360)
-        & (r.kind <= 9)
+/// Of each field the bit that it starts at, and its width.
+const STARTS: [u32; Report::ROW] = [16, 48, 73, 97, 102, 107, 113, 120, 129];
+const WIDTHS: [u32; Report::ROW] = [32, 25, 24, 5, 5, 6, 7, 9, 4];
+const FILL: u32 = 133;
+
+impl Tested for Report {
+    /// The fields stand in their ranges.
+    #[inline]
+    fn tests(&self, test: &mut impl FnMut(bool, Refusal)) {
+        let good = [
+            self.mmsi <= 999_999_999,
+            within(self.longitude, 10_800_000, 10_860_000),
+            within(self.latitude, 5_400_000, 5_460_000),
+            self.day <= 31,
+            self.hour <= 24,
+            self.minute <= 60,
+            self.speed <= 126,
+            self.course <= 360,
+            self.kind <= 9,
+        ];
+        good.into_iter().zip(STARTS).for_each(|(good, start)| test(good, Refusal::RANGE.at(start)));
+    }
 }
 
 /// The fields, and the three bits of fill. The last eight bytes hold all from the latitude on, after one bit of the
@@ -66,11 +76,9 @@ pub fn read(message: &[u8]) -> Result<Report, Refusal> {
         return Err(Refusal::SIZE);
     }
     let (report, fill) = unpack(head);
-    if !good(&report) {
-        return Err(Refusal::RANGE);
-    }
+    report.judge()?;
     if fill != 0 {
-        return Err(Refusal::FILL);
+        return Err(Refusal::FILL.at(FILL));
     }
     Ok(report)
 }
@@ -83,9 +91,7 @@ pub fn read_row(message: &[u8], row: &mut [i64]) -> Result<(), Refusal> {
 
 /// The 17 bytes of a report.
 pub fn message(report: &Report) -> Result<[u8; Report::BYTES], Refusal> {
-    if !good(report) {
-        return Err(Refusal::RANGE);
-    }
+    report.judge()?;
     Ok(pack(report))
 }
 
@@ -97,17 +103,19 @@ pub fn write(buf: &mut [u8], report: &Report) -> Result<(), Refusal> {
 
 pub fn correct(message: &mut [u8], field: usize, value: u64) -> Result<(), Refusal> {
     let mut report = read(message)?;
+    let index = field.wrapping_sub(1);
+    let width = *WIDTHS.get(index).ok_or(Refusal::FIELD)?;
+    let value = narrow(value, width, STARTS[index])?;
     match field {
-        Report::MMSI => report.mmsi = narrow(value, 32)? as u32,
-        Report::LONGITUDE => report.longitude = signed(narrow(value, 25)?, 25),
-        Report::LATITUDE => report.latitude = signed(narrow(value, 24)?, 24),
-        Report::DAY => report.day = narrow(value, 5)? as u8,
-        Report::HOUR => report.hour = narrow(value, 5)? as u8,
-        Report::MINUTE => report.minute = narrow(value, 6)? as u8,
-        Report::SPEED => report.speed = narrow(value, 7)? as u8,
-        Report::COURSE => report.course = narrow(value, 9)? as u16,
-        Report::KIND => report.kind = narrow(value, 4)? as u8,
-        _ => return Err(Refusal::FIELD),
+        Report::MMSI => report.mmsi = value as u32,
+        Report::LONGITUDE => report.longitude = signed(value, 25),
+        Report::LATITUDE => report.latitude = signed(value, 24),
+        Report::DAY => report.day = value as u8,
+        Report::HOUR => report.hour = value as u8,
+        Report::MINUTE => report.minute = value as u8,
+        Report::SPEED => report.speed = value as u8,
+        Report::COURSE => report.course = value as u16,
+        _ => report.kind = value as u8,
     }
     write(message, &report)
 }

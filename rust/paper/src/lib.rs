@@ -37,11 +37,41 @@ fn field(number: u64, below: u32, width: u32) -> u64 {
     number >> below & ((1 << width) - 1)
 }
 
-/// A corrected field's new value, if its bits can spell it.
+/// The new value of a corrected field that starts at a bit, if its bits can spell it.
 #[inline]
-fn narrow(value: u64, width: u32) -> Result<u64, Refusal> {
-    need(value >> width == 0, Refusal::RANGE)?;
+fn narrow(value: u64, width: u32, at: u32) -> Result<u64, Refusal> {
+    need(value >> width == 0, Refusal::RANGE.at(at))?;
     Ok(value)
+}
+
+/// What is judged by tests in bit order.
+trait Tested: Copy {
+    /// Makes the tests in bit order: whether each holds, and the refusal where it does not.
+    fn tests(&self, test: &mut impl FnMut(bool, Refusal));
+
+    /// The tests are made together, without branches. Only where one fails is the first of those looked for.
+    #[inline]
+    fn judge(&self) -> Result<(), Refusal> {
+        let mut good = true;
+        self.tests(&mut |holds, _| good &= holds);
+        if good {
+            Ok(())
+        } else {
+            Err(self.fault())
+        }
+    }
+
+    /// The refusal of the first test that fails; one does.
+    #[cold]
+    fn fault(self) -> Refusal {
+        let mut first = None;
+        self.tests(&mut |holds, refusal| {
+            if !holds {
+                first.get_or_insert(refusal);
+            }
+        });
+        first.expect("a test fails")
+    }
 }
 
 /// The number that `width` bits spell in two's complement.

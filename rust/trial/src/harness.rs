@@ -52,8 +52,8 @@ pub trait Family {
     type Lent: Clone + PartialEq + Debug;
 
     fn input(call: usize, random: &mut Random) -> (Self::Input, Self::Lent);
-    fn proved(input: &Self::Input, lent: &mut Self::Lent) -> u8;
-    fn paper(input: &Self::Input, lent: &mut Self::Lent) -> u8;
+    fn proved(input: &Self::Input, lent: &mut Self::Lent) -> u32;
+    fn paper(input: &Self::Input, lent: &mut Self::Lent) -> u32;
 }
 
 /// Two cores, shared with others.

@@ -3,58 +3,58 @@
 use super::{show, Paper, Proved};
 use crate::harness::{self, Call, Family, Guarded, Options, Tally};
 use crate::inputs::{room, serial as inputs, spare, Random};
-use record::{code, Frame, Gljc, Txhz, Txsq, Txxx};
+use record::{answer, Frame, Gljc, Txhz, Txsq, Txxx};
 use std::marker::PhantomData;
 
 /// The calls of a kind of frame, each as in C but for slices and the record.
 pub trait Calls<F: Frame> {
-    fn read(frame: &[u8], row: &mut [i64]) -> u8;
-    fn write(buf: &mut [u8], record: &F, run: &[u8]) -> u8;
-    fn correct(frame: &mut [u8], field: usize, value: u64) -> u8;
+    fn read(frame: &[u8], row: &mut [i64]) -> u32;
+    fn write(buf: &mut [u8], record: &F, run: &[u8]) -> u32;
+    fn correct(frame: &mut [u8], field: usize, value: u64) -> u32;
     /// The content in the front of `bytes`, where it fits, and how many bytes it has in `shown`; the number is reading's.
-    fn content(frame: &[u8], bytes: &mut [u8], shown: &mut usize) -> u8;
+    fn content(frame: &[u8], bytes: &mut [u8], shown: &mut usize) -> u32;
 }
 
 impl<F: Kind> Calls<F> for Proved {
     #[inline]
-    fn read(frame: &[u8], row: &mut [i64]) -> u8 {
-        code(bellnewt::serial::read_row::<F>(frame, row))
+    fn read(frame: &[u8], row: &mut [i64]) -> u32 {
+        answer(bellnewt::serial::read_row::<F>(frame, row))
     }
 
     #[inline]
-    fn write(buf: &mut [u8], record: &F, run: &[u8]) -> u8 {
-        code(bellnewt::serial::write(buf, record, run))
+    fn write(buf: &mut [u8], record: &F, run: &[u8]) -> u32 {
+        answer(bellnewt::serial::write(buf, record, run))
     }
 
     #[inline]
-    fn correct(frame: &mut [u8], field: usize, value: u64) -> u8 {
-        code(bellnewt::serial::correct::<F>(frame, field, value))
+    fn correct(frame: &mut [u8], field: usize, value: u64) -> u32 {
+        answer(bellnewt::serial::correct::<F>(frame, field, value))
     }
 
-    fn content(frame: &[u8], bytes: &mut [u8], shown: &mut usize) -> u8 {
+    fn content(frame: &[u8], bytes: &mut [u8], shown: &mut usize) -> u32 {
         *shown = F::CONTENT(frame, bytes);
-        code(bellnewt::serial::read::<F>(frame).map(drop))
+        answer(bellnewt::serial::read::<F>(frame).map(drop))
     }
 }
 
 impl<F: Kind> Calls<F> for Paper {
     #[inline(never)]
-    fn read(frame: &[u8], row: &mut [i64]) -> u8 {
-        code(paper::serial::read_row::<F>(frame, row))
+    fn read(frame: &[u8], row: &mut [i64]) -> u32 {
+        answer(paper::serial::read_row::<F>(frame, row))
     }
 
     #[inline(never)]
-    fn write(buf: &mut [u8], record: &F, run: &[u8]) -> u8 {
-        code(paper::serial::write(buf, record, run))
+    fn write(buf: &mut [u8], record: &F, run: &[u8]) -> u32 {
+        answer(paper::serial::write(buf, record, run))
     }
 
     #[inline(never)]
-    fn correct(frame: &mut [u8], field: usize, value: u64) -> u8 {
-        code(paper::serial::correct::<F>(frame, field, value))
+    fn correct(frame: &mut [u8], field: usize, value: u64) -> u32 {
+        answer(paper::serial::correct::<F>(frame, field, value))
     }
 
-    fn content(frame: &[u8], bytes: &mut [u8], shown: &mut usize) -> u8 {
-        code(paper::serial::read::<F>(frame).map(|(_, content)| *shown = show(content, bytes)))
+    fn content(frame: &[u8], bytes: &mut [u8], shown: &mut usize) -> u32 {
+        answer(paper::serial::read::<F>(frame).map(|(_, content)| *shown = show(content, bytes)))
     }
 }
 
@@ -110,7 +110,7 @@ pub struct Lent {
 }
 
 impl<F: Kind> Input<F> {
-    fn answer<C: Calls<F>>(&self, lent: &mut Lent) -> u8 {
+    fn answer<C: Calls<F>>(&self, lent: &mut Lent) -> u32 {
         let bytes = lent.bytes.part();
         match self {
             Input::Read => C::read(bytes, lent.row.part()),
@@ -155,11 +155,11 @@ impl<F: Kind> Family for Serial<F> {
         (input, lent)
     }
 
-    fn proved(input: &Input<F>, lent: &mut Lent) -> u8 {
+    fn proved(input: &Input<F>, lent: &mut Lent) -> u32 {
         input.answer::<Proved>(lent)
     }
 
-    fn paper(input: &Input<F>, lent: &mut Lent) -> u8 {
+    fn paper(input: &Input<F>, lent: &mut Lent) -> u32 {
         input.answer::<Paper>(lent)
     }
 }

@@ -70,7 +70,7 @@ impl Step {
         }
     }
 
-    fn answer<C: Calls>(&self, places: &mut [C::Cell], lent: &mut Lent) -> u8 {
+    fn answer<C: Calls>(&self, places: &mut [C::Cell], lent: &mut Lent) -> u32 {
         let store = &mut lent.store.part()[..self.store];
         match &self.request {
             Request::Accept(_) => C::accept(places, store, lent.packet.part(), &mut lent.again.part()[0]),
