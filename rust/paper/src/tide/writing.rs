@@ -82,8 +82,7 @@ fn good_entries(row: &[u32], at: usize, entries: usize) -> bool {
 
 /// The numbers of so many entries from a place of a row on, whether it has them or not.
 fn all_threes(row: &[u32], at: usize, entries: usize) -> impl Iterator<Item = [u32; entry::NUMBERS]> + '_ {
-    (0..entries)
-        .map(move |index| [0, 1, 2].map(|next| number(row, at + entry::NUMBERS * index + next, MISSING[next])))
+    (0..entries).map(move |index| [0, 1, 2].map(|next| number(row, at + entry::NUMBERS * index + next, MISSING[next])))
 }
 
 /// Judges entries that the row is too short for.

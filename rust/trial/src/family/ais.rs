@@ -2,8 +2,9 @@
 //! family, and the slots too.
 
 use super::{Paper, Proved};
-use crate::harness::{self, Call, Family, Guarded, Options, Tally};
+use crate::harness::{self, Call, Family, Guarded, Options, Places, Tally};
 use crate::inputs::{ais as inputs, room, spare, Random};
+use crate::places::{ais as places, NONE};
 use record::{answer, Ais, Area, Warning};
 use std::marker::PhantomData;
 
@@ -74,29 +75,39 @@ pub trait Kind: inputs::Kind + bellnewt::ais::Kind + paper::ais::Kind {
     const CALLS: &'static [Call];
 }
 
-const READ: Call = Call { name: "read", numbers: &[0, 1, 2, 4, 5, 6] };
-const CORRECT: Call = Call { name: "correct", numbers: &[0, 1, 2, 4, 5, 10] };
+const fn read(places: Places) -> Call {
+    Call { name: "read", numbers: &[0, 1, 2, 4, 5, 6], places }
+}
 
-const fn write(name: &'static str) -> Call {
-    Call { name, numbers: &[0, 4, 6] }
+const fn write(name: &'static str, places: Places) -> Call {
+    Call { name, numbers: &[0, 4, 6], places }
+}
+
+const fn correct(places: Places) -> Call {
+    Call { name: "correct", numbers: &[0, 1, 2, 4, 5, 10], places }
 }
 
 impl Kind for Warning {
     const NAME: &'static str = "warning";
     const CALLS: &'static [Call] = &[
-        READ,
-        write("cyclone write"),
-        write("gale write"),
-        write("waves write"),
-        write("fog write"),
-        write("surge write"),
-        CORRECT,
+        read(places::WARNING),
+        write("cyclone write", places::CYCLONE),
+        write("gale write", places::GALE),
+        write("waves write", places::WAVES),
+        write("fog write", places::FOG),
+        write("surge write", places::SURGE),
+        correct(places::WARNING_CORRECT),
     ];
 }
 
 impl Kind for Area {
     const NAME: &'static str = "area";
-    const CALLS: &'static [Call] = &[READ, write("circle write"), write("rectangle write"), CORRECT];
+    const CALLS: &'static [Call] = &[
+        read(places::AREA),
+        write("circle write", places::CIRCLE),
+        write("rectangle write", places::RECTANGLE),
+        correct(places::AREA_CORRECT),
+    ];
 }
 
 /// One call and its numbers; the message or buffer and the row stand in `Lent`.
@@ -159,7 +170,7 @@ pub struct Slots;
 
 impl Family for Slots {
     const NAME: &'static str = "slots";
-    const CALLS: &'static [Call] = &[Call { name: "slots", numbers: &[0, 1, 2] }];
+    const CALLS: &'static [Call] = &[Call { name: "slots", numbers: &[0, 1, 2], places: NONE }];
     /// A message number, and how many data bytes.
     type Input = (u8, usize);
     type Lent = Guarded<u8>;

@@ -8,6 +8,7 @@ mod sequence;
 use super::{Paper, Proved};
 use crate::harness::{self, Call, Cell, Counts, Options, Tally};
 use crate::inputs::Random;
+use crate::places::{packet, NONE};
 use paper::desk::Answer;
 use record::{answer, Accepted, Place, Refusal};
 use rows::Rows;
@@ -126,10 +127,10 @@ const ACCEPT_AGAIN: usize = 1;
 const ASK: usize = 2;
 const DROP: usize = 3;
 const CALLS: [Call; 4] = [
-    Call { name: "accept", numbers: &[0, 1, 2, 4, 6, 7, 8] },
-    Call { name: "accept again", numbers: &[0] },
-    Call { name: "ask", numbers: &[0, 4, 6, 9, 11] },
-    Call { name: "drop", numbers: &[0, 4, 6, 11] },
+    Call { name: "accept", numbers: &[0, 1, 2, 4, 6, 7, 8], places: packet::READ },
+    Call { name: "accept again", numbers: &[0], places: NONE },
+    Call { name: "ask", numbers: &[0, 4, 6, 9, 11], places: NONE },
+    Call { name: "drop", numbers: &[0, 4, 6, 11], places: NONE },
 ];
 
 /// The most calls of a sequence; the least are a tenth of them.

@@ -3,6 +3,7 @@
 use super::{Paper, Proved};
 use crate::harness::{Call, Family, Guarded};
 use crate::inputs::{distress as inputs, room, spare, Random};
+use crate::places::distress as places;
 use record::{answer, Report};
 
 /// The family's calls, each as in C but for slices and the report.
@@ -111,11 +112,11 @@ pub struct Distress;
 impl Family for Distress {
     const NAME: &'static str = "distress";
     const CALLS: &'static [Call] = &[
-        Call { name: "read", numbers: &[0, 1, 2, 4, 5, 6] },
-        Call { name: "write", numbers: &[0, 4, 6] },
-        Call { name: "correct", numbers: &[0, 1, 2, 4, 5, 10] },
-        Call { name: "sentence read", numbers: &[0, 1, 2, 3, 4, 5, 6] },
-        Call { name: "sentence write", numbers: &[0, 4, 6] },
+        Call { name: "read", numbers: &[0, 1, 2, 4, 5, 6], places: places::READ },
+        Call { name: "write", numbers: &[0, 4, 6], places: places::WRITE },
+        Call { name: "correct", numbers: &[0, 1, 2, 4, 5, 10], places: places::CORRECT },
+        Call { name: "sentence read", numbers: &[0, 1, 2, 3, 4, 5, 6], places: places::READ },
+        Call { name: "sentence write", numbers: &[0, 4, 6], places: places::WRITE },
     ];
     type Input = Input;
     type Lent = Lent;

@@ -3,8 +3,9 @@
 use super::{Paper, Proved};
 use crate::harness::{Call, Family, Guarded};
 use crate::inputs::{notice as inputs, rooms, row_to_write, spare, Random};
+use crate::places::{notice as places, Numbers};
 use bellnewt::notice::{Head, Notice};
-use record::answer;
+use record::{answer, ENGLISH};
 
 /// The family's calls, each as in C but for slices and the head.
 pub trait Calls {
@@ -149,10 +150,10 @@ pub struct Notices;
 impl Family for Notices {
     const NAME: &'static str = "notice";
     const CALLS: &'static [Call] = &[
-        Call { name: "read", numbers: &[0, 1, 4, 5, 6] },
-        Call { name: "write", numbers: &[0, 1, 4, 6] },
-        Call { name: "correct", numbers: &[0, 1, 4, 5, 10] },
-        Call { name: "outline", numbers: &[0, 1, 4, 5, 6] },
+        Call { name: "read", numbers: &[0, 1, 4, 5, 6], places: places::READ },
+        Call { name: "write", numbers: &[0, 1, 4, 6], places: places::WRITE },
+        Call { name: "correct", numbers: &[0, 1, 4, 5, 10], places: places::CORRECT },
+        Call { name: "outline", numbers: &[0, 1, 4, 5, 6], places: places::READ },
     ];
     type Input = Input;
     type Lent = Lent;
@@ -172,5 +173,18 @@ impl Family for Notices {
 
     fn paper(input: &Input, lent: &mut Lent) -> u32 {
         input.answer::<Paper>(lent)
+    }
+
+    /// Bit 0 is the source's where it is 4 and the language is one.
+    fn field(input: &Input, before: &Lent, number: u8, bit: u32) -> Option<&'static str> {
+        let message = before.bytes.see();
+        let (language, areas, numbers) = match *input {
+            Input::Write { language, count, .. } => (language, count, Numbers::Row(before.areas.see())),
+            Input::Read { language } | Input::Correct { language, .. } | Input::Outline { language } => {
+                (language, message.get(7).map_or(0, |last| last >> 1 & 15), Numbers::Bits(message))
+            }
+        };
+        let is_field = bit > 0 || number == 4 && language <= ENGLISH;
+        is_field.then(|| places::field(number, bit, areas.into(), numbers))
     }
 }

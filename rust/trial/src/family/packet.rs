@@ -3,6 +3,7 @@
 use super::{show, Paper, Proved};
 use crate::harness::{Call, Family, Guarded};
 use crate::inputs::{packet as inputs, room, spare, Random};
+use crate::places::{packet as places, NONE};
 use record::{answer, Packet};
 
 /// The family's calls, each as in C but for slices and the record. `numbers` asks what follows each of the 256 message
@@ -116,11 +117,11 @@ pub struct Packets;
 impl Family for Packets {
     const NAME: &'static str = "packet";
     const CALLS: &'static [Call] = &[
-        Call { name: "read", numbers: &[0, 1, 2, 4, 6] },
-        Call { name: "write", numbers: &[0, 1, 4, 6] },
-        Call { name: "correct", numbers: &[0, 1, 2, 4, 10] },
-        Call { name: "split", numbers: &[0, 1, 4, 6] },
-        Call { name: "content", numbers: &[0, 1, 2, 4] },
+        Call { name: "read", numbers: &[0, 1, 2, 4, 6], places: places::READ },
+        Call { name: "write", numbers: &[0, 1, 4, 6], places: places::WRITE },
+        Call { name: "correct", numbers: &[0, 1, 2, 4, 10], places: places::CORRECT },
+        Call { name: "split", numbers: &[0, 1, 4, 6], places: NONE },
+        Call { name: "content", numbers: &[0, 1, 2, 4], places: places::READ },
     ];
     type Input = Input;
     type Lent = Lent;

@@ -3,6 +3,7 @@
 use super::{Paper, Proved};
 use crate::harness::{Call, Family, Guarded};
 use crate::inputs::{rooms, row_to_write, spare, tide as inputs, Random};
+use crate::places::{tide as places, Numbers};
 use record::answer;
 
 /// The family's calls, each as in C but for slices.
@@ -143,10 +144,10 @@ pub struct Tides;
 impl Family for Tides {
     const NAME: &'static str = "tide";
     const CALLS: &'static [Call] = &[
-        Call { name: "read", numbers: &[0, 1, 2, 4, 5, 6] },
-        Call { name: "write", numbers: &[0, 1, 4, 6] },
-        Call { name: "correct", numbers: &[0, 1, 2, 4, 5, 10] },
-        Call { name: "heights", numbers: &[0, 1, 2, 4, 5, 6] },
+        Call { name: "read", numbers: &[0, 1, 2, 4, 5, 6], places: places::READ },
+        Call { name: "write", numbers: &[0, 1, 4, 6], places: places::WRITE },
+        Call { name: "correct", numbers: &[0, 1, 2, 4, 5, 10], places: places::CORRECT },
+        Call { name: "heights", numbers: &[0, 1, 2, 4, 5, 6], places: places::READ },
     ];
     type Input = Input;
     type Lent = Lent;
@@ -166,5 +167,15 @@ impl Family for Tides {
 
     fn paper(input: &Input, lent: &mut Lent) -> u32 {
         input.answer::<Paper>(lent)
+    }
+
+    fn field(input: &Input, before: &Lent, number: u8, bit: u32) -> Option<&'static str> {
+        let message = before.bytes.see();
+        let (records, numbers) = match (input, message) {
+            (Input::Write { count }, _) => (*count, Numbers::Row(before.row.see())),
+            (_, [_, first, second, ..]) => (u16::from_be_bytes([first & 15, *second]) >> 3, Numbers::Bits(message)),
+            _ => return None,
+        };
+        (bit > 0).then(|| places::field(number, bit, records.into(), numbers))
     }
 }

@@ -71,7 +71,7 @@ fn good<C: Calls<M>, M: Kind>(case: &str, message: &[u8], row: &[i64], record: &
 }
 
 /// A message that is refused, and leaves the row.
-fn refused<C: Calls<M>, M: Kind>(case: &str, message: &[u8], due: u8, tally: &mut Tally) {
+fn refused<C: Calls<M>, M: Kind>(case: &str, message: &[u8], due: u32, tally: &mut Tally) {
     let mut row = vec![7; M::ROW];
     let code = C::read(message, &mut row);
     tally.same(case, (code, row), (due, vec![7; M::ROW]));
@@ -124,7 +124,7 @@ fn refused_areas<C: Calls<Area>>(who: &str, tally: &mut Tally) {
 
 /// Corrections of a field that spans bytes, of one with a sign, of times, and of what another type or shape has.
 fn corrections<C: Calls<Warning> + Calls<Area>>(who: &str, tally: &mut Tally) {
-    let corrected = |message: &[u8], field: usize, value: u64, correct: fn(&mut [u8], usize, u64) -> u8| {
+    let corrected = |message: &[u8], field: usize, value: u64, correct: fn(&mut [u8], usize, u64) -> u32| {
         let mut message = message.to_vec();
         (correct(&mut message, field, value), message)
     };

@@ -27,7 +27,7 @@ fn single(number: u8) -> Vec<u8> {
 }
 
 /// What an asking answers: the number, what stands in front of the buffer and of the row, and the language.
-type Answer = (u8, Vec<u8>, Vec<u16>, u8);
+type Answer = (u32, Vec<u8>, Vec<u16>, u8);
 
 /// A language that no call has put down.
 const NONE: u8 = 9;
@@ -55,7 +55,7 @@ impl<C: Calls> Lent<C> {
     }
 
     /// The number, and whether it is marked "again".
-    fn accept(&mut self, packet: &[u8]) -> (u8, u8) {
+    fn accept(&mut self, packet: &[u8]) -> (u32, u8) {
         let mut again = NONE;
         let code = C::accept(&mut self.places, &mut self.store, packet, &mut again);
         (code, again)
@@ -71,7 +71,7 @@ impl<C: Calls> Lent<C> {
         (code, notice, missing, language)
     }
 
-    fn drop(&mut self, number: u8) -> u8 {
+    fn drop(&mut self, number: u8) -> u32 {
         C::drop(&mut self.places, &self.store, number)
     }
 }
@@ -90,7 +90,7 @@ fn cases<C: Calls>(who: &str, tally: &mut Tally) {
     bad_places::<C>(who, tally);
 }
 
-fn refused(code: u8) -> Answer {
+fn refused(code: u32) -> Answer {
     (code, Vec::new(), Vec::new(), NONE)
 }
 

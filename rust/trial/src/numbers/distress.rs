@@ -68,7 +68,7 @@ fn example<C: Calls>(who: &str, tally: &mut Tally) {
 }
 
 /// A longitude that is good or refused: written, read, and put in by a correction.
-fn longitude<C: Calls>(case: &str, longitude: i32, spelled: [u8; 4], due: u8, tally: &mut Tally) {
+fn longitude<C: Calls>(case: &str, longitude: i32, spelled: [u8; 4], due: u32, tally: &mut Tally) {
     let report = Report { longitude, ..EXAMPLE_REPORT };
     let message = example_with_longitude(spelled);
     let or = |kept| if due == 0 { message } else { kept };

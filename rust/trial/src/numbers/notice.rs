@@ -55,7 +55,7 @@ fn good<C: Calls>(case: &str, message: &[u8], language: u8, notice: &Notice, tal
 }
 
 /// What reading a notice answers, with room for all that it could answer, and whether nothing of that was touched.
-fn answer<C: Calls>(message: &[u8], language: u8) -> (u8, bool) {
+fn answer<C: Calls>(message: &[u8], language: u8) -> (u32, bool) {
     let (mut row, mut areas, mut text) = ([7; Notice::ROW], [7; Notice::ENTRIES], [7; Notice::TEXT]);
     let code = C::read(message, language, &mut row, &mut areas, &mut text);
     (code, row == [7; Notice::ROW] && areas == [7; Notice::ENTRIES] && text == [7; Notice::TEXT])
@@ -122,7 +122,7 @@ fn not_written<C: Calls>(who: &str, tally: &mut Tally) {
 }
 
 /// A correction: the field's number, its new value, and what is answered, with the bytes that are others then.
-type Corrected = (usize, u64, u8, &'static [(usize, u8)]);
+type Corrected = (usize, u64, u32, &'static [(usize, u8)]);
 
 /// Case H, and what decides the layout or is refused with the other fields.
 const BARE_CORRECTIONS: [Corrected; 10] = [

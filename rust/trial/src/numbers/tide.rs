@@ -46,7 +46,7 @@ fn good<C: Calls>(who: &str, telegram: &Telegram, tally: &mut Tally) {
 }
 
 /// What reading, heights and a correction of no field answer. A refusal leaves what is lent.
-fn judged<C: Calls>(case: &str, message: &[u8], due: u8, tally: &mut Tally) {
+fn judged<C: Calls>(case: &str, message: &[u8], due: u32, tally: &mut Tally) {
     let (mut count, mut numbers, mut row) = (99, 99, [7; Tide::ROW]);
     let code = C::read(message, &mut count, &mut numbers, &mut row);
     let kept = (count, numbers, row) == (99, 99, [7; Tide::ROW]);
@@ -115,7 +115,7 @@ fn not_written<C: Calls>(who: &str, tally: &mut Tally) {
 }
 
 /// A correction: the field's number, its new value, and what is answered, with the bytes that are others then.
-type Corrected = (usize, u64, u8, &'static [(usize, u8)]);
+type Corrected = (usize, u64, u32, &'static [(usize, u8)]);
 
 const OBSERVED_CORRECTIONS: [Corrected; 19] = [
     (0, 0xE4, 10, &[]),

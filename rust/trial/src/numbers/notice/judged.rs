@@ -9,7 +9,7 @@ pub fn bare_with(rest: &[u8]) -> Vec<u8> {
 }
 
 /// Notices whose head or areas are judged: the case, its language, and what reading it answers.
-pub fn heads_and_areas() -> Vec<(&'static str, Vec<u8>, u8, u8)> {
+pub fn heads_and_areas() -> Vec<(&'static str, Vec<u8>, u8, u32)> {
     vec![
         ("no bytes in language 2", vec![], 2, 4),
         ("no bytes", vec![], CHINESE, 1),
@@ -35,7 +35,7 @@ pub fn heads_and_areas() -> Vec<(&'static str, Vec<u8>, u8, u8)> {
 }
 
 /// Notices whose text or fill is judged.
-pub fn texts_and_fills() -> Vec<(&'static str, Vec<u8>, u8, u8)> {
+pub fn texts_and_fills() -> Vec<(&'static str, Vec<u8>, u8, u32)> {
     vec![
         ("0x1F before the fill", bare_with(&[0x61, 0x18, 0, 0, 0, 0x3F]), ENGLISH, 4),
         ("a pair in English", bare_with(&[0x61, 0x18, 0, 0, 0x01, 0x61, 0x42]), ENGLISH, 4),

@@ -79,7 +79,7 @@ pub fn observed_with(others: &[(usize, u8)]) -> Vec<u8> {
 }
 
 /// Sizes, codes and what is left over: the case, and what reading it answers.
-pub fn sizes_and_codes() -> Vec<(&'static str, Vec<u8>, u8)> {
+pub fn sizes_and_codes() -> Vec<(&'static str, Vec<u8>, u32)> {
     vec![
         ("no bytes", vec![], 1),
         ("8 bytes", OBSERVED[..8].to_vec(), 1),
@@ -99,7 +99,7 @@ pub fn sizes_and_codes() -> Vec<(&'static str, Vec<u8>, u8)> {
 }
 
 /// Fields that are good or refused.
-pub fn fields() -> Vec<(&'static str, Vec<u8>, u8)> {
+pub fn fields() -> Vec<(&'static str, Vec<u8>, u32)> {
     vec![
         ("no records", observed_with(&[(2, 0x00)]), 4),
         ("a second record that is missing", observed_with(&[(2, 0x10)]), 1),
