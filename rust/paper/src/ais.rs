@@ -11,15 +11,12 @@ use record::{Ais, Area, Refusal, Warning};
 /// What a message has of its own. Both have three fills.
 ///
 /// The steps of reading and writing are inlined, so that the compiler asks once for the warning type or shape.
-pub trait Kind: Ais {
+pub trait Kind: Ais + Tested<Fills = [u64; 3]> {
     /// Message number, application, and warning type or shape.
     fn handled(start: &[u8; SMALLEST]) -> bool;
 
     /// The record of a message of its size, and the bits of its fills.
     fn unpack(message: &[u8]) -> (Self, [u64; 3]);
-
-    /// The fields stand in their ranges, and the fills are zero: makes these tests in bit order.
-    fn tests(&self, fills: [u64; 3], test: &mut impl FnMut(bool, Refusal));
 
     /// Makes the message of a good record.
     fn pack(&self, message: &mut [u8]);
@@ -30,17 +27,6 @@ pub trait Kind: Ais {
     fn change(&mut self, field: usize, value: u64) -> Result<(), Refusal>;
 }
 
-/// What a message spells: its record, and the bits of its fills.
-#[derive(Clone, Copy)]
-struct Spelled<M>(M, [u64; 3]);
-
-impl<M: Kind> Tested for Spelled<M> {
-    #[inline]
-    fn tests(&self, test: &mut impl FnMut(bool, Refusal)) {
-        self.0.tests(self.1, test);
-    }
-}
-
 const SMALLEST: usize = 23;
 const LARGEST_MMSI: u32 = 999_999_999;
 
@@ -48,12 +34,13 @@ const LARGEST_MMSI: u32 = 999_999_999;
 const REPEAT: u32 = 6;
 const SOURCE: u32 = 8;
 
+#[inline]
 pub fn read<M: Kind>(message: &[u8]) -> Result<M, Refusal> {
     let start = message.first_chunk().ok_or(Refusal::SIZE)?;
     need(M::handled(start), Refusal::KIND)?;
     need(message.len() == M::BYTES, Refusal::SIZE)?;
     let (record, fills) = M::unpack(message);
-    Spelled(record, fills).judge()?;
+    record.judge(fills)?;
     Ok(record)
 }
 
@@ -72,7 +59,7 @@ pub fn read_any(message: &[u8]) -> Result<(), Refusal> {
 }
 
 pub fn write<M: Kind>(buf: &mut [u8], record: &M) -> Result<(), Refusal> {
-    Spelled(*record, [0; 3]).judge()?;
+    record.judge([0; 3])?;
     record.pack(buf.get_mut(..M::BYTES).ok_or(Refusal::ROOM)?);
     Ok(())
 }

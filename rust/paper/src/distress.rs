@@ -5,27 +5,35 @@ use record::{Refusal, Report};
 
 const CODE: [u8; 2] = [0xBD, 0xC1];
 
-/// Of each field the bit that it starts at, and its width.
-const STARTS: [u32; Report::ROW] = [16, 48, 73, 97, 102, 107, 113, 120, 129];
-const WIDTHS: [u32; Report::ROW] = [32, 25, 24, 5, 5, 6, 7, 9, 4];
+/// The bits that the fields start at.
+const MMSI: u32 = 16;
+const LONGITUDE: u32 = 48;
+const LATITUDE: u32 = 73;
+const DAY: u32 = 97;
+const HOUR: u32 = 102;
+const MINUTE: u32 = 107;
+const SPEED: u32 = 113;
+const COURSE: u32 = 120;
+const KIND: u32 = 129;
 const FILL: u32 = 133;
 
 impl Tested for Report {
-    /// The fields stand in their ranges.
+    type Fills = u64;
+
+    /// The fields stand in their ranges, and the fill is zero.
     #[inline]
-    fn tests(&self, test: &mut impl FnMut(bool, Refusal)) {
-        let good = [
-            self.mmsi <= 999_999_999,
-            within(self.longitude, 10_800_000, 10_860_000),
-            within(self.latitude, 5_400_000, 5_460_000),
-            self.day <= 31,
-            self.hour <= 24,
-            self.minute <= 60,
-            self.speed <= 126,
-            self.course <= 360,
-            self.kind <= 9,
-        ];
-        good.into_iter().zip(STARTS).for_each(|(good, start)| test(good, Refusal::RANGE.at(start)));
+    fn tests(&self, fill: u64, test: &mut impl FnMut(bool, Refusal)) {
+        let mut range = |good: bool, at: u32| test(good, Refusal::RANGE.at(at));
+        range(self.mmsi <= 999_999_999, MMSI);
+        range(within(self.longitude, 10_800_000, 10_860_000), LONGITUDE);
+        range(within(self.latitude, 5_400_000, 5_460_000), LATITUDE);
+        range(self.day <= 31, DAY);
+        range(self.hour <= 24, HOUR);
+        range(self.minute <= 60, MINUTE);
+        range(self.speed <= 126, SPEED);
+        range(self.course <= 360, COURSE);
+        range(self.kind <= 9, KIND);
+        test(fill == 0, Refusal::FILL.at(FILL));
     }
 }
 
@@ -67,6 +75,7 @@ fn pack(r: &Report) -> [u8; Report::BYTES] {
     m
 }
 
+#[inline]
 pub fn read(message: &[u8]) -> Result<Report, Refusal> {
     let head = message.first_chunk().ok_or(Refusal::SIZE)?;
     if head[..2] != CODE {
@@ -76,11 +85,17 @@ pub fn read(message: &[u8]) -> Result<Report, Refusal> {
         return Err(Refusal::SIZE);
     }
     let (report, fill) = unpack(head);
-    report.judge()?;
-    if fill != 0 {
-        return Err(Refusal::FILL.at(FILL));
+    if !report.good(fill) {
+        return Err(fault(head));
     }
     Ok(report)
+}
+
+/// What refuses a message with a bad field or fill.
+#[cold]
+fn fault(message: &[u8; Report::BYTES]) -> Refusal {
+    let (report, fill) = unpack(message);
+    report.fault(fill)
 }
 
 pub fn read_row(message: &[u8], row: &mut [i64]) -> Result<(), Refusal> {
@@ -90,11 +105,13 @@ pub fn read_row(message: &[u8], row: &mut [i64]) -> Result<(), Refusal> {
 }
 
 /// The 17 bytes of a report.
+#[inline]
 pub fn message(report: &Report) -> Result<[u8; Report::BYTES], Refusal> {
-    report.judge()?;
+    report.judge(0)?;
     Ok(pack(report))
 }
 
+#[inline]
 pub fn write(buf: &mut [u8], report: &Report) -> Result<(), Refusal> {
     let message = message(report)?;
     *buf.first_chunk_mut().ok_or(Refusal::ROOM)? = message;
@@ -103,19 +120,17 @@ pub fn write(buf: &mut [u8], report: &Report) -> Result<(), Refusal> {
 
 pub fn correct(message: &mut [u8], field: usize, value: u64) -> Result<(), Refusal> {
     let mut report = read(message)?;
-    let index = field.wrapping_sub(1);
-    let width = *WIDTHS.get(index).ok_or(Refusal::FIELD)?;
-    let value = narrow(value, width, STARTS[index])?;
     match field {
-        Report::MMSI => report.mmsi = value as u32,
-        Report::LONGITUDE => report.longitude = signed(value, 25),
-        Report::LATITUDE => report.latitude = signed(value, 24),
-        Report::DAY => report.day = value as u8,
-        Report::HOUR => report.hour = value as u8,
-        Report::MINUTE => report.minute = value as u8,
-        Report::SPEED => report.speed = value as u8,
-        Report::COURSE => report.course = value as u16,
-        _ => report.kind = value as u8,
+        Report::MMSI => report.mmsi = narrow(value, 32, MMSI)? as u32,
+        Report::LONGITUDE => report.longitude = signed(narrow(value, 25, LONGITUDE)?, 25),
+        Report::LATITUDE => report.latitude = signed(narrow(value, 24, LATITUDE)?, 24),
+        Report::DAY => report.day = narrow(value, 5, DAY)? as u8,
+        Report::HOUR => report.hour = narrow(value, 5, HOUR)? as u8,
+        Report::MINUTE => report.minute = narrow(value, 6, MINUTE)? as u8,
+        Report::SPEED => report.speed = narrow(value, 7, SPEED)? as u8,
+        Report::COURSE => report.course = narrow(value, 9, COURSE)? as u16,
+        Report::KIND => report.kind = narrow(value, 4, KIND)? as u8,
+        _ => return Err(Refusal::FIELD),
     }
     write(message, &report)
 }

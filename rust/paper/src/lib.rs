@@ -44,33 +44,41 @@ fn narrow(value: u64, width: u32, at: u32) -> Result<u64, Refusal> {
     Ok(value)
 }
 
-/// What is judged by tests in bit order.
-trait Tested: Copy {
-    /// Makes the tests in bit order: whether each holds, and the refusal where it does not.
-    fn tests(&self, test: &mut impl FnMut(bool, Refusal));
+/// A record that is judged by tests in bit order.
+pub trait Tested: Copy {
+    /// What stands in a message beside the record: its fills.
+    type Fills: Copy;
 
-    /// The tests are made together, without branches. Only where one fails is the first of those looked for.
+    /// Makes the tests in bit order: whether each holds, and the refusal where it does not.
+    fn tests(&self, fills: Self::Fills, test: &mut impl FnMut(bool, Refusal));
+
+    /// Whether all tests hold. They are made together, without branches.
     #[inline]
-    fn judge(&self) -> Result<(), Refusal> {
+    fn good(&self, fills: Self::Fills) -> bool {
         let mut good = true;
-        self.tests(&mut |holds, _| good &= holds);
-        if good {
-            Ok(())
-        } else {
-            Err(self.fault())
-        }
+        self.tests(fills, &mut |holds, _| good &= holds);
+        good
     }
 
-    /// The refusal of the first test that fails; one does.
+    /// The refusal of the first test that fails; one does. It is given a copy, so that a good record need not be in memory.
     #[cold]
-    fn fault(self) -> Refusal {
+    fn fault(self, fills: Self::Fills) -> Refusal {
         let mut first = None;
-        self.tests(&mut |holds, refusal| {
+        self.tests(fills, &mut |holds, refusal| {
             if !holds {
                 first.get_or_insert(refusal);
             }
         });
         first.expect("a test fails")
+    }
+
+    #[inline]
+    fn judge(&self, fills: Self::Fills) -> Result<(), Refusal> {
+        if self.good(fills) {
+            Ok(())
+        } else {
+            Err(self.fault(fills))
+        }
     }
 }
 

@@ -43,7 +43,9 @@ fn find(message: &[u8], language: u8) -> Result<Found, Refusal> {
     let first = message.first_chunk().ok_or(Refusal::SIZE)?;
     need(message.len() <= GREATEST, Refusal::SIZE)?;
     let (head, areas) = head_of(first);
-    head.judge()?;
+    if !head.good(()) {
+        return Err(head_of(first).0.fault(()));
+    }
     let mut found = Found { head, areas, entries: 0, angles: 0, text_at: HEAD_BITS };
     walk(areas, |part| {
         found.entries += 1;
@@ -76,9 +78,11 @@ fn head_of(first: &[u8; LEAST]) -> (Head, u32) {
 }
 
 impl Tested for Head {
+    type Fills = ();
+
     /// The fields stand in their ranges.
     #[inline]
-    fn tests(&self, test: &mut impl FnMut(bool, Refusal)) {
+    fn tests(&self, (): (), test: &mut impl FnMut(bool, Refusal)) {
         let mut range = |good: bool, at: u32| test(good, Refusal::RANGE.at(at));
         range((1..=21).contains(&self.source), STARTS[0]);
         range((1..=3).contains(&self.station), STARTS[1]);
@@ -120,7 +124,7 @@ pub fn read(message: &[u8], language: u8, row: &mut [i64], areas: &mut [u32], te
     row[7..].copy_from_slice(&[found.areas.into(), found.entries as i64, size as i64]);
     let (mut at, mut used) = (HEAD_BITS, 0);
     walk(found.areas, |part| {
-        let value = part.read(message, &mut at)?;
+        let value = part.take(message, &mut at);
         areas[used] = value;
         used += 1;
         Ok(value)
@@ -132,7 +136,7 @@ pub fn read(message: &[u8], language: u8, row: &mut [i64], areas: &mut [u32], te
 /// Writes the notice of a head, of so many areas whose entries stand in a row, and of a text.
 pub fn write(buf: &mut [u8], language: u8, head: &Head, count: u8, areas: &[u32], text: &[u8]) -> Result<(), Refusal> {
     need(language <= 1, Refusal::RANGE)?;
-    head.judge()?;
+    head.judge(())?;
     need(usize::from(count) <= MOST_AREAS, Refusal::RANGE.at(STARTS[COUNT]))?;
     let (mut entries, mut bits) = (0, HEAD_BITS);
     walk(count.into(), |part| {
@@ -193,7 +197,7 @@ fn change(mut head: Head, number: usize, value: u64) -> Result<u32, Refusal> {
         5 => head.subtype = value as u8,
         _ => head.expiry = value as u32,
     }
-    head.judge()?;
+    head.judge(())?;
     Ok(width)
 }
 
@@ -205,7 +209,7 @@ fn entry(message: &[u8], areas: u32, place: usize) -> Option<(usize, Part)> {
             sought = Some((at, part));
         }
         index += 1;
-        part.read(message, &mut at)
+        Ok(part.take(message, &mut at))
     })
     .ok()?;
     sought
@@ -217,7 +221,7 @@ pub fn outline(message: &[u8], language: u8, row: &mut [i32]) -> Result<usize, R
     let row = row.get_mut(..found.angles).ok_or(Refusal::ROOM)?;
     let (mut at, mut used) = (HEAD_BITS, 0);
     walk(found.areas, |part| {
-        let value = part.read(message, &mut at)?;
+        let value = part.take(message, &mut at);
         if let Some(hundredths) = part.hundredths(value) {
             row[used] = hundredths;
             used += 1;

@@ -2,16 +2,16 @@
 
 use std::error::Error;
 use std::fmt;
-use std::num::NonZeroU8;
+use std::num::NonZeroU32;
 
 /// Why a call was refused, by the numbers of 01, "Refusal numbers", and the bit of the message that is at fault.
 ///
 /// The constants are the refusals that no field gave; [`at`](Refusal::at) makes of them those of a field.
-#[derive(Clone, Copy, PartialEq, Eq, Debug)]
-pub struct Refusal {
-    code: NonZeroU8,
-    bit: u32,
-}
+#[derive(Clone, Copy, PartialEq, Eq)]
+pub struct Refusal(
+    /// As a call for C answers it: the number in the low 8 bits, the bit above them.
+    NonZeroU32,
+);
 
 impl Refusal {
     /// 1: the input's size does not fit its layout or limits.
@@ -37,36 +37,42 @@ impl Refusal {
     /// 11: no notice of that number is open.
     pub const UNKNOWN: Refusal = Refusal::new(11);
 
-    const fn new(code: u8) -> Refusal {
-        let Some(code) = NonZeroU8::new(code) else { panic!("0 is no refusal") };
-        Refusal { code, bit: 0 }
+    #[inline]
+    const fn new(answer: u32) -> Refusal {
+        match Refusal::of_answer(answer) {
+            Some(refusal) => refusal,
+            None => panic!("0 is no refusal"),
+        }
+    }
+
+    /// What a call for C answers: the number in the low 8 bits, the bit above them; none for 0, by which it accepts.
+    #[inline]
+    pub const fn of_answer(answer: u32) -> Option<Refusal> {
+        match NonZeroU32::new(answer) {
+            Some(answer) => Some(Refusal(answer)),
+            None => None,
+        }
     }
 
     /// This refusal by the field that starts at a bit. Only 1, 4 and 5 show it.
     #[inline]
     pub const fn at(self, bit: u32) -> Refusal {
         match self.code() {
-            1 | 4 | 5 => Refusal { bit, ..self },
+            code @ (1 | 4 | 5) => Refusal::new(bit << 8 | code as u32),
             _ => self,
         }
-    }
-
-    /// What a call for C answers: the number in the low 8 bits, the bit above them; none for 0, by which it accepts.
-    #[inline]
-    pub fn of_answer(answer: u32) -> Option<Refusal> {
-        Some(Refusal { code: NonZeroU8::new(answer as u8)?, bit: answer >> 8 })
     }
 
     /// The number, 1 to 11.
     #[inline]
     pub const fn code(self) -> u8 {
-        self.code.get()
+        self.0.get() as u8
     }
 
     /// The first bit of the field at fault, counted from the message's start; 0 where no field is.
     #[inline]
     pub const fn bit(self) -> u32 {
-        self.bit
+        self.0.get() >> 8
     }
 
     fn words(self) -> &'static str {
@@ -90,10 +96,16 @@ impl Refusal {
 /// As in "4 at bit 94: outside its range", and "6: too little room" where there is no bit to show.
 impl fmt::Display for Refusal {
     fn fmt(&self, f: &mut fmt::Formatter) -> fmt::Result {
-        match self.bit {
-            0 => write!(f, "{}: {}", self.code, self.words()),
-            bit => write!(f, "{} at bit {bit}: {}", self.code, self.words()),
+        match self.bit() {
+            0 => write!(f, "{}: {}", self.code(), self.words()),
+            bit => write!(f, "{} at bit {bit}: {}", self.code(), self.words()),
         }
+    }
+}
+
+impl fmt::Debug for Refusal {
+    fn fmt(&self, f: &mut fmt::Formatter) -> fmt::Result {
+        f.debug_struct("Refusal").field("code", &self.code()).field("bit", &self.bit()).finish()
     }
 }
 
@@ -102,5 +114,5 @@ impl Error for Refusal {}
 /// What a call answers in C: 0 where it is accepted, else the refusal's number and 256 times its bit.
 #[inline]
 pub fn answer(result: Result<(), Refusal>) -> u32 {
-    result.map_or_else(|refusal| refusal.bit << 8 | u32::from(refusal.code()), |()| 0)
+    result.map_or_else(|Refusal(answer)| answer.get(), |()| 0)
 }

@@ -2,7 +2,7 @@
 //! are not the 176 that both print).
 
 use super::time::TimeField;
-use super::{bytes_at, field, narrow, signed, within, Kind, LARGEST_MMSI, REPEAT, SMALLEST, SOURCE};
+use super::{bytes_at, field, narrow, signed, within, Kind, Tested, LARGEST_MMSI, REPEAT, SMALLEST, SOURCE};
 use record::{Ais, Area, Refusal, Shape, ShortTime, Time};
 
 pub const MESSAGE: u8 = 6;
@@ -28,6 +28,38 @@ const TIME: u32 = 204;
 const SECOND_TIME: u32 = 224;
 const ADVICE: u32 = 238;
 const FILL: u32 = 242;
+
+impl Tested for Area {
+    type Fills = [u64; 3];
+
+    /// The fields stand in their ranges, and the fills are zero.
+    #[inline]
+    fn tests(&self, [head_fill, place_fill, fill]: [u64; 3], test: &mut impl FnMut(bool, Refusal)) {
+        test(self.repeat <= 3, Refusal::RANGE.at(REPEAT));
+        test(self.source <= LARGEST_MMSI, Refusal::RANGE.at(SOURCE));
+        test(self.sequence <= 3, Refusal::RANGE.at(SEQUENCE));
+        test(self.destination <= LARGEST_MMSI, Refusal::RANGE.at(DESTINATION));
+        test(self.resent <= 1, Refusal::RANGE.at(RESENT));
+        test(head_fill == 0, Refusal::FILL.at(HEAD_FILL));
+        test((1..=14).contains(&self.kind), Refusal::RANGE.at(KIND));
+        test(good_longitude(self.longitude), Refusal::RANGE.at(LONGITUDE));
+        test(good_latitude(self.latitude), Refusal::RANGE.at(LATITUDE));
+        match self.shape {
+            Shape::Circle { radius } => {
+                test(radius < 1 << 7, Refusal::RANGE.at(RADIUS));
+                test(place_fill == 0, Refusal::FILL.at(CIRCLE_FILL));
+            }
+            Shape::Rectangle { longitude, latitude } => {
+                test(good_longitude(longitude), Refusal::RANGE.at(OTHER_LONGITUDE));
+                test(good_latitude(latitude), Refusal::RANGE.at(OTHER_LATITUDE));
+            }
+        }
+        self.time.tests(TIME, test);
+        self.second_time.tests(SECOND_TIME, test);
+        test((1..=6).contains(&self.advice), Refusal::RANGE.at(ADVICE));
+        test(fill == 0, Refusal::FILL.at(FILL));
+    }
+}
 
 impl Kind for Area {
     #[inline]
@@ -63,33 +95,6 @@ impl Kind for Area {
             advice: field(end, 6, 4) as u8,
         };
         (area, [head & 1, place_fill, field(end, 0, 6)])
-    }
-
-    #[inline]
-    fn tests(&self, [head_fill, place_fill, fill]: [u64; 3], test: &mut impl FnMut(bool, Refusal)) {
-        test(self.repeat <= 3, Refusal::RANGE.at(REPEAT));
-        test(self.source <= LARGEST_MMSI, Refusal::RANGE.at(SOURCE));
-        test(self.sequence <= 3, Refusal::RANGE.at(SEQUENCE));
-        test(self.destination <= LARGEST_MMSI, Refusal::RANGE.at(DESTINATION));
-        test(self.resent <= 1, Refusal::RANGE.at(RESENT));
-        test(head_fill == 0, Refusal::FILL.at(HEAD_FILL));
-        test((1..=14).contains(&self.kind), Refusal::RANGE.at(KIND));
-        test(good_longitude(self.longitude), Refusal::RANGE.at(LONGITUDE));
-        test(good_latitude(self.latitude), Refusal::RANGE.at(LATITUDE));
-        match self.shape {
-            Shape::Circle { radius } => {
-                test(radius < 1 << 7, Refusal::RANGE.at(RADIUS));
-                test(place_fill == 0, Refusal::FILL.at(CIRCLE_FILL));
-            }
-            Shape::Rectangle { longitude, latitude } => {
-                test(good_longitude(longitude), Refusal::RANGE.at(OTHER_LONGITUDE));
-                test(good_latitude(latitude), Refusal::RANGE.at(OTHER_LATITUDE));
-            }
-        }
-        self.time.tests(TIME, test);
-        self.second_time.tests(SECOND_TIME, test);
-        test((1..=6).contains(&self.advice), Refusal::RANGE.at(ADVICE));
-        test(fill == 0, Refusal::FILL.at(FILL));
     }
 
     #[inline]

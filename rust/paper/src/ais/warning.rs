@@ -1,7 +1,7 @@
 //! Message 8 with application 412/03 (003, tables 5 and 56 to 62).
 
 use super::time::TimeField;
-use super::{body, bytes_at, field, narrow, Kind, LARGEST_MMSI, REPEAT, SMALLEST, SOURCE};
+use super::{body, bytes_at, field, narrow, Kind, Tested, LARGEST_MMSI, REPEAT, SMALLEST, SOURCE};
 use record::{Ais, Refusal, Time, Warning};
 
 pub const MESSAGE: u8 = 8;
@@ -18,6 +18,24 @@ const LATITUDE: u32 = 83;
 const TIME: u32 = 156;
 const HOURS: u32 = 176;
 const FILL: u32 = 182;
+
+impl Tested for Warning {
+    type Fills = [u64; 3];
+
+    /// The fields stand in their ranges, and the fills are zero.
+    #[inline]
+    fn tests(&self, [head_fill, body_fill, fill]: [u64; 3], test: &mut impl FnMut(bool, Refusal)) {
+        test(self.repeat <= 3, Refusal::RANGE.at(REPEAT));
+        test(self.source <= LARGEST_MMSI, Refusal::RANGE.at(SOURCE));
+        test(head_fill == 0, Refusal::FILL.at(HEAD_FILL));
+        test(self.longitude <= FARTHEST, Refusal::RANGE.at(LONGITUDE));
+        test(self.latitude <= FARTHEST, Refusal::RANGE.at(LATITUDE));
+        body::tests(&self.body, body_fill, test);
+        self.time.tests(TIME, test);
+        test(self.hours <= 48, Refusal::RANGE.at(HOURS));
+        test(fill == 0, Refusal::FILL.at(FILL));
+    }
+}
 
 impl Kind for Warning {
     #[inline]
@@ -42,19 +60,6 @@ impl Kind for Warning {
             hours: field(low, 2, 6) as u8,
         };
         (warning, [u64::from(source & 3), body_fill, low & 3])
-    }
-
-    #[inline]
-    fn tests(&self, [head_fill, body_fill, fill]: [u64; 3], test: &mut impl FnMut(bool, Refusal)) {
-        test(self.repeat <= 3, Refusal::RANGE.at(REPEAT));
-        test(self.source <= LARGEST_MMSI, Refusal::RANGE.at(SOURCE));
-        test(head_fill == 0, Refusal::FILL.at(HEAD_FILL));
-        test(self.longitude <= FARTHEST, Refusal::RANGE.at(LONGITUDE));
-        test(self.latitude <= FARTHEST, Refusal::RANGE.at(LATITUDE));
-        body::tests(&self.body, body_fill, test);
-        self.time.tests(TIME, test);
-        test(self.hours <= 48, Refusal::RANGE.at(HOURS));
-        test(fill == 0, Refusal::FILL.at(FILL));
     }
 
     #[inline]

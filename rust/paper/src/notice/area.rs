@@ -120,7 +120,15 @@ impl Part {
         }
     }
 
+    /// The number that starts at a bit of a good notice; goes past it.
+    pub fn take(self, message: &[u8], at: &mut usize) -> u32 {
+        let value = bits::get(message, *at, self.width());
+        *at += self.width() as usize;
+        value
+    }
+
     /// Reads the number that starts at a bit, and goes past it.
+    #[inline]
     pub fn read(self, message: &[u8], at: &mut usize) -> Result<u32, Refusal> {
         let end = *at + self.width() as usize;
         if end <= 8 * message.len() {

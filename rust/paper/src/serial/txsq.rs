@@ -36,6 +36,7 @@ impl Kind for Txsq {
         })
     }
 
+    #[inline]
     fn judge(&self, content: &[u8]) -> Result<(), Refusal> {
         let most = match (self.category, self.password) {
             (_, 1) => 83,
