@@ -12,7 +12,9 @@ use draft::good_draft;
 /// The bytes of a telegram up to a bit of a number that is at an edge, or a little past it: a bad part of a point or of
 /// a time goes before what is missing behind it.
 fn cut_message(random: &mut Random, mut draft: Draft) -> Vec<u8> {
-    let at = random.below(draft.numbers.len());
+    // Few numbers open a record, so that one of those is cut every other time.
+    let (any, opening) = (random.below(draft.numbers.len()), random.pick(&draft.openings()));
+    let at = random.pick(&[any, opening]);
     let parts = draft.numbers[at].parts;
     draft.numbers[at].number = parts.edge(random);
     let bits = draft.bits_before(at) as usize + random.below(parts.width() as usize + 8);

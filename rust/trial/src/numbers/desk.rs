@@ -1,6 +1,7 @@
 //! Case J, refusals whose order is easily mistaken, and places that are none of a desk.
 
 use super::ais::with_bytes;
+use super::at;
 use super::packet::packet;
 use crate::family::desk::Calls;
 use crate::family::{Paper, Proved};
@@ -154,7 +155,7 @@ fn ordered<C: Calls>(who: &str, tally: &mut Tally) {
     for (case, packet, row, store, due) in [
         ("4 bytes before all else", &first[..4], &spoiled[..267], short, [1, 6, 6]),
         ("version 2 before all else", &with_bytes(&first, &[(1, 0x50)])[..], &spoiled[..267], short, [2, 6, 6]),
-        ("own number 3 of 3 before all else", &packet(head(3), b"A")[..], &spoiled[..267], short, [4, 6, 6]),
+        ("own number 3 of 3 before all else", &packet(head(3), b"A")[..], &spoiled[..267], short, [at(4, 26), 6, 6]),
         ("a short store before the places", &first[..], &spoiled[..], short, [6, 6, 6]),
         ("a short row", &first[..], &good[..267], exact, [6, 6, 6]),
         ("no row", &first[..], &[], exact, [6, 6, 6]),
