@@ -53,11 +53,11 @@ enum bellnewt_refusal {
  * - Bytes left over behind a tide telegram: the first of them.
  * - In a correction the field at fault need not be the corrected one: if a total becomes no more than the own number,
  *   that is the own number. A value that is wider than its field is a fault of that field.
- * A report inside of a sentence has the report's bits, a packet at the desk the packet's. Outlines and heights have those
- * of reading.
+ * A report inside of a sentence has the report's bits, a packet at the desk the packet's. Outlines and heights have
+ * those of reading.
  *
- * The bit is 0 in every other refusal: by another number, by a size that is tested before the fields or after them, by a
- * language above 1 that the splitter or a notice's call is told, by what stands around a report in a sentence, and by
+ * The bit is 0 in every other refusal: by another number, by a size that is tested before the fields or after them, by
+ * a language above 1 that the splitter or a notice's call is told, by what stands around a report in a sentence, and by
  * the desk's own tests. A notice's source is at bit 0, so that its refusal has 0 too.
  */
 static inline uint8_t bellnewt_code(uint32_t answer) {
