@@ -142,7 +142,7 @@ pub fn write(buf: &mut [u8], language: u8, head: &Head, count: u8, areas: &[u32]
     walk(count.into(), |part| {
         // What is missing counts as 0 until room is tested.
         let value = areas.get(entries).copied().unwrap_or(0);
-        part.judge(value, bits)?;
+        part.judge(value, bits as u32)?;
         entries += 1;
         bits += part.width() as usize;
         Ok(value)
@@ -176,7 +176,7 @@ pub fn correct(message: &mut [u8], language: u8, number: usize, value: u64) -> R
     } else {
         let (at, part) = entry(message, found.areas, number - FIRST_ENTRY).ok_or(Refusal::FIELD)?;
         need(part.is_free(), Refusal::FIELD)?;
-        part.judge(narrow(value, part.width(), at as u32)? as u32, at)?;
+        part.judge(narrow(value, part.width(), at as u32)? as u32, at as u32)?;
         (at, part.width())
     };
     bits::put(message, at, width, value);

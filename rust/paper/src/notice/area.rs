@@ -148,11 +148,11 @@ impl Part {
     }
 
     /// Judges a value, to stand from a bit on. One that is too wide is refused at that bit.
-    pub fn judge(self, value: u32, at: usize) -> Result<(), Refusal> {
+    pub fn judge(self, value: u32, at: u32) -> Result<(), Refusal> {
         if self.good(value) {
             Ok(())
         } else {
-            Err(self.fault_of(value, at as u32))
+            Err(self.fault_of(value, at))
         }
     }
 

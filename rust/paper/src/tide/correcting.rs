@@ -29,7 +29,7 @@ pub fn correct(message: &mut [u8], field: usize, value: u64) -> Result<(), Refus
     let (at, number) = locate(message, found.records, place).ok_or(Refusal::FIELD)?;
     let width = number.width();
     let value = narrow(value, width, at as u32)?;
-    number.judge(message, at, value as u32)?;
+    number.judge(message, at as u32, value as u32)?;
     bits::put(message, at, width, value);
     Ok(())
 }
@@ -76,7 +76,7 @@ impl Number {
     }
 
     /// Judges the changed record. Whatever of an entry is changed, all of it is judged: a sign may not fit its value.
-    fn judge(&self, message: &[u8], at: usize, value: u32) -> Result<(), Refusal> {
+    fn judge(&self, message: &[u8], at: u32, value: u32) -> Result<(), Refusal> {
         match *self {
             Number::Port | Number::Forecast => Ok(()),
             Number::Latitude => Latitude.judge(value, at),

@@ -47,16 +47,17 @@ fn lead(row: &[u32], at: usize) -> Option<Lead> {
 #[cold]
 fn lead_fault(row: &[u32], at: usize, start: u32) -> Refusal {
     let [kind, first, second] = [0, 1, 2].map(|next| number(row, at + next, 0));
-    let is_point = kind == 1;
-    let position = match kind {
-        0 => need(first <= 63, Refusal::RANGE.at(start + 1)),
-        1 => Latitude.judge(first, start as usize + 1).and_then(|()| Longitude.judge(second, start as usize + 22)),
-        _ => Err(Refusal::RANGE.at(start)),
+    let (position, forecast, before) = match kind {
+        0 => (need(first <= 63, Refusal::RANGE.at(start + 1)), at + 2, 7),
+        1 => {
+            let latitude = Latitude.judge(first, start + 1);
+            (latitude.and_then(|()| Longitude.judge(second, start + 22)), at + 3, 44)
+        }
+        _ => return Refusal::RANGE.at(start),
     };
-    let (forecast_at, forecast) = if is_point { (44, at + 3) } else { (7, at + 2) };
-    let is_forecast = number(row, forecast, 0) > 1;
-    let behind = start + forecast_at + if is_forecast { 0 } else { 1 };
-    position.err().unwrap_or(Refusal::RANGE.at(behind))
+    let entries_at = start + before + 1;
+    let rest = need(number(row, forecast, 0) <= 1, Refusal::RANGE.at(start + before));
+    position.and(rest).err().unwrap_or(Refusal::RANGE.at(entries_at))
 }
 
 /// Three numbers are those of a good entry.
