@@ -16,9 +16,6 @@ use crate::inputs::Random;
 use std::fmt::Debug;
 use std::thread;
 
-/// How often each number must be met in a run of many inputs. Each field that can be refused must be met then too.
-const FLOOR: u64 = 1_000;
-
 /// Options of a run: every input follows from the seed.
 #[derive(Clone, Copy)]
 pub struct Options {
@@ -30,10 +27,19 @@ pub struct Options {
 impl Options {
     pub const DEFAULT: Options = Options { seed: 1, inputs: 2_000_000 };
 
-    /// How often each number that a call can give must be met: a thousand times, or in proportion in a shorter run.
-    pub fn floor(&self) -> u64 {
-        (self.inputs / 1_000).min(FLOOR)
+    /// What must be met: each number a thousand times, or in proportion in a run of less than a million inputs.
+    pub fn floor(&self) -> Floor {
+        Floor { times: (self.inputs / 1_000).min(1_000), fields: self.inputs >= 1_000_000 }
     }
+}
+
+/// What a run must meet.
+#[derive(Clone, Copy)]
+pub struct Floor {
+    /// How often each number that a call can give.
+    pub times: u64,
+    /// Whether each field that a call can refuse.
+    pub fields: bool,
 }
 
 /// A call's name, the numbers that it can give, and the fields that it can refuse.
@@ -80,14 +86,13 @@ pub fn run<F: Family>(options: &Options, tally: &mut Tally) {
     run_pieces(F::NAME, F::CALLS, options.inputs, compare, options.floor(), tally);
 }
 
-/// Runs so many pieces of a family's work, prints what was met, and counts its checks: among them that each number that
-/// a call can give was met `floor` times.
+/// Runs so many pieces of a family's work, prints what was met, and counts its checks: among them that `floor` was met.
 pub fn run_pieces(
     name: &'static str,
     calls: &[Call],
     pieces: u64,
     compare: impl Fn(u64, &mut Counts) + Sync,
-    floor: u64,
+    floor: Floor,
     tally: &mut Tally,
 ) {
     let work = |first: u64| {

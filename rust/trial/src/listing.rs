@@ -1,6 +1,6 @@
 //! The listing program, compiled from proved code, against the independent listing.
 
-use crate::harness::{self, Call, Counts, Options, Tally};
+use crate::harness::{self, Call, Counts, Floor, Options, Tally};
 use crate::inputs::{daylog, Random};
 use crate::{places, sample};
 use paper::daylog::{listing, KINDS};
@@ -33,7 +33,9 @@ pub fn run(options: &Options, tally: &mut Tally) {
         compare(&format!("{name}, seed {}, log {index}", options.seed), log, counts);
     };
     // A log has one broken record at most, and a program is started for each.
-    harness::run_pieces(NAME, &CALLS, logs.len() as u64, compare, options.floor() / 10, tally);
+    let floor = options.floor();
+    let floor = Floor { times: floor.times / 10, ..floor };
+    harness::run_pieces(NAME, &CALLS, logs.len() as u64, compare, floor, tally);
     samples(tally);
 }
 

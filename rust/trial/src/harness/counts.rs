@@ -2,7 +2,7 @@
 
 use super::places::{Bits, PLACED};
 use super::table::{Row, Shown, NUMBERS};
-use super::{Call, Family, Tally, FLOOR, SHOWN};
+use super::{Call, Family, Floor, Tally, SHOWN};
 use crate::inputs::Random;
 
 /// How often a call answered each number, with which bits, and on how many inputs the programs differ.
@@ -108,7 +108,7 @@ impl Counts {
     }
 
     /// Prints the first inputs that differ, and a line for each call, whose checks are counted. Answers all calls' line.
-    pub fn report(&self, name: &str, calls: &[Call], floor: u64, tally: &mut Tally) -> Row {
+    pub fn report(&self, name: &str, calls: &[Call], floor: Floor, tally: &mut Tally) -> Row {
         self.shown.iter().take(SHOWN).for_each(|shown| println!("{shown}"));
         let mut all = Row::default();
         for (call, met) in calls.iter().zip(&self.met) {
@@ -123,17 +123,16 @@ impl Counts {
 
 /// A call's checks: no input differs, every number that it can give is met often enough, and no other is met. No field is
 /// refused that can't be, and in a run of many inputs each that can be.
-fn judge(name: &str, call: &Call, met: &Met, floor: u64, tally: &mut Tally) {
+fn judge(name: &str, call: &Call, met: &Met, floor: Floor, tally: &mut Tally) {
     tally.check(met.differing == 0, format_args!("{name}: {} inputs differ", met.differing));
     let (given, others): (Vec<_>, Vec<_>) = met.numbers.iter().enumerate().partition(|(number, _)| call.gives(*number));
     for (number, count) in given {
-        tally.check(*count >= floor, format_args!("{name}: {number} met {count} times, {floor} due"));
+        tally.check(*count >= floor.times, format_args!("{name}: {number} met {count} times, {} due", floor.times));
     }
     let others: u64 = others.iter().map(|(_, count)| *count).sum();
     tally.check(others == 0, format_args!("{name}: {others} times a number that it can't give"));
     let others = met.bits.others(call.places);
     tally.check(others.is_empty(), format_args!("{name}: refused at {others:?}, which can't be"));
     let missing = met.bits.missing(call.places);
-    let is_met = missing.is_empty() || floor < FLOOR;
-    tally.check(is_met, format_args!("{name}: never refused at {missing:?}"));
+    tally.check(missing.is_empty() || !floor.fields, format_args!("{name}: never refused at {missing:?}"));
 }
