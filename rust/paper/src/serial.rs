@@ -141,6 +141,14 @@ fn need_bytes(content: &[u8], bits: u16, at: u32) -> Result<(), Refusal> {
 #[inline]
 fn need_fill(content: &[u8], bits: u16, at: u32) -> Result<(), Refusal> {
     let used = bits % 8;
-    let is_zero = used == 0 || content.last().is_none_or(|last| last << used == 0);
-    need(is_zero, Refusal::FILL.at(at + u32::from(bits)))
+    if used == 0 || content.last().is_none_or(|last| last << used == 0) {
+        Ok(())
+    } else {
+        Err(fill(at + u32::from(bits)))
+    }
+}
+
+#[cold]
+fn fill(at: u32) -> Refusal {
+    Refusal::FILL.at(at)
 }

@@ -1,8 +1,7 @@
 //! TXXX (004, 4.4.3).
 
-use super::{
-    narrow, need, need_address, need_bytes, need_fill, need_time, put_u24, u16_at, u24_at, Kind, ADDRESS, LONGEST,
-};
+use super::{narrow, need_bytes, need_fill, put_u24, u16_at, u24_at, Kind, ADDRESS, LARGEST_ADDRESS, LONGEST};
+use crate::Tested;
 use record::{Frame, Refusal, Txxx};
 use std::ops::RangeInclusive;
 
@@ -17,6 +16,21 @@ const CONTENT: u32 = 144;
 /// The bit that the mark starts at.
 fn mark_at(frame: &[u8]) -> u32 {
     8 * (frame.len() as u32 - 2)
+}
+
+impl Tested for Txxx {
+    type Fills = ();
+
+    /// The numbers before the content are in their ranges.
+    #[inline]
+    fn tests(&self, (): (), test: &mut impl FnMut(bool, Refusal)) {
+        let mut range = |good: bool, at: u32| test(good, Refusal::RANGE.at(at));
+        range(self.address <= LARGEST_ADDRESS, ADDRESS);
+        range(self.sender <= LARGEST_ADDRESS, SENDER);
+        range(self.hour <= 23, HOUR);
+        range(self.minute <= 59, MINUTE);
+        range(self.bits <= LONGEST, BITS);
+    }
 }
 
 impl Kind for Txxx {
@@ -36,10 +50,7 @@ impl Kind for Txxx {
     }
 
     fn judge(&self, content: &[u8]) -> Result<(), Refusal> {
-        need_address(self.address, ADDRESS)?;
-        need_address(self.sender, SENDER)?;
-        need_time(self.hour, self.minute, HOUR)?;
-        need(self.bits <= LONGEST, Refusal::RANGE.at(BITS))?;
+        Tested::judge(self, ())?;
         need_bytes(content, self.bits, BITS)?;
         need_fill(content, self.bits, CONTENT)
     }
