@@ -6,8 +6,8 @@
  *   cc -I include your.c target/native/librelay.a
  *
  * What holds for every call:
- * - The answer is 0 or a refusal's number. The numbers that a call can give stand above it, in the order of the tests:
- *   the first test that fails gives the number.
+ * - The answer is 0, or a refusal: its number, and the bit at fault. bellnewt_code and bellnewt_bit take it apart. The
+ *   numbers that a call can give stand above it, in the order of the tests: the first test that fails gives the number.
  * - A refusal leaves all lent memory as it was; only 9 also lists the missing packets. Bytes and row entries past an
  *   answer stay as they were too.
  * - A pointer is followed by how many bytes or entries it lends. The pointer is not null, even where that is 0, and
@@ -24,7 +24,7 @@
 extern "C" {
 #endif
 
-/* The numbers that a call answers. */
+/* The numbers that a call answers, by bellnewt_code. */
 enum bellnewt_refusal {
     BELLNEWT_GOOD = 0,
     BELLNEWT_SIZE = 1,        /* the input's size doesn't fit its layout or limits */
@@ -39,6 +39,34 @@ enum bellnewt_refusal {
     BELLNEWT_FIELD = 10,      /* no such field, or it decides the layout */
     BELLNEWT_UNKNOWN = 11     /* no open notice of that number */
 };
+
+/*
+ * An answer has a refusal's number in its low 8 bits, and above them the bit at fault. 0 is no refusal.
+ *
+ * The bit says where a message goes wrong: it is the first bit of the field at fault, counted from the message's start.
+ * Reading, writing and correcting give it with 1, 4 and 5, where a field does not fit in the message, is outside its
+ * range, or is fill that isn't zero:
+ * - Points, dates and times are walked part by part; the bit is that of the first part that is bad or missing.
+ * - A text is one field, whichever of its bytes is bad, and so is a fill.
+ * - A content of another size than its bit length says is a fault of the bit length. Of a content's unused bits it is
+ *   the first, of receipts past the count the first byte that isn't zero.
+ * - Bytes left over behind a tide telegram: the first of them.
+ * - In a correction the field at fault need not be the corrected one: if a total becomes no more than the own number,
+ *   that is the own number. A value that is wider than its field is a fault of that field.
+ * A report inside of a sentence has the report's bits, a packet at the desk the packet's. Outlines and heights have
+ * those of reading.
+ *
+ * The bit is 0 in every other refusal: by another number, by a size that is tested before the fields or after them, by
+ * a language above 1 that the splitter or a notice's call is told, by what stands around a report in a sentence, and by
+ * the desk's own tests. A notice's source is at bit 0, so that its refusal has 0 too.
+ */
+static inline uint8_t bellnewt_code(uint32_t answer) {
+    return (uint8_t)(answer & 0xFF);
+}
+
+static inline uint32_t bellnewt_bit(uint32_t answer) {
+    return answer >> 8;
+}
 
 /*
  * The distress report, 17 bytes, and the sentence that carries one, 54 to 60 bytes.
@@ -78,7 +106,7 @@ enum bellnewt_distress_size {
  *
  * A refusal leaves the row as it was.
  */
-uint8_t bellnewt_distress_read(const uint8_t *s, size_t len, int64_t *row, size_t row_len);
+uint32_t bellnewt_distress_read(const uint8_t *s, size_t len, int64_t *row, size_t row_len);
 
 /*
  * Writes a report into the first 17 bytes of a buffer; bytes past them stay.
@@ -88,9 +116,9 @@ uint8_t bellnewt_distress_read(const uint8_t *s, size_t len, int64_t *row, size_
  *
  * A refusal leaves the buffer as it was.
  */
-uint8_t bellnewt_distress_write(uint8_t *buf, size_t len, uint32_t mmsi, int32_t longitude, int32_t latitude,
-                                uint8_t day, uint8_t hour, uint8_t minute, uint8_t speed, uint16_t course,
-                                uint8_t kind);
+uint32_t bellnewt_distress_write(uint8_t *buf, size_t len, uint32_t mmsi, int32_t longitude, int32_t latitude,
+                                 uint8_t day, uint8_t hour, uint8_t minute, uint8_t speed, uint16_t course,
+                                 uint8_t kind);
 
 /*
  * Corrects one field of a report where it stands. The new value is the plain number that the field's bits shall spell:
@@ -102,7 +130,7 @@ uint8_t bellnewt_distress_write(uint8_t *buf, size_t len, uint32_t mmsi, int32_t
  *
  * A refusal leaves the message as it was; otherwise only that field's bits change.
  */
-uint8_t bellnewt_distress_correct(uint8_t *s, size_t len, size_t field, uint64_t value);
+uint32_t bellnewt_distress_correct(uint8_t *s, size_t len, size_t field, uint64_t value);
 
 /*
  * Reads a sentence into the first 10 entries of a row, the address and then the report; entries past the tenth stay.
@@ -116,7 +144,7 @@ uint8_t bellnewt_distress_correct(uint8_t *s, size_t len, size_t field, uint64_t
  *
  * A refusal leaves the row as it was.
  */
-uint8_t bellnewt_sentence_read(const uint8_t *s, size_t len, int64_t *row, size_t row_len);
+uint32_t bellnewt_sentence_read(const uint8_t *s, size_t len, int64_t *row, size_t row_len);
 
 /*
  * Writes a sentence into the front of a buffer and its size, 54 to 60, into *size; bytes past the sentence stay.
@@ -127,9 +155,9 @@ uint8_t bellnewt_sentence_read(const uint8_t *s, size_t len, int64_t *row, size_
  *
  * A refusal leaves the buffer and *size as they were.
  */
-uint8_t bellnewt_sentence_write(uint8_t *buf, size_t len, size_t *size, uint32_t address, uint32_t mmsi,
-                                int32_t longitude, int32_t latitude, uint8_t day, uint8_t hour, uint8_t minute,
-                                uint8_t speed, uint16_t course, uint8_t kind);
+uint32_t bellnewt_sentence_write(uint8_t *buf, size_t len, size_t *size, uint32_t address, uint32_t mmsi,
+                                 int32_t longitude, int32_t latitude, uint8_t day, uint8_t hour, uint8_t minute,
+                                 uint8_t speed, uint16_t course, uint8_t kind);
 
 /*
  * Serial frames: `$`, four letters, the frame's length in 16 bits, the own address in 24, a body, and in the last byte
@@ -213,7 +241,7 @@ enum bellnewt_txhz_field {
  *
  * A refusal leaves the row as it was.
  */
-uint8_t bellnewt_gljc_read(const uint8_t *frame, size_t len, int64_t *row, size_t row_len);
+uint32_t bellnewt_gljc_read(const uint8_t *frame, size_t len, int64_t *row, size_t row_len);
 
 /*
  * Writes a GLJC frame into the first 12 bytes of a buffer; bytes past them stay.
@@ -223,7 +251,7 @@ uint8_t bellnewt_gljc_read(const uint8_t *frame, size_t len, int64_t *row, size_
  *
  * A refusal leaves the buffer as it was.
  */
-uint8_t bellnewt_gljc_write(uint8_t *buf, size_t len, uint32_t address, uint8_t minutes);
+uint32_t bellnewt_gljc_write(uint8_t *buf, size_t len, uint32_t address, uint8_t minutes);
 
 /*
  * Corrects one field of a GLJC frame where it stands, and makes the checksum anew. The buffer is the frame alone, so
@@ -235,7 +263,7 @@ uint8_t bellnewt_gljc_write(uint8_t *buf, size_t len, uint32_t address, uint8_t 
  *
  * A refusal leaves the frame as it was; otherwise only that field's bits and the last byte change.
  */
-uint8_t bellnewt_gljc_correct(uint8_t *frame, size_t len, size_t field, uint64_t value);
+uint32_t bellnewt_gljc_correct(uint8_t *frame, size_t len, size_t field, uint64_t value);
 
 /*
  * Reads a TXSQ frame into the first 9 entries of a row; entries past them stay.
@@ -252,7 +280,7 @@ uint8_t bellnewt_gljc_correct(uint8_t *frame, size_t len, size_t field, uint64_t
  *
  * A refusal leaves the row as it was.
  */
-uint8_t bellnewt_txsq_read(const uint8_t *frame, size_t len, int64_t *row, size_t row_len);
+uint32_t bellnewt_txsq_read(const uint8_t *frame, size_t len, int64_t *row, size_t row_len);
 
 /*
  * Writes a TXSQ frame into the first 18 + content_len bytes of a buffer; bytes past them stay.
@@ -267,9 +295,9 @@ uint8_t bellnewt_txsq_read(const uint8_t *frame, size_t len, int64_t *row, size_
  *
  * A refusal leaves the buffer as it was.
  */
-uint8_t bellnewt_txsq_write(uint8_t *buf, size_t len, const uint8_t *content, size_t content_len, uint32_t address,
-                            uint8_t category, uint8_t mode, uint8_t password, uint32_t receiver, uint16_t bits,
-                            uint8_t answer);
+uint32_t bellnewt_txsq_write(uint8_t *buf, size_t len, const uint8_t *content, size_t content_len, uint32_t address,
+                             uint8_t category, uint8_t mode, uint8_t password, uint32_t receiver, uint16_t bits,
+                             uint8_t answer);
 
 /*
  * Corrects one field of a TXSQ frame where it stands, and makes the checksum anew. The buffer is the frame alone, so
@@ -282,7 +310,7 @@ uint8_t bellnewt_txsq_write(uint8_t *buf, size_t len, const uint8_t *content, si
  *
  * A refusal leaves the frame as it was; otherwise only that field's bits and the last byte change.
  */
-uint8_t bellnewt_txsq_correct(uint8_t *frame, size_t len, size_t field, uint64_t value);
+uint32_t bellnewt_txsq_correct(uint8_t *frame, size_t len, size_t field, uint64_t value);
 
 /*
  * Reads a TXXX frame into the first 9 entries of a row; entries past them stay.
@@ -295,7 +323,7 @@ uint8_t bellnewt_txsq_correct(uint8_t *frame, size_t len, size_t field, uint64_t
  *
  * A refusal leaves the row as it was.
  */
-uint8_t bellnewt_txxx_read(const uint8_t *frame, size_t len, int64_t *row, size_t row_len);
+uint32_t bellnewt_txxx_read(const uint8_t *frame, size_t len, int64_t *row, size_t row_len);
 
 /*
  * Writes a TXXX frame into the first 20 + content_len bytes of a buffer; bytes past them stay.
@@ -307,9 +335,9 @@ uint8_t bellnewt_txxx_read(const uint8_t *frame, size_t len, int64_t *row, size_
  *
  * A refusal leaves the buffer as it was.
  */
-uint8_t bellnewt_txxx_write(uint8_t *buf, size_t len, const uint8_t *content, size_t content_len, uint32_t address,
-                            uint8_t class_, uint32_t sender, uint8_t hour, uint8_t minute, uint16_t bits,
-                            uint8_t mark);
+uint32_t bellnewt_txxx_write(uint8_t *buf, size_t len, const uint8_t *content, size_t content_len, uint32_t address,
+                             uint8_t class_, uint32_t sender, uint8_t hour, uint8_t minute, uint16_t bits,
+                             uint8_t mark);
 
 /*
  * Corrects one field of a TXXX frame where it stands, and makes the checksum anew. The buffer is the frame alone, so
@@ -321,7 +349,7 @@ uint8_t bellnewt_txxx_write(uint8_t *buf, size_t len, const uint8_t *content, si
  *
  * A refusal leaves the frame as it was; otherwise only that field's bits and the last byte change.
  */
-uint8_t bellnewt_txxx_correct(uint8_t *frame, size_t len, size_t field, uint64_t value);
+uint32_t bellnewt_txxx_correct(uint8_t *frame, size_t len, size_t field, uint64_t value);
 
 /*
  * Reads a TXHZ frame into the first 23 entries of a row; entries past them stay.
@@ -334,7 +362,7 @@ uint8_t bellnewt_txxx_correct(uint8_t *frame, size_t len, size_t field, uint64_t
  *
  * A refusal leaves the row as it was.
  */
-uint8_t bellnewt_txhz_read(const uint8_t *frame, size_t len, int64_t *row, size_t row_len);
+uint32_t bellnewt_txhz_read(const uint8_t *frame, size_t len, int64_t *row, size_t row_len);
 
 /*
  * Writes a TXHZ frame into the first 35 bytes of a buffer; bytes past them stay. The receipts are lent as they stand in
@@ -348,8 +376,8 @@ uint8_t bellnewt_txhz_read(const uint8_t *frame, size_t len, int64_t *row, size_
  *
  * A refusal leaves the buffer as it was.
  */
-uint8_t bellnewt_txhz_write(uint8_t *buf, size_t len, const uint8_t *receipts, size_t receipts_len, uint32_t address,
-                            uint32_t receiver, uint8_t count);
+uint32_t bellnewt_txhz_write(uint8_t *buf, size_t len, const uint8_t *receipts, size_t receipts_len, uint32_t address,
+                             uint32_t receiver, uint8_t count);
 
 /*
  * Corrects one field of a TXHZ frame where it stands, and makes the checksum anew. The buffer is the frame alone, so
@@ -362,7 +390,7 @@ uint8_t bellnewt_txhz_write(uint8_t *buf, size_t len, const uint8_t *receipts, s
  *
  * A refusal leaves the frame as it was; otherwise only that field's bits and the last byte change.
  */
-uint8_t bellnewt_txhz_correct(uint8_t *frame, size_t len, size_t field, uint64_t value);
+uint32_t bellnewt_txhz_correct(uint8_t *frame, size_t len, size_t field, uint64_t value);
 
 /*
  * AIS messages: message 8 with application 412/03, a weather warning to all, 23 bytes; message 6 with application
@@ -502,7 +530,7 @@ enum bellnewt_area_field {
  *
  * A refusal leaves the row as it was.
  */
-uint8_t bellnewt_warning_read(const uint8_t *s, size_t len, int64_t *row, size_t row_len);
+uint32_t bellnewt_warning_read(const uint8_t *s, size_t len, int64_t *row, size_t row_len);
 
 /*
  * Write a warning, each of its type, into the first 23 bytes of a buffer; bytes past them stay.
@@ -512,26 +540,26 @@ uint8_t bellnewt_warning_read(const uint8_t *s, size_t len, int64_t *row, size_t
  *
  * A refusal leaves the buffer as it was.
  */
-uint8_t bellnewt_cyclone_write(uint8_t *buf, size_t len, uint8_t repeat, uint32_t source, uint32_t longitude,
-                               uint32_t latitude, uint8_t kind, uint16_t gale_radius, uint16_t storm_radius,
-                               uint8_t speed, uint16_t direction, uint8_t force, uint16_t pressure, uint8_t month,
-                               uint8_t day, uint8_t hour, uint8_t minute, uint8_t hours);
+uint32_t bellnewt_cyclone_write(uint8_t *buf, size_t len, uint8_t repeat, uint32_t source, uint32_t longitude,
+                                uint32_t latitude, uint8_t kind, uint16_t gale_radius, uint16_t storm_radius,
+                                uint8_t speed, uint16_t direction, uint8_t force, uint16_t pressure, uint8_t month,
+                                uint8_t day, uint8_t hour, uint8_t minute, uint8_t hours);
 
-uint8_t bellnewt_gale_write(uint8_t *buf, size_t len, uint8_t repeat, uint32_t source, uint32_t longitude,
-                            uint32_t latitude, uint8_t radius, uint8_t least, uint8_t greatest, uint8_t direction,
-                            uint8_t month, uint8_t day, uint8_t hour, uint8_t minute, uint8_t hours);
-
-uint8_t bellnewt_waves_write(uint8_t *buf, size_t len, uint8_t repeat, uint32_t source, uint32_t longitude,
-                             uint32_t latitude, uint8_t radius, uint8_t height, uint16_t period, uint8_t month,
-                             uint8_t day, uint8_t hour, uint8_t minute, uint8_t hours);
-
-uint8_t bellnewt_fog_write(uint8_t *buf, size_t len, uint8_t repeat, uint32_t source, uint32_t longitude,
-                           uint32_t latitude, uint16_t radius, uint8_t visibility, uint8_t month, uint8_t day,
-                           uint8_t hour, uint8_t minute, uint8_t hours);
-
-uint8_t bellnewt_surge_write(uint8_t *buf, size_t len, uint8_t repeat, uint32_t source, uint32_t longitude,
-                             uint32_t latitude, uint16_t radius, uint16_t rise, uint16_t tide, uint16_t period,
+uint32_t bellnewt_gale_write(uint8_t *buf, size_t len, uint8_t repeat, uint32_t source, uint32_t longitude,
+                             uint32_t latitude, uint8_t radius, uint8_t least, uint8_t greatest, uint8_t direction,
                              uint8_t month, uint8_t day, uint8_t hour, uint8_t minute, uint8_t hours);
+
+uint32_t bellnewt_waves_write(uint8_t *buf, size_t len, uint8_t repeat, uint32_t source, uint32_t longitude,
+                              uint32_t latitude, uint8_t radius, uint8_t height, uint16_t period, uint8_t month,
+                              uint8_t day, uint8_t hour, uint8_t minute, uint8_t hours);
+
+uint32_t bellnewt_fog_write(uint8_t *buf, size_t len, uint8_t repeat, uint32_t source, uint32_t longitude,
+                            uint32_t latitude, uint16_t radius, uint8_t visibility, uint8_t month, uint8_t day,
+                            uint8_t hour, uint8_t minute, uint8_t hours);
+
+uint32_t bellnewt_surge_write(uint8_t *buf, size_t len, uint8_t repeat, uint32_t source, uint32_t longitude,
+                              uint32_t latitude, uint16_t radius, uint16_t rise, uint16_t tide, uint16_t period,
+                              uint8_t month, uint8_t day, uint8_t hour, uint8_t minute, uint8_t hours);
 
 /*
  * Corrects one field of a warning where it stands. The new value is the plain number that the field's bits shall spell,
@@ -543,7 +571,7 @@ uint8_t bellnewt_surge_write(uint8_t *buf, size_t len, uint8_t repeat, uint32_t 
  *
  * A refusal leaves the message as it was; otherwise only that field's bits change.
  */
-uint8_t bellnewt_warning_correct(uint8_t *s, size_t len, size_t field, uint64_t value);
+uint32_t bellnewt_warning_correct(uint8_t *s, size_t len, size_t field, uint64_t value);
 
 /*
  * Reads an area into the first 19 entries of a row; entries past them stay.
@@ -561,7 +589,7 @@ uint8_t bellnewt_warning_correct(uint8_t *s, size_t len, size_t field, uint64_t 
  *
  * A refusal leaves the row as it was.
  */
-uint8_t bellnewt_area_read(const uint8_t *s, size_t len, int64_t *row, size_t row_len);
+uint32_t bellnewt_area_read(const uint8_t *s, size_t len, int64_t *row, size_t row_len);
 
 /*
  * Write an area, each of its shape, into the first 31 bytes of a buffer; bytes past them stay.
@@ -571,17 +599,17 @@ uint8_t bellnewt_area_read(const uint8_t *s, size_t len, int64_t *row, size_t ro
  *
  * A refusal leaves the buffer as it was.
  */
-uint8_t bellnewt_circle_write(uint8_t *buf, size_t len, uint8_t repeat, uint32_t source, uint8_t sequence,
-                              uint32_t destination, uint8_t resent, uint8_t kind, int32_t longitude,
-                              int32_t latitude, uint8_t radius, uint8_t month, uint8_t day, uint8_t hour,
-                              uint8_t minute, uint8_t second_month, uint8_t second_day, uint8_t second_hour,
-                              uint8_t advice);
+uint32_t bellnewt_circle_write(uint8_t *buf, size_t len, uint8_t repeat, uint32_t source, uint8_t sequence,
+                               uint32_t destination, uint8_t resent, uint8_t kind, int32_t longitude,
+                               int32_t latitude, uint8_t radius, uint8_t month, uint8_t day, uint8_t hour,
+                               uint8_t minute, uint8_t second_month, uint8_t second_day, uint8_t second_hour,
+                               uint8_t advice);
 
-uint8_t bellnewt_rectangle_write(uint8_t *buf, size_t len, uint8_t repeat, uint32_t source, uint8_t sequence,
-                                 uint32_t destination, uint8_t resent, uint8_t kind, int32_t longitude,
-                                 int32_t latitude, int32_t second_longitude, int32_t second_latitude, uint8_t month,
-                                 uint8_t day, uint8_t hour, uint8_t minute, uint8_t second_month, uint8_t second_day,
-                                 uint8_t second_hour, uint8_t advice);
+uint32_t bellnewt_rectangle_write(uint8_t *buf, size_t len, uint8_t repeat, uint32_t source, uint8_t sequence,
+                                  uint32_t destination, uint8_t resent, uint8_t kind, int32_t longitude,
+                                  int32_t latitude, int32_t second_longitude, int32_t second_latitude, uint8_t month,
+                                  uint8_t day, uint8_t hour, uint8_t minute, uint8_t second_month, uint8_t second_day,
+                                  uint8_t second_hour, uint8_t advice);
 
 /*
  * Corrects one field of an area where it stands. The new value is the plain number that the field's bits shall spell:
@@ -593,7 +621,7 @@ uint8_t bellnewt_rectangle_write(uint8_t *buf, size_t len, uint8_t repeat, uint3
  *
  * A refusal leaves the message as it was; otherwise only that field's bits change.
  */
-uint8_t bellnewt_area_correct(uint8_t *s, size_t len, size_t field, uint64_t value);
+uint32_t bellnewt_area_correct(uint8_t *s, size_t len, size_t field, uint64_t value);
 
 /*
  * Puts how many slots, 1 to 5, so many data bytes need into *slots. The data are all bytes of a message from its
@@ -604,7 +632,7 @@ uint8_t bellnewt_area_correct(uint8_t *s, size_t len, size_t field, uint64_t val
  *
  * A refusal leaves *slots as it was.
  */
-uint8_t bellnewt_slots(uint8_t message, size_t bytes, uint8_t *slots);
+uint32_t bellnewt_slots(uint8_t message, size_t bytes, uint8_t *slots);
 
 /*
  * Packets carry a notice, of which each has at most 206 bytes: type 0xE1, version 1, the language of the notice's text,
@@ -651,7 +679,7 @@ enum bellnewt_packet_field {
  *
  * A refusal leaves the row as it was.
  */
-uint8_t bellnewt_packet_read(const uint8_t *s, size_t len, int64_t *row, size_t row_len);
+uint32_t bellnewt_packet_read(const uint8_t *s, size_t len, int64_t *row, size_t row_len);
 
 /*
  * Writes a packet into the first 4 + content_len bytes of a buffer; bytes past them stay.
@@ -662,8 +690,8 @@ uint8_t bellnewt_packet_read(const uint8_t *s, size_t len, int64_t *row, size_t 
  *
  * A refusal leaves the buffer as it was.
  */
-uint8_t bellnewt_packet_write(uint8_t *buf, size_t buf_len, const uint8_t *content, size_t content_len,
-                              uint8_t language, uint8_t number, uint8_t total, uint8_t own);
+uint32_t bellnewt_packet_write(uint8_t *buf, size_t buf_len, const uint8_t *content, size_t content_len,
+                               uint8_t language, uint8_t number, uint8_t total, uint8_t own);
 
 /*
  * Corrects one field of a packet where it stands. The buffer is the packet alone, so there is no 6.
@@ -674,7 +702,7 @@ uint8_t bellnewt_packet_write(uint8_t *buf, size_t buf_len, const uint8_t *conte
  *
  * A refusal leaves the packet as it was; otherwise only that field's bits change.
  */
-uint8_t bellnewt_packet_correct(uint8_t *s, size_t len, size_t field, uint64_t value);
+uint32_t bellnewt_packet_correct(uint8_t *s, size_t len, size_t field, uint64_t value);
 
 /*
  * Splits a content: writes its packet of number `packet`, counted from 0, into the front of a buffer; bytes past it
@@ -687,8 +715,8 @@ uint8_t bellnewt_packet_correct(uint8_t *s, size_t len, size_t field, uint64_t v
  *
  * A refusal leaves the buffer as it was.
  */
-uint8_t bellnewt_split(uint8_t *buf, size_t buf_len, const uint8_t *content, size_t content_len, uint8_t language,
-                       uint8_t number, size_t packet);
+uint32_t bellnewt_split(uint8_t *buf, size_t buf_len, const uint8_t *content, size_t content_len, uint8_t language,
+                        uint8_t number, size_t packet);
 
 /* Answers the message number that follows another: after 255 comes 0. There is no refusal. */
 uint8_t bellnewt_next_number(uint8_t number);
@@ -773,8 +801,8 @@ enum bellnewt_notice_field {
  * The areas are walked in bit order, so that of the 1 and 4 that they give the first comes. A refusal leaves all three
  * as they were.
  */
-uint8_t bellnewt_notice_read(const uint8_t *s, size_t len, uint8_t language, int64_t *row, size_t row_len,
-                             uint32_t *areas, size_t areas_len, uint8_t *text, size_t text_len);
+uint32_t bellnewt_notice_read(const uint8_t *s, size_t len, uint8_t language, int64_t *row, size_t row_len,
+                              uint32_t *areas, size_t areas_len, uint8_t *text, size_t text_len);
 
 /*
  * Writes a notice of `count` areas into the front of a buffer; bytes past it stay. `kind` is its type. It has 63 bits,
@@ -789,10 +817,10 @@ uint8_t bellnewt_notice_read(const uint8_t *s, size_t len, uint8_t language, int
  *
  * A refusal leaves the buffer as it was.
  */
-uint8_t bellnewt_notice_write(uint8_t *buf, size_t buf_len, const uint32_t *areas, size_t areas_len,
-                              const uint8_t *text, size_t text_len, uint8_t language, uint8_t source, uint8_t station,
-                              uint16_t serial, uint8_t year, uint8_t kind, uint8_t subtype, uint32_t expiry,
-                              uint8_t count);
+uint32_t bellnewt_notice_write(uint8_t *buf, size_t buf_len, const uint32_t *areas, size_t areas_len,
+                               const uint8_t *text, size_t text_len, uint8_t language, uint8_t source, uint8_t station,
+                               uint16_t serial, uint8_t year, uint8_t kind, uint8_t subtype, uint32_t expiry,
+                               uint8_t count);
 
 /*
  * Corrects one field of a notice where it stands. The new value is the plain number that the field's bits shall spell.
@@ -804,7 +832,7 @@ uint8_t bellnewt_notice_write(uint8_t *buf, size_t buf_len, const uint32_t *area
  *
  * A refusal leaves the notice as it was; otherwise only that field's bits change.
  */
-uint8_t bellnewt_notice_correct(uint8_t *s, size_t len, uint8_t language, size_t field, uint64_t value);
+uint32_t bellnewt_notice_correct(uint8_t *s, size_t len, uint8_t language, size_t field, uint64_t value);
 
 /*
  * Puts the points of a notice into the first entries of a row, and how many there are into *points: latitude, then
@@ -816,7 +844,7 @@ uint8_t bellnewt_notice_correct(uint8_t *s, size_t len, uint8_t language, size_t
  *
  * A refusal leaves the row and *points as they were.
  */
-uint8_t bellnewt_outline(const uint8_t *s, size_t len, uint8_t language, int32_t *row, size_t row_len, size_t *points);
+uint32_t bellnewt_outline(const uint8_t *s, size_t len, uint8_t language, int32_t *row, size_t row_len, size_t *points);
 
 /*
  * A tide telegram, 9 to 210 bytes: type 0xE4, version 1, data class 0, how many records; the records; a fill of 0 to 7
@@ -867,8 +895,8 @@ enum bellnewt_tide_field { BELLNEWT_TIDE_FIRST_ENTRY = 4 };
  * The records are walked in bit order, so that of the 1 and 4 that they give the first comes. A refusal leaves *count,
  * *numbers and the row as they were.
  */
-uint8_t bellnewt_tide_read(const uint8_t *s, size_t len, uint16_t *count, size_t *numbers, uint32_t *row,
-                           size_t row_len);
+uint32_t bellnewt_tide_read(const uint8_t *s, size_t len, uint16_t *count, size_t *numbers, uint32_t *row,
+                            size_t row_len);
 
 /*
  * Writes a telegram of `count` records into the front of a buffer; bytes past it stay. It has 21 bits, 17 for a record
@@ -881,7 +909,7 @@ uint8_t bellnewt_tide_read(const uint8_t *s, size_t len, uint16_t *count, size_t
  *
  * A refusal leaves the buffer as it was.
  */
-uint8_t bellnewt_tide_write(uint8_t *buf, size_t buf_len, uint16_t count, const uint32_t *row, size_t row_len);
+uint32_t bellnewt_tide_write(uint8_t *buf, size_t buf_len, uint16_t count, const uint32_t *row, size_t row_len);
 
 /*
  * Corrects one field of a telegram where it stands. The new value is the plain number that the field's bits shall
@@ -893,7 +921,7 @@ uint8_t bellnewt_tide_write(uint8_t *buf, size_t buf_len, uint16_t count, const 
  *
  * A refusal leaves the telegram as it was; otherwise only that field's bits change.
  */
-uint8_t bellnewt_tide_correct(uint8_t *s, size_t len, size_t field, uint64_t value);
+uint32_t bellnewt_tide_correct(uint8_t *s, size_t len, size_t field, uint64_t value);
 
 /*
  * Puts the levels of a telegram into the front of a row, in centimetres, those of sign 0 negative, and how many there
@@ -904,7 +932,7 @@ uint8_t bellnewt_tide_correct(uint8_t *s, size_t len, size_t field, uint64_t val
  *
  * A refusal leaves the row and *count as they were.
  */
-uint8_t bellnewt_tide_heights(const uint8_t *s, size_t len, int32_t *heights, size_t heights_len, size_t *count);
+uint32_t bellnewt_tide_heights(const uint8_t *s, size_t len, int32_t *heights, size_t heights_len, size_t *count);
 
 /*
  * The desk joins the packets of up to four notices, in whatever order they come. A notice is known by its message
@@ -953,8 +981,8 @@ enum bellnewt_place_entry {
  *
  * A refusal leaves places, store and *again as they were.
  */
-uint8_t bellnewt_desk_accept(uint8_t *places, size_t places_len, uint8_t *store, size_t store_len,
-                             const uint8_t *packet, size_t packet_len, uint8_t *again);
+uint32_t bellnewt_desk_accept(uint8_t *places, size_t places_len, uint8_t *store, size_t store_len,
+                              const uint8_t *packet, size_t packet_len, uint8_t *again);
 
 /*
  * Joins a notice: puts its bytes into the front of `notice`, how many they are into *count and its language into
@@ -970,9 +998,9 @@ uint8_t bellnewt_desk_accept(uint8_t *places, size_t places_len, uint8_t *store,
  *
  * A refusal but 9 leaves all lent memory as it was, and the place open.
  */
-uint8_t bellnewt_desk_ask(uint8_t *places, size_t places_len, const uint8_t *store, size_t store_len, uint8_t number,
-                          uint8_t *notice, size_t notice_len, uint16_t *missing, size_t missing_len, size_t *count,
-                          uint8_t *language);
+uint32_t bellnewt_desk_ask(uint8_t *places, size_t places_len, const uint8_t *store, size_t store_len, uint8_t number,
+                           uint8_t *notice, size_t notice_len, uint16_t *missing, size_t missing_len, size_t *count,
+                           uint8_t *language);
 
 /*
  * Gives up a notice: closes its place.
@@ -982,7 +1010,7 @@ uint8_t bellnewt_desk_ask(uint8_t *places, size_t places_len, const uint8_t *sto
  *
  * A refusal leaves the places as they were.
  */
-uint8_t bellnewt_desk_drop(uint8_t *places, size_t places_len, const uint8_t *store, size_t store_len, uint8_t number);
+uint32_t bellnewt_desk_drop(uint8_t *places, size_t places_len, const uint8_t *store, size_t store_len, uint8_t number);
 
 #ifdef __cplusplus
 }

@@ -10,13 +10,28 @@
 
 #include "bellnewt.h"
 
-/* Shows what a reading answered, and its row if that is good; answers whether it is. */
-static int show(uint8_t code, const char *const *names, const int64_t *row, int entries)
+/* An answer in words: its number, and the bit at fault where it has one. The next call puts other words there. */
+static const char *said(uint32_t answer)
 {
-    printf("read: %d\n", code);
-    for (int i = 0; code == BELLNEWT_GOOD && i < entries; i++)
+    static char words[32];
+    int used = snprintf(words, sizeof words, "%d", bellnewt_code(answer));
+    if (bellnewt_bit(answer) > 0)
+        snprintf(words + used, sizeof words - (size_t)used, " at bit %" PRIu32, bellnewt_bit(answer));
+    return words;
+}
+
+static void tell(const char *what, uint32_t answer)
+{
+    printf("%s: %s\n", what, said(answer));
+}
+
+/* Shows what a reading answered, and its row if that is good; answers whether it is. */
+static int show(uint32_t answer, const char *const *names, const int64_t *row, int entries)
+{
+    tell("read", answer);
+    for (int i = 0; answer == BELLNEWT_GOOD && i < entries; i++)
         printf("  %-9s %" PRId64 "\n", names[i], row[i]);
-    return code == BELLNEWT_GOOD;
+    return answer == BELLNEWT_GOOD;
 }
 
 static void show_bytes(const char *name, const uint8_t *bytes, size_t count)
@@ -40,15 +55,15 @@ static const char *const sentence_names[] = {"address", "MMSI",   "longitude", "
 static void show_report(const uint8_t *report)
 {
     int64_t row[BELLNEWT_DISTRESS_ROW];
-    uint8_t code = bellnewt_distress_read(report, BELLNEWT_DISTRESS_BYTES, row, BELLNEWT_DISTRESS_ROW);
-    show(code, sentence_names + 1, row, BELLNEWT_DISTRESS_ROW);
+    uint32_t answer = bellnewt_distress_read(report, BELLNEWT_DISTRESS_BYTES, row, BELLNEWT_DISTRESS_ROW);
+    show(answer, sentence_names + 1, row, BELLNEWT_DISTRESS_ROW);
 }
 
 static void show_sentence(const uint8_t *sentence, size_t size)
 {
     int64_t row[BELLNEWT_SENTENCE_ROW];
-    uint8_t code = bellnewt_sentence_read(sentence, size, row, BELLNEWT_SENTENCE_ROW);
-    show(code, sentence_names, row, BELLNEWT_SENTENCE_ROW);
+    uint32_t answer = bellnewt_sentence_read(sentence, size, row, BELLNEWT_SENTENCE_ROW);
+    show(answer, sentence_names, row, BELLNEWT_SENTENCE_ROW);
 }
 
 /* The example of 001, A.2: its day corrected, two refusals, and sent on in a sentence. */
@@ -61,20 +76,18 @@ static void distress(void)
 
     printf("distress\n");
     show_report(report);
-    printf("correct the day to 10: %d\n",
-           bellnewt_distress_correct(report, sizeof report, BELLNEWT_DISTRESS_DAY, 10));
+    tell("correct the day to 10", bellnewt_distress_correct(report, sizeof report, BELLNEWT_DISTRESS_DAY, 10));
     show_report(report);
-    printf("correct the hour to 25: %d\n",
-           bellnewt_distress_correct(report, sizeof report, BELLNEWT_DISTRESS_HOUR, 25));
-    printf("correct the fill: %d\n", bellnewt_distress_correct(report, sizeof report, 10, 0));
+    tell("correct the hour to 25", bellnewt_distress_correct(report, sizeof report, BELLNEWT_DISTRESS_HOUR, 25));
+    tell("correct the fill", bellnewt_distress_correct(report, sizeof report, 10, 0));
 
-    uint8_t code = bellnewt_sentence_write(sentence, sizeof sentence, &size, 1234567, 123456789, 7387407, 107380, 9,
-                                           12, 25, 10, 45, 8);
-    printf("write the sentence: %d, %zu bytes\n", code, size);
+    uint32_t answer = bellnewt_sentence_write(sentence, sizeof sentence, &size, 1234567, 123456789, 7387407, 107380, 9,
+                                              12, 25, 10, 45, 8);
+    printf("write the sentence: %s, %zu bytes\n", said(answer), size);
     fwrite(sentence, 1, size, stdout);
     show_sentence(sentence, size);
-    printf("write the report with its first day: %d\n",
-           bellnewt_distress_write(report, sizeof report, 123456789, 7387407, 107380, 9, 12, 25, 10, 45, 8));
+    tell("write the report with its first day",
+         bellnewt_distress_write(report, sizeof report, 123456789, 7387407, 107380, 9, 12, 25, 10, 45, 8));
     show_bytes("report", report, sizeof report);
 }
 
@@ -85,10 +98,9 @@ static void gljc(void)
     int64_t row[BELLNEWT_GLJC_ROW];
 
     printf("GLJC\n");
-    printf("write: %d\n", bellnewt_gljc_write(frame, sizeof frame, 0, 0));
+    tell("write", bellnewt_gljc_write(frame, sizeof frame, 0, 0));
     show_bytes("frame", frame, sizeof frame);
-    printf("correct the minutes to 5: %d\n",
-           bellnewt_gljc_correct(frame, sizeof frame, BELLNEWT_GLJC_MINUTES, 5));
+    tell("correct the minutes to 5", bellnewt_gljc_correct(frame, sizeof frame, BELLNEWT_GLJC_MINUTES, 5));
     show(bellnewt_gljc_read(frame, sizeof frame, row, BELLNEWT_GLJC_ROW), names, row, BELLNEWT_GLJC_ROW);
     frame[11] ^= 1;
     printf("with another checksum\n");
@@ -104,13 +116,11 @@ static void txsq(void)
     int64_t row[BELLNEWT_TXSQ_ROW];
 
     printf("TXSQ\n");
-    printf("write: %d\n",
-           bellnewt_txsq_write(frame, sizeof frame, content, sizeof content, 131258, 1, 1, 0, 131258, 16, 0));
+    tell("write", bellnewt_txsq_write(frame, sizeof frame, content, sizeof content, 131258, 1, 1, 0, 131258, 16, 0));
     show_bytes("frame", frame, sizeof frame);
-    printf("correct the receiver to 200001: %d\n",
-           bellnewt_txsq_correct(frame, sizeof frame, BELLNEWT_TXSQ_RECEIVER, 200001));
-    printf("correct the answer to 1, without password: %d\n",
-           bellnewt_txsq_correct(frame, sizeof frame, BELLNEWT_TXSQ_ANSWER, 1));
+    tell("correct the receiver to 200001", bellnewt_txsq_correct(frame, sizeof frame, BELLNEWT_TXSQ_RECEIVER, 200001));
+    tell("correct the answer to 1, without password",
+         bellnewt_txsq_correct(frame, sizeof frame, BELLNEWT_TXSQ_ANSWER, 1));
     if (show(bellnewt_txsq_read(frame, sizeof frame, row, BELLNEWT_TXSQ_ROW), names, row, BELLNEWT_CONTENT_START))
         show_content(frame, row);
 }
@@ -124,13 +134,12 @@ static void txxx(void)
     int64_t row[BELLNEWT_TXXX_ROW];
 
     printf("TXXX\n");
-    printf("write 11 bits: %d\n",
-           bellnewt_txxx_write(frame, sizeof frame, content, sizeof content, 131258, 0x60, 200001, 23, 59, 11, 0));
-    printf("write 12 bits: %d\n",
-           bellnewt_txxx_write(frame, sizeof frame, content, sizeof content, 131258, 0x60, 200001, 23, 59, 12, 0));
+    tell("write 11 bits",
+         bellnewt_txxx_write(frame, sizeof frame, content, sizeof content, 131258, 0x60, 200001, 23, 59, 11, 0));
+    tell("write 12 bits",
+         bellnewt_txxx_write(frame, sizeof frame, content, sizeof content, 131258, 0x60, 200001, 23, 59, 12, 0));
     show_bytes("frame", frame, sizeof frame);
-    printf("correct the hour to 0: %d\n",
-           bellnewt_txxx_correct(frame, sizeof frame, BELLNEWT_TXXX_HOUR, 0));
+    tell("correct the hour to 0", bellnewt_txxx_correct(frame, sizeof frame, BELLNEWT_TXXX_HOUR, 0));
     if (show(bellnewt_txxx_read(frame, sizeof frame, row, BELLNEWT_TXXX_ROW), names, row, BELLNEWT_CONTENT_START))
         show_content(frame, row);
 }
@@ -152,15 +161,12 @@ static void txhz(void)
     int64_t row[BELLNEWT_TXHZ_ROW];
 
     printf("TXHZ\n");
-    printf("write: %d\n",
-           bellnewt_txhz_write(frame, sizeof frame, receipts, sizeof receipts, 131258, 200001, 2));
+    tell("write", bellnewt_txhz_write(frame, sizeof frame, receipts, sizeof receipts, 131258, 200001, 2));
     show_bytes("frame", frame, sizeof frame);
-    printf("correct the count to 1: %d\n",
-           bellnewt_txhz_correct(frame, sizeof frame, BELLNEWT_TXHZ_COUNT, 1));
-    printf("correct the first receipt's minute to 6: %d\n",
-           bellnewt_txhz_correct(frame, sizeof frame, BELLNEWT_TXHZ_FIRST_RECEIPT + 3, 6));
-    printf("correct the third receipt: %d\n",
-           bellnewt_txhz_correct(frame, sizeof frame, BELLNEWT_TXHZ_FIRST_RECEIPT + 8, 6));
+    tell("correct the count to 1", bellnewt_txhz_correct(frame, sizeof frame, BELLNEWT_TXHZ_COUNT, 1));
+    tell("correct the first receipt's minute to 6",
+         bellnewt_txhz_correct(frame, sizeof frame, BELLNEWT_TXHZ_FIRST_RECEIPT + 3, 6));
+    tell("correct the third receipt", bellnewt_txhz_correct(frame, sizeof frame, BELLNEWT_TXHZ_FIRST_RECEIPT + 8, 6));
     if (show(bellnewt_txhz_read(frame, sizeof frame, row, BELLNEWT_TXHZ_ROW), names, row, 3))
         show_receipts(row);
 }
@@ -175,30 +181,29 @@ static void warning(void)
     int64_t row[BELLNEWT_WARNING_ROW];
 
     printf("warning\n");
-    printf("write a cyclone: %d\n",
-           bellnewt_cyclone_write(message, sizeof message, 0, 4122100, 3750000, 4800000, 4, 300, 120, 20, 315, 14, 150,
-                                  8, 27, 6, 30, 24));
+    tell("write a cyclone",
+         bellnewt_cyclone_write(message, sizeof message, 0, 4122100, 3750000, 4800000, 4, 300, 120, 20, 315, 14, 150,
+                                8, 27, 6, 30, 24));
     show_bytes("message", message, sizeof message);
-    printf("correct the pressure to 160: %d\n",
-           bellnewt_warning_correct(message, sizeof message, BELLNEWT_CYCLONE_PRESSURE, 160));
-    printf("correct the time to 27 August, 18:00: %d\n",
-           bellnewt_warning_correct(message, sizeof message, BELLNEWT_WARNING_TIME, 8 << 16 | 27 << 11 | 18 << 6));
-    printf("correct the hours to 49: %d\n",
-           bellnewt_warning_correct(message, sizeof message, BELLNEWT_WARNING_HOURS, 49));
-    printf("correct the visibility, which no cyclone has: %d\n",
-           bellnewt_warning_correct(message, sizeof message, BELLNEWT_FOG_VISIBILITY, 5));
+    tell("correct the pressure to 160",
+         bellnewt_warning_correct(message, sizeof message, BELLNEWT_CYCLONE_PRESSURE, 160));
+    tell("correct the time to 27 August, 18:00",
+         bellnewt_warning_correct(message, sizeof message, BELLNEWT_WARNING_TIME, 8 << 16 | 27 << 11 | 18 << 6));
+    tell("correct the hours to 49", bellnewt_warning_correct(message, sizeof message, BELLNEWT_WARNING_HOURS, 49));
+    tell("correct the visibility, which no cyclone has",
+         bellnewt_warning_correct(message, sizeof message, BELLNEWT_FOG_VISIBILITY, 5));
     show(bellnewt_warning_read(message, sizeof message, row, BELLNEWT_WARNING_ROW), names, row, BELLNEWT_WARNING_ROW);
-    printf("write fog with a visibility of 251: %d\n",
-           bellnewt_fog_write(message, sizeof message, 0, 4122100, 3750000, 4800000, 200, 251, 8, 27, 6, 30, 24));
-    printf("write a gale: %d\n",
-           bellnewt_gale_write(message, sizeof message, 0, 4122100, 3750000, 4800000, 120, 8, 10, 3, 8, 27, 6, 30, 24));
+    tell("write fog with a visibility of 251",
+         bellnewt_fog_write(message, sizeof message, 0, 4122100, 3750000, 4800000, 200, 251, 8, 27, 6, 30, 24));
+    tell("write a gale",
+         bellnewt_gale_write(message, sizeof message, 0, 4122100, 3750000, 4800000, 120, 8, 10, 3, 8, 27, 6, 30, 24));
     show_bytes("message", message, sizeof message);
-    printf("write waves: %d\n",
-           bellnewt_waves_write(message, sizeof message, 0, 4122100, 3750000, 4800000, 90, 6, 13, 8, 27, 6, 30, 24));
+    tell("write waves",
+         bellnewt_waves_write(message, sizeof message, 0, 4122100, 3750000, 4800000, 90, 6, 13, 8, 27, 6, 30, 24));
     show_bytes("message", message, sizeof message);
-    printf("write a surge: %d\n",
-           bellnewt_surge_write(message, sizeof message, 0, 4122100, 3750000, 4800000, 150, 210, 480, 75, 8, 27, 6, 30,
-                                24));
+    tell("write a surge",
+         bellnewt_surge_write(message, sizeof message, 0, 4122100, 3750000, 4800000, 150, 210, 480, 75, 8, 27, 6, 30,
+                              24));
     show_bytes("message", message, sizeof message);
 }
 
@@ -213,19 +218,19 @@ static void area(void)
     int64_t row[BELLNEWT_AREA_ROW];
 
     printf("area\n");
-    printf("write a circle into 30 bytes: %d\n",
-           bellnewt_circle_write(message, 30, 0, 4122100, 1, 413456789, 0, 1, 73500000, 18150000, 25, 8, 27, 6, 30, 8,
-                                 28, 18, 2));
-    printf("write a rectangle: %d\n",
-           bellnewt_rectangle_write(message, sizeof message, 0, 4122100, 3, 413456789, 1, 6, -45000000, -6300000,
-                                    -44400000, -5700000, 8, 27, 6, 30, 8, 28, 18, 5));
+    tell("write a circle into 30 bytes",
+         bellnewt_circle_write(message, 30, 0, 4122100, 1, 413456789, 0, 1, 73500000, 18150000, 25, 8, 27, 6, 30, 8,
+                               28, 18, 2));
+    tell("write a rectangle",
+         bellnewt_rectangle_write(message, sizeof message, 0, 4122100, 3, 413456789, 1, 6, -45000000, -6300000,
+                                  -44400000, -5700000, 8, 27, 6, 30, 8, 28, 18, 5));
     show_bytes("message", message, sizeof message);
-    printf("correct the second longitude to none: %d\n",
-           bellnewt_area_correct(message, sizeof message, BELLNEWT_RECTANGLE_LONGITUDE, 108600000));
-    printf("correct the latitude to -1: %d\n",
-           bellnewt_area_correct(message, sizeof message, BELLNEWT_AREA_LATITUDE, (1 << 27) - 1));
-    printf("correct the radius, which no rectangle has: %d\n",
-           bellnewt_area_correct(message, sizeof message, BELLNEWT_CIRCLE_RADIUS, 25));
+    tell("correct the second longitude to none",
+         bellnewt_area_correct(message, sizeof message, BELLNEWT_RECTANGLE_LONGITUDE, 108600000));
+    tell("correct the latitude to -1",
+         bellnewt_area_correct(message, sizeof message, BELLNEWT_AREA_LATITUDE, (1 << 27) - 1));
+    tell("correct the radius, which no rectangle has",
+         bellnewt_area_correct(message, sizeof message, BELLNEWT_CIRCLE_RADIUS, 25));
     show(bellnewt_area_read(message, sizeof message, row, BELLNEWT_AREA_ROW), names, row, BELLNEWT_AREA_ROW);
 }
 
@@ -236,8 +241,8 @@ static void slots(void)
     printf("slots of message 8\n");
     for (size_t i = 0; i < sizeof bytes / sizeof bytes[0]; i++) {
         uint8_t count = 0;
-        uint8_t code = bellnewt_slots(8, bytes[i], &count);
-        printf("  %zu bytes: %d, slots %d\n", bytes[i], code, count);
+        uint32_t answer = bellnewt_slots(8, bytes[i], &count);
+        printf("  %zu bytes: %s, slots %d\n", bytes[i], said(answer), count);
     }
 }
 
@@ -249,9 +254,9 @@ static void show_notice(const uint8_t *notice, size_t size)
     uint32_t areas[BELLNEWT_NOTICE_ENTRIES];
     uint8_t text[BELLNEWT_NOTICE_TEXT];
 
-    uint8_t code = bellnewt_notice_read(notice, size, BELLNEWT_ENGLISH, row, BELLNEWT_NOTICE_ROW, areas,
-                                        BELLNEWT_NOTICE_ENTRIES, text, sizeof text);
-    if (!show(code, names, row, BELLNEWT_NOTICE_ROW))
+    uint32_t answer = bellnewt_notice_read(notice, size, BELLNEWT_ENGLISH, row, BELLNEWT_NOTICE_ROW, areas,
+                                           BELLNEWT_NOTICE_ENTRIES, text, sizeof text);
+    if (!show(answer, names, row, BELLNEWT_NOTICE_ROW))
         return;
     printf("  areas    ");
     for (int64_t i = 0; i < row[BELLNEWT_NOTICE_ENTRY_AREAS]; i++)
@@ -270,9 +275,8 @@ static void show_outline(const uint8_t *notice, size_t size)
     int32_t row[BELLNEWT_OUTLINE_ROW];
     size_t points = 0;
 
-    printf("outline into one entry: %d\n", bellnewt_outline(notice, size, BELLNEWT_ENGLISH, row, 1, &points));
-    printf("outline: %d\n",
-           bellnewt_outline(notice, size, BELLNEWT_ENGLISH, row, BELLNEWT_OUTLINE_ROW, &points));
+    tell("outline into one entry", bellnewt_outline(notice, size, BELLNEWT_ENGLISH, row, 1, &points));
+    tell("outline", bellnewt_outline(notice, size, BELLNEWT_ENGLISH, row, BELLNEWT_OUTLINE_ROW, &points));
     for (size_t i = 0; i < points; i++)
         printf("  point     %" PRId32 " %" PRId32 "\n", row[2 * i], row[2 * i + 1]);
 }
@@ -286,19 +290,19 @@ static void notice(uint8_t *message, size_t size)
     const uint32_t august = 8 << 16 | 27 << 11 | 6 << 6 | 30, september = 9 << 16 | 1 << 11 | 12 << 6;
 
     printf("notice\n");
-    printf("write: %d\n",
-           bellnewt_notice_write(message, size, areas, sizeof areas / sizeof areas[0], text, sizeof text,
-                                 BELLNEWT_ENGLISH, 11, 2, 123, 24, 4, 11, august, 2));
+    tell("write",
+         bellnewt_notice_write(message, size, areas, sizeof areas / sizeof areas[0], text, sizeof text,
+                               BELLNEWT_ENGLISH, 11, 2, 123, 24, 4, 11, august, 2));
     show_bytes("notice", message, size);
     show_notice(message, size);
-    printf("correct the expiry to 1 September, 12:00: %d\n",
-           bellnewt_notice_correct(message, size, BELLNEWT_ENGLISH, BELLNEWT_NOTICE_EXPIRY, september));
-    printf("correct the expiry to month 13: %d\n",
-           bellnewt_notice_correct(message, size, BELLNEWT_ENGLISH, BELLNEWT_NOTICE_EXPIRY, 13 << 16 | 1 << 11));
-    printf("correct the circle's radius to 30: %d\n",
-           bellnewt_notice_correct(message, size, BELLNEWT_ENGLISH, BELLNEWT_NOTICE_FIRST_ENTRY + 5, 30));
-    printf("correct the second area's kind: %d\n",
-           bellnewt_notice_correct(message, size, BELLNEWT_ENGLISH, BELLNEWT_NOTICE_FIRST_ENTRY + 2, 0));
+    tell("correct the expiry to 1 September, 12:00",
+         bellnewt_notice_correct(message, size, BELLNEWT_ENGLISH, BELLNEWT_NOTICE_EXPIRY, september));
+    tell("correct the expiry to month 13",
+         bellnewt_notice_correct(message, size, BELLNEWT_ENGLISH, BELLNEWT_NOTICE_EXPIRY, 13 << 16 | 1 << 11));
+    tell("correct the circle's radius to 30",
+         bellnewt_notice_correct(message, size, BELLNEWT_ENGLISH, BELLNEWT_NOTICE_FIRST_ENTRY + 5, 30));
+    tell("correct the second area's kind",
+         bellnewt_notice_correct(message, size, BELLNEWT_ENGLISH, BELLNEWT_NOTICE_FIRST_ENTRY + 2, 0));
     show_notice(message, size);
     show_outline(message, size);
 }
@@ -310,12 +314,13 @@ static void show_tide(const uint8_t *telegram, size_t size)
     uint32_t row[BELLNEWT_TIDE_ROW];
     int32_t heights[BELLNEWT_TIDE_HEIGHTS];
 
-    printf("read: %d\n", bellnewt_tide_read(telegram, size, &records, &numbers, row, BELLNEWT_TIDE_ROW));
+    tell("read", bellnewt_tide_read(telegram, size, &records, &numbers, row, BELLNEWT_TIDE_ROW));
     printf("  records   %" PRIu16 "\n  row      ", records);
     for (size_t i = 0; i < numbers; i++)
         printf(" %" PRIu32, row[i]);
-    printf("\nheights into one entry: %d\n", bellnewt_tide_heights(telegram, size, heights, 1, &count));
-    printf("heights: %d\n", bellnewt_tide_heights(telegram, size, heights, BELLNEWT_TIDE_HEIGHTS, &count));
+    printf("\n");
+    tell("heights into one entry", bellnewt_tide_heights(telegram, size, heights, 1, &count));
+    tell("heights", bellnewt_tide_heights(telegram, size, heights, BELLNEWT_TIDE_HEIGHTS, &count));
     for (size_t i = 0; i < count; i++)
         printf("  level     %" PRId32 " cm\n", heights[i]);
 }
@@ -330,16 +335,15 @@ static void tide(void)
     uint8_t telegram[24]; /* as many as it takes */
 
     printf("tide\n");
-    printf("write: %d\n",
-           bellnewt_tide_write(telegram, sizeof telegram, 2, row, sizeof row / sizeof row[0]));
+    tell("write", bellnewt_tide_write(telegram, sizeof telegram, 2, row, sizeof row / sizeof row[0]));
     show_bytes("telegram", telegram, sizeof telegram);
     show_tide(telegram, sizeof telegram);
-    printf("correct the second level to 60: %d\n",
-           bellnewt_tide_correct(telegram, sizeof telegram, BELLNEWT_TIDE_FIRST_ENTRY + 9, 60));
-    printf("correct the second level to 0, which sign 0 cannot have: %d\n",
-           bellnewt_tide_correct(telegram, sizeof telegram, BELLNEWT_TIDE_FIRST_ENTRY + 9, 0));
-    printf("correct how many entries: %d\n",
-           bellnewt_tide_correct(telegram, sizeof telegram, BELLNEWT_TIDE_FIRST_ENTRY + 3, 1));
+    tell("correct the second level to 60",
+         bellnewt_tide_correct(telegram, sizeof telegram, BELLNEWT_TIDE_FIRST_ENTRY + 9, 60));
+    tell("correct the second level to 0, which sign 0 cannot have",
+         bellnewt_tide_correct(telegram, sizeof telegram, BELLNEWT_TIDE_FIRST_ENTRY + 9, 0));
+    tell("correct how many entries",
+         bellnewt_tide_correct(telegram, sizeof telegram, BELLNEWT_TIDE_FIRST_ENTRY + 3, 1));
     show_tide(telegram, sizeof telegram);
 }
 
@@ -351,19 +355,18 @@ static void packet(const uint8_t *content, size_t size)
     int64_t row[BELLNEWT_PACKET_ROW];
 
     printf("packet\n");
-    printf("split: %d\n", bellnewt_split(buf, sizeof buf, content, size, BELLNEWT_ENGLISH, 7, 0));
-    printf("split off a second: %d\n", bellnewt_split(buf, sizeof buf, content, size, BELLNEWT_ENGLISH, 7, 1));
+    tell("split", bellnewt_split(buf, sizeof buf, content, size, BELLNEWT_ENGLISH, 7, 0));
+    tell("split off a second", bellnewt_split(buf, sizeof buf, content, size, BELLNEWT_ENGLISH, 7, 1));
     size_t len = BELLNEWT_PACKET_HEAD + size;
-    printf("correct the number to %d: %d\n", bellnewt_next_number(255),
-           bellnewt_packet_correct(buf, len, BELLNEWT_PACKET_NUMBER, bellnewt_next_number(255)));
-    printf("correct the own number to 1, of 1: %d\n",
-           bellnewt_packet_correct(buf, len, BELLNEWT_PACKET_OWN, 1));
+    printf("correct the number to %d: %s\n", bellnewt_next_number(255),
+           said(bellnewt_packet_correct(buf, len, BELLNEWT_PACKET_NUMBER, bellnewt_next_number(255))));
+    tell("correct the own number to 1, of 1", bellnewt_packet_correct(buf, len, BELLNEWT_PACKET_OWN, 1));
     uint8_t written[BELLNEWT_PACKET_GREATEST];
-    printf("write it: %d, ",
-           bellnewt_packet_write(written, sizeof written, content, size, BELLNEWT_ENGLISH, 0, 1, 0));
+    printf("write it: %s, ",
+           said(bellnewt_packet_write(written, sizeof written, content, size, BELLNEWT_ENGLISH, 0, 1, 0)));
     printf("%s\n", memcmp(written, buf, len) == 0 ? "the same bytes" : "other bytes");
-    uint8_t code = bellnewt_packet_read(buf, len, row, BELLNEWT_PACKET_ROW);
-    if (show(code, names, row, BELLNEWT_PACKET_ENTRY_START))
+    uint32_t answer = bellnewt_packet_read(buf, len, row, BELLNEWT_PACKET_ROW);
+    if (show(answer, names, row, BELLNEWT_PACKET_ENTRY_START))
         show_bytes("content", buf + row[BELLNEWT_PACKET_ENTRY_START], (size_t)row[BELLNEWT_PACKET_ENTRY_BYTES]);
 }
 
@@ -380,9 +383,9 @@ static void bring(const uint8_t *content, size_t own)
     const size_t bytes = rest < BELLNEWT_PACKET_CONTENT ? rest : BELLNEWT_PACKET_CONTENT;
 
     bellnewt_split(packet, sizeof packet, content, DESK_CONTENT, BELLNEWT_CHINESE, 255, own);
-    uint8_t code = bellnewt_desk_accept(places, sizeof places, store, sizeof store, packet,
-                                        BELLNEWT_PACKET_HEAD + bytes, &again);
-    printf("packet %zu: %d, again %d\n", own, code, again);
+    uint32_t answer = bellnewt_desk_accept(places, sizeof places, store, sizeof store, packet,
+                                           BELLNEWT_PACKET_HEAD + bytes, &again);
+    printf("packet %zu: %s, again %d\n", own, said(answer), again);
 }
 
 static void ask(const uint8_t *content)
@@ -390,13 +393,13 @@ static void ask(const uint8_t *content)
     uint8_t notice[BELLNEWT_NOTICE_GREATEST], language = BELLNEWT_ENGLISH;
     uint16_t missing[BELLNEWT_DESK_MISSING];
     size_t count = 0;
-    uint8_t code = bellnewt_desk_ask(places, sizeof places, store, sizeof store, 255, notice, sizeof notice, missing,
-                                     BELLNEWT_DESK_MISSING, &count, &language);
+    uint32_t answer = bellnewt_desk_ask(places, sizeof places, store, sizeof store, 255, notice, sizeof notice, missing,
+                                        BELLNEWT_DESK_MISSING, &count, &language);
 
-    printf("ask: %d\n", code);
-    for (size_t i = 0; code == BELLNEWT_INCOMPLETE && i < count; i++)
+    tell("ask", answer);
+    for (size_t i = 0; answer == BELLNEWT_INCOMPLETE && i < count; i++)
         printf("  missing   %d\n", missing[i]);
-    if (code == BELLNEWT_GOOD)
+    if (answer == BELLNEWT_GOOD)
         printf("  %zu bytes in language %d, %s\n", count, language,
                count == DESK_CONTENT && memcmp(notice, content, count) == 0 ? "those that were split" : "others");
 }
@@ -417,8 +420,8 @@ static void desk(void)
     bring(content, 1);
     ask(content);
     bring(content, 1);
-    printf("drop: %d\n", bellnewt_desk_drop(places, sizeof places, store, sizeof store, 255));
-    printf("drop once more: %d\n", bellnewt_desk_drop(places, sizeof places, store, sizeof store, 255));
+    tell("drop", bellnewt_desk_drop(places, sizeof places, store, sizeof store, 255));
+    tell("drop once more", bellnewt_desk_drop(places, sizeof places, store, sizeof store, 255));
 }
 
 int main(void)

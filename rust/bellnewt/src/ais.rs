@@ -33,7 +33,7 @@ use record::Refusal;
 pub use record::{Ais, Area, Body, Shape, ShortTime, Time, Warning};
 
 extern "C" {
-    fn bellnewt_slots(message: u8, bytes: usize, slots: *mut u8) -> u8;
+    fn bellnewt_slots(message: u8, bytes: usize, slots: *mut u8) -> u32;
 }
 
 /// The longer of the rows.
@@ -43,7 +43,7 @@ const LONGEST_ROW: usize = Area::ROW;
 pub trait Kind: Ais + Calls {
     /// The library's answer to writing this record.
     #[doc(hidden)]
-    fn put(&self, buf: &mut [u8]) -> u8;
+    fn put(&self, buf: &mut [u8]) -> u32;
 }
 
 /// Reads a message into the first entries of a row, as in C: 17 of a warning, 19 of an area.

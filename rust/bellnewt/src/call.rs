@@ -8,9 +8,9 @@
 use record::Refusal;
 
 /// A call that reads a message into a row.
-pub type Read = unsafe extern "C" fn(*const u8, usize, *mut i64, usize) -> u8;
+pub type Read = unsafe extern "C" fn(*const u8, usize, *mut i64, usize) -> u32;
 /// A call that corrects a field of a message.
-pub type Correct = unsafe extern "C" fn(*mut u8, usize, usize, u64) -> u8;
+pub type Correct = unsafe extern "C" fn(*mut u8, usize, usize, u64) -> u32;
 
 /// The calls that the library has for a kind of message.
 ///
@@ -22,12 +22,12 @@ pub unsafe trait Calls {
     const CORRECT: Correct;
 }
 
-/// What the number that a call answers means.
+/// What a call's answer means.
 #[inline]
-pub fn answer(code: u8) -> Result<(), Refusal> {
-    match code {
-        0 => Ok(()),
-        number => Err(Refusal(number)),
+pub fn answer(answer: u32) -> Result<(), Refusal> {
+    match Refusal::of_answer(answer) {
+        None => Ok(()),
+        Some(refusal) => Err(refusal),
     }
 }
 

@@ -30,7 +30,7 @@ extern "C" {
         packet: *const u8,
         packet_len: usize,
         again: *mut u8,
-    ) -> u8;
+    ) -> u32;
     fn bellnewt_desk_ask(
         places: *mut u8,
         places_len: usize,
@@ -43,8 +43,8 @@ extern "C" {
         missing_len: usize,
         count: *mut usize,
         language: *mut u8,
-    ) -> u8;
-    fn bellnewt_desk_drop(places: *mut u8, places_len: usize, store: *const u8, store_len: usize, number: u8) -> u8;
+    ) -> u32;
+    fn bellnewt_desk_drop(places: *mut u8, places_len: usize, store: *const u8, store_len: usize, number: u8) -> u32;
 }
 
 /// Takes a packet into lent places and a lent store, as in C.

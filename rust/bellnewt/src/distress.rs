@@ -22,7 +22,7 @@ use record::Refusal;
 pub use record::Report;
 
 extern "C" {
-    fn bellnewt_distress_read(s: *const u8, len: usize, row: *mut i64, row_len: usize) -> u8;
+    fn bellnewt_distress_read(s: *const u8, len: usize, row: *mut i64, row_len: usize) -> u32;
     fn bellnewt_distress_write(
         buf: *mut u8,
         len: usize,
@@ -35,9 +35,9 @@ extern "C" {
         speed: u8,
         course: u16,
         kind: u8,
-    ) -> u8;
-    fn bellnewt_distress_correct(s: *mut u8, len: usize, field: usize, value: u64) -> u8;
-    fn bellnewt_sentence_read(s: *const u8, len: usize, row: *mut i64, row_len: usize) -> u8;
+    ) -> u32;
+    fn bellnewt_distress_correct(s: *mut u8, len: usize, field: usize, value: u64) -> u32;
+    fn bellnewt_sentence_read(s: *const u8, len: usize, row: *mut i64, row_len: usize) -> u32;
     fn bellnewt_sentence_write(
         buf: *mut u8,
         len: usize,
@@ -52,7 +52,7 @@ extern "C" {
         speed: u8,
         course: u16,
         kind: u8,
-    ) -> u8;
+    ) -> u32;
 }
 
 /// Reads a report into the first nine entries of a row, as in C.

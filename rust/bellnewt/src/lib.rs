@@ -30,15 +30,17 @@
 //! notice::correct(&mut bytes, CHINESE, Field::Year, 25)?;
 //! assert_eq!(bytes, [0x20, 0x80, 0x02, 0x65, 0x18, 0x00, 0x00, 0x00]);
 //!
-//! // A refusal changes nothing.
-//! assert_eq!(notice::correct(&mut bytes, CHINESE, Field::Year, 100), Err(Refusal::RANGE));
+//! // A refusal changes nothing, and says where: the year starts at bit 23.
+//! let refusal = notice::correct(&mut bytes, CHINESE, Field::Year, 100).unwrap_err();
+//! assert_eq!((refusal.code(), refusal.bit()), (4, 23));
+//! assert_eq!(refusal.to_string(), "4 at bit 23: outside its range");
 //! assert_eq!(notice::read(&bytes, CHINESE)?.head.year, 25);
 //! # Ok::<(), Refusal>(())
 //! ```
 //!
 //! # Refusals
 //!
-//! A call that does not accept what it is given answers a [`Refusal`]. Its number says why:
+//! A call that does not accept what it is given answers a [`Refusal`]. Its number, [`Refusal::code`], says why:
 //!
 //! | Number | Name | Meaning |
 //! |---|---|---|
@@ -54,8 +56,11 @@
 //! | 10 | [`FIELD`](Refusal::FIELD) | there is no such field, or it decides the layout |
 //! | 11 | [`UNKNOWN`](Refusal::UNKNOWN) | no notice of that number is open |
 //!
+//! [`Refusal::bit`] says where: it is the first bit of the field at fault, counted from the message's start, if a field
+//! gave 1, 4 or 5, and else 0. The constants have bit 0; [`Refusal::at`] gives them another to compare with.
+//!
 //! A refusal leaves all lent memory as it was. Only 9 also lists the packets that are missing. `include/bellnewt.h` says
-//! for each call which refusals it can give, and in which order it tests for them.
+//! for each call which refusals it can give, in which order it tests for them, and which bit it shows.
 //!
 //! # Rows and records
 //!

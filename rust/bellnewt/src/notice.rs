@@ -91,7 +91,7 @@ extern "C" {
         areas_len: usize,
         text: *mut u8,
         text_len: usize,
-    ) -> u8;
+    ) -> u32;
     fn bellnewt_notice_write(
         buf: *mut u8,
         buf_len: usize,
@@ -108,8 +108,8 @@ extern "C" {
         subtype: u8,
         expiry: u32,
         count: u8,
-    ) -> u8;
-    fn bellnewt_notice_correct(s: *mut u8, len: usize, language: u8, field: usize, value: u64) -> u8;
+    ) -> u32;
+    fn bellnewt_notice_correct(s: *mut u8, len: usize, language: u8, field: usize, value: u64) -> u32;
     fn bellnewt_outline(
         s: *const u8,
         len: usize,
@@ -117,7 +117,7 @@ extern "C" {
         row: *mut i32,
         row_len: usize,
         points: *mut usize,
-    ) -> u8;
+    ) -> u32;
 }
 
 /// Reads a notice into three rows, as in C: its numbers, the entries of its areas, and the bytes of its text.

@@ -17,7 +17,7 @@ use record::Refusal;
 pub use record::{Packet, CHINESE, ENGLISH};
 
 extern "C" {
-    fn bellnewt_packet_read(s: *const u8, len: usize, row: *mut i64, row_len: usize) -> u8;
+    fn bellnewt_packet_read(s: *const u8, len: usize, row: *mut i64, row_len: usize) -> u32;
     fn bellnewt_packet_write(
         buf: *mut u8,
         buf_len: usize,
@@ -27,8 +27,8 @@ extern "C" {
         number: u8,
         total: u8,
         own: u8,
-    ) -> u8;
-    fn bellnewt_packet_correct(s: *mut u8, len: usize, field: usize, value: u64) -> u8;
+    ) -> u32;
+    fn bellnewt_packet_correct(s: *mut u8, len: usize, field: usize, value: u64) -> u32;
     fn bellnewt_split(
         buf: *mut u8,
         buf_len: usize,
@@ -37,7 +37,7 @@ extern "C" {
         language: u8,
         number: u8,
         packet: usize,
-    ) -> u8;
+    ) -> u32;
     fn bellnewt_next_number(number: u8) -> u8;
 }
 

@@ -29,10 +29,10 @@ use std::ops::Range;
 pub use record::{Frame, Gljc, Txhz, Txsq, Txxx};
 
 extern "C" {
-    fn bellnewt_gljc_read(frame: *const u8, len: usize, row: *mut i64, row_len: usize) -> u8;
-    fn bellnewt_gljc_write(buf: *mut u8, len: usize, address: u32, minutes: u8) -> u8;
-    fn bellnewt_gljc_correct(frame: *mut u8, len: usize, field: usize, value: u64) -> u8;
-    fn bellnewt_txsq_read(frame: *const u8, len: usize, row: *mut i64, row_len: usize) -> u8;
+    fn bellnewt_gljc_read(frame: *const u8, len: usize, row: *mut i64, row_len: usize) -> u32;
+    fn bellnewt_gljc_write(buf: *mut u8, len: usize, address: u32, minutes: u8) -> u32;
+    fn bellnewt_gljc_correct(frame: *mut u8, len: usize, field: usize, value: u64) -> u32;
+    fn bellnewt_txsq_read(frame: *const u8, len: usize, row: *mut i64, row_len: usize) -> u32;
     fn bellnewt_txsq_write(
         buf: *mut u8,
         len: usize,
@@ -45,9 +45,9 @@ extern "C" {
         receiver: u32,
         bits: u16,
         answer: u8,
-    ) -> u8;
-    fn bellnewt_txsq_correct(frame: *mut u8, len: usize, field: usize, value: u64) -> u8;
-    fn bellnewt_txxx_read(frame: *const u8, len: usize, row: *mut i64, row_len: usize) -> u8;
+    ) -> u32;
+    fn bellnewt_txsq_correct(frame: *mut u8, len: usize, field: usize, value: u64) -> u32;
+    fn bellnewt_txxx_read(frame: *const u8, len: usize, row: *mut i64, row_len: usize) -> u32;
     fn bellnewt_txxx_write(
         buf: *mut u8,
         len: usize,
@@ -60,9 +60,9 @@ extern "C" {
         minute: u8,
         bits: u16,
         mark: u8,
-    ) -> u8;
-    fn bellnewt_txxx_correct(frame: *mut u8, len: usize, field: usize, value: u64) -> u8;
-    fn bellnewt_txhz_read(frame: *const u8, len: usize, row: *mut i64, row_len: usize) -> u8;
+    ) -> u32;
+    fn bellnewt_txxx_correct(frame: *mut u8, len: usize, field: usize, value: u64) -> u32;
+    fn bellnewt_txhz_read(frame: *const u8, len: usize, row: *mut i64, row_len: usize) -> u32;
     fn bellnewt_txhz_write(
         buf: *mut u8,
         len: usize,
@@ -71,8 +71,8 @@ extern "C" {
         address: u32,
         receiver: u32,
         count: u8,
-    ) -> u8;
-    fn bellnewt_txhz_correct(frame: *mut u8, len: usize, field: usize, value: u64) -> u8;
+    ) -> u32;
+    fn bellnewt_txhz_correct(frame: *mut u8, len: usize, field: usize, value: u64) -> u32;
 }
 
 /// The longest of the rows.
@@ -86,7 +86,7 @@ pub trait Kind: Frame + Calls {
 
     /// The library's answer to writing this record.
     #[doc(hidden)]
-    fn put(&self, buf: &mut [u8], run: &[u8]) -> u8;
+    fn put(&self, buf: &mut [u8], run: &[u8]) -> u32;
 }
 
 /// Reads a frame into the first entries of a row, as in C: two of GLJC, nine of TXSQ and of TXXX, 23 of TXHZ.
@@ -134,9 +134,9 @@ impl Kind for Gljc {
     }
 
     #[inline]
-    fn put(&self, buf: &mut [u8], run: &[u8]) -> u8 {
+    fn put(&self, buf: &mut [u8], run: &[u8]) -> u32 {
         if !run.is_empty() {
-            return Refusal::SIZE.0;
+            return record::answer(Err(Refusal::SIZE));
         }
         // SAFETY: see `call`.
         unsafe { bellnewt_gljc_write(buf.as_mut_ptr(), buf.len(), self.address, self.minutes) }
@@ -155,7 +155,7 @@ impl Kind for Txsq {
     }
 
     #[inline]
-    fn put(&self, buf: &mut [u8], run: &[u8]) -> u8 {
+    fn put(&self, buf: &mut [u8], run: &[u8]) -> u32 {
         // SAFETY: see `call`.
         unsafe {
             bellnewt_txsq_write(
@@ -187,7 +187,7 @@ impl Kind for Txxx {
     }
 
     #[inline]
-    fn put(&self, buf: &mut [u8], run: &[u8]) -> u8 {
+    fn put(&self, buf: &mut [u8], run: &[u8]) -> u32 {
         // SAFETY: see `call`.
         unsafe {
             bellnewt_txxx_write(
@@ -219,7 +219,7 @@ impl Kind for Txhz {
     }
 
     #[inline]
-    fn put(&self, buf: &mut [u8], run: &[u8]) -> u8 {
+    fn put(&self, buf: &mut [u8], run: &[u8]) -> u32 {
         // SAFETY: see `call`.
         unsafe {
             bellnewt_txhz_write(

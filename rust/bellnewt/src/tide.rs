@@ -106,10 +106,11 @@ extern "C" {
         numbers: *mut usize,
         row: *mut u32,
         row_len: usize,
-    ) -> u8;
-    fn bellnewt_tide_write(buf: *mut u8, buf_len: usize, count: u16, row: *const u32, row_len: usize) -> u8;
-    fn bellnewt_tide_correct(s: *mut u8, len: usize, field: usize, value: u64) -> u8;
-    fn bellnewt_tide_heights(s: *const u8, len: usize, heights: *mut i32, heights_len: usize, count: *mut usize) -> u8;
+    ) -> u32;
+    fn bellnewt_tide_write(buf: *mut u8, buf_len: usize, count: u16, row: *const u32, row_len: usize) -> u32;
+    fn bellnewt_tide_correct(s: *mut u8, len: usize, field: usize, value: u64) -> u32;
+    fn bellnewt_tide_heights(s: *const u8, len: usize, heights: *mut i32, heights_len: usize, count: *mut usize)
+        -> u32;
 }
 
 /// Reads a telegram into a row, as in C. Puts how many records there are into `count`, and how many numbers of the row

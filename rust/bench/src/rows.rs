@@ -71,8 +71,8 @@ pub struct Row {
 pub fn row<T: Clone + 'static>(
     name: &'static str,
     message: fn(&mut Random) -> T,
-    proved: impl Fn(&mut T, &mut Scratch) -> u8 + 'static,
-    paper: impl Fn(&mut T, &mut Scratch) -> u8 + 'static,
+    proved: impl Fn(&mut T, &mut Scratch) -> u32 + 'static,
+    paper: impl Fn(&mut T, &mut Scratch) -> u32 + 'static,
 ) -> Row {
     row_of(name, MESSAGES, message, proved, paper)
 }
@@ -82,8 +82,8 @@ pub fn row_of<T: Clone + 'static>(
     name: &'static str,
     count: usize,
     message: fn(&mut Random) -> T,
-    proved: impl Fn(&mut T, &mut Scratch) -> u8 + 'static,
-    paper: impl Fn(&mut T, &mut Scratch) -> u8 + 'static,
+    proved: impl Fn(&mut T, &mut Scratch) -> u32 + 'static,
+    paper: impl Fn(&mut T, &mut Scratch) -> u32 + 'static,
 ) -> Row {
     let rounds = move || {
         let messages = series(name, count, message);
@@ -93,7 +93,7 @@ pub fn row_of<T: Clone + 'static>(
 }
 
 /// A round is compiled for its call, so that nothing but the call stands between two messages.
-fn round<T: 'static>(mut messages: Vec<T>, call: impl Fn(&mut T, &mut Scratch) -> u8 + 'static) -> Box<dyn FnMut()> {
+fn round<T: 'static>(mut messages: Vec<T>, call: impl Fn(&mut T, &mut Scratch) -> u32 + 'static) -> Box<dyn FnMut()> {
     let mut scratch = Box::new(Scratch {
         bytes: [0; Notice::GREATEST],
         row: [0; 32],

@@ -14,7 +14,7 @@ extern "C" {
         store_len: usize,
         packet: *const u8,
         packet_len: usize,
-    ) -> u8;
+    ) -> u32;
     fn trial_desk_ask(
         said: *mut usize,
         said_len: usize,
@@ -27,7 +27,7 @@ extern "C" {
         notice_len: usize,
         missing: *mut u16,
         missing_len: usize,
-    ) -> u8;
+    ) -> u32;
     fn trial_desk_drop(
         said: *mut usize,
         said_len: usize,
@@ -36,7 +36,7 @@ extern "C" {
         store: *const u8,
         store_len: usize,
         number: u8,
-    ) -> u8;
+    ) -> u32;
     fn trial_txsq_content(frame: *const u8, len: usize, bytes: *mut u8, bytes_len: usize) -> usize;
     fn trial_txxx_content(frame: *const u8, len: usize, bytes: *mut u8, bytes_len: usize) -> usize;
     fn trial_packet_content(packet: *const u8, len: usize, bytes: *mut u8, bytes_len: usize) -> usize;
@@ -72,7 +72,7 @@ impl From<Place> for record::Place {
 pub type Said = [usize; 3];
 
 /// `desk::accept`.
-pub fn accept(said: &mut Said, places: &mut [Place], store: &mut [u8], packet: &[u8]) -> u8 {
+pub fn accept(said: &mut Said, places: &mut [Place], store: &mut [u8], packet: &[u8]) -> u32 {
     // SAFETY: slices are such pointers with their lengths, and a `&mut` overlaps no other.
     unsafe {
         trial_desk_accept(
@@ -96,7 +96,7 @@ pub fn ask(
     number: u8,
     notice: &mut [u8],
     missing: &mut [u16],
-) -> u8 {
+) -> u32 {
     // SAFETY: see `accept`.
     unsafe {
         trial_desk_ask(
@@ -116,7 +116,7 @@ pub fn ask(
 }
 
 /// `desk::drop`.
-pub fn drop(said: &mut Said, places: &mut [Place], store: &[u8], number: u8) -> u8 {
+pub fn drop(said: &mut Said, places: &mut [Place], store: &[u8], number: u8) -> u32 {
     // SAFETY: see `accept`.
     unsafe {
         trial_desk_drop(

@@ -5,22 +5,18 @@ mod body;
 mod time;
 mod warning;
 
-use super::{field, narrow, need, signed, within};
+use super::{field, narrow, need, signed, within, Tested};
 use record::{Ais, Area, Refusal, Warning};
 
-/// What a message has of its own. Both have three fills. The fields up to a fill are all refused by 4, so that their
-/// order does not show, and they are judged together.
+/// What a message has of its own. Both have three fills.
 ///
 /// The steps of reading and writing are inlined, so that the compiler asks once for the warning type or shape.
-pub trait Kind: Ais {
+pub trait Kind: Ais + Tested<Fills = [u64; 3]> {
     /// Message number, application, and warning type or shape.
     fn handled(start: &[u8; SMALLEST]) -> bool;
 
     /// The record of a message of its size, and the bits of its fills.
     fn unpack(message: &[u8]) -> (Self, [u64; 3]);
-
-    /// Whether the fields up to each fill stand in their ranges.
-    fn good(&self) -> [bool; 3];
 
     /// Makes the message of a good record.
     fn pack(&self, message: &mut [u8]);
@@ -34,15 +30,17 @@ pub trait Kind: Ais {
 const SMALLEST: usize = 23;
 const LARGEST_MMSI: u32 = 999_999_999;
 
+/// The bits that the first fields start at, the same in both messages.
+const REPEAT: u32 = 6;
+const SOURCE: u32 = 8;
+
+#[inline]
 pub fn read<M: Kind>(message: &[u8]) -> Result<M, Refusal> {
     let start = message.first_chunk().ok_or(Refusal::SIZE)?;
     need(M::handled(start), Refusal::KIND)?;
     need(message.len() == M::BYTES, Refusal::SIZE)?;
     let (record, fills) = M::unpack(message);
-    for (good, fill) in record.good().into_iter().zip(fills) {
-        need(good, Refusal::RANGE)?;
-        need(fill == 0, Refusal::FILL)?;
-    }
+    record.judge(fills)?;
     Ok(record)
 }
 
@@ -61,7 +59,7 @@ pub fn read_any(message: &[u8]) -> Result<(), Refusal> {
 }
 
 pub fn write<M: Kind>(buf: &mut [u8], record: &M) -> Result<(), Refusal> {
-    need(record.good() == [true; 3], Refusal::RANGE)?;
+    record.judge([0; 3])?;
     record.pack(buf.get_mut(..M::BYTES).ok_or(Refusal::ROOM)?);
     Ok(())
 }

@@ -1,6 +1,27 @@
 //! Numbers and bytes at any bit of a message.
 
+use super::need;
+use record::Refusal;
 use std::slice::IterMut;
+
+/// A part of a message that has a range: its width, its least and its most.
+pub type Part = (u32, u32, u32);
+
+/// What refuses parts that stand one behind another from a bit on: the first that the message is too short for, or that is
+/// outside its range; none if all are good.
+pub fn fault(message: &[u8], mut at: usize, parts: &[Part]) -> Option<Refusal> {
+    for &(width, least, most) in parts {
+        let end = at + width as usize;
+        if end > 8 * message.len() {
+            return Some(Refusal::SIZE.at(at as u32));
+        }
+        if !(least..=most).contains(&get(message, at, width)) {
+            return Some(Refusal::RANGE.at(at as u32));
+        }
+        at = end;
+    }
+    None
+}
 
 /// The number that `width` bits from a bit on spell, 1 to 32 of them.
 pub fn get(message: &[u8], at: usize, width: u32) -> u32 {
@@ -37,9 +58,11 @@ pub fn bytes_from(message: &[u8], at: usize) -> impl ExactSizeIterator<Item = u8
 }
 
 /// The bits left behind those bytes are zero.
-pub fn good_fill(message: &[u8], at: usize) -> bool {
+pub fn need_fill(message: &[u8], at: usize) -> Result<(), Refusal> {
     let (_, shift) = place(at);
-    message.last().is_none_or(|last| u32::from(*last) << shift & 0xFF == 0)
+    let is_zero = message.last().is_none_or(|last| u32::from(*last) << shift & 0xFF == 0);
+    let bytes = (8 * message.len() - at) / 8;
+    need(is_zero, Refusal::FILL.at((at + 8 * bytes) as u32))
 }
 
 /// Fills a message with numbers, one behind another.

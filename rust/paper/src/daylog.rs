@@ -1,7 +1,7 @@
 //! The day log's listing (01, "Day log listing").
 
 use super::{ais, distress, packet, serial};
-use record::{code, Refusal};
+use record::Refusal;
 use std::fmt::Write;
 
 /// A kind of record: its number in the log, its word in the listing, and what its family says of a body.
@@ -35,9 +35,10 @@ fn record(rest: &[u8]) -> Option<(u16, &[u8], &[u8])> {
 
 /// Every line of the listing.
 pub fn listing(log: &[u8]) -> String {
-    let mut out = String::from("n kind code bytes\n");
-    let mut line = |n: usize, word: &str, code: u8, bytes: usize| {
-        writeln!(out, "{n} {word} {code} {bytes}").expect("a string takes every line");
+    let mut out = String::from("n kind code bytes bit\n");
+    let mut line = |n: usize, word: &str, answer: Result<(), Refusal>, bytes: usize| {
+        let (code, bit) = answer.map_or_else(|refusal| (refusal.code(), refusal.bit()), |()| (0, 0));
+        writeln!(out, "{n} {word} {code} {bytes} {bit}").expect("a string takes every line");
     };
     let mut rest = log;
     for n in 1.. {
@@ -45,12 +46,12 @@ pub fn listing(log: &[u8]) -> String {
             break;
         }
         let Some((number, body, after)) = record(rest) else {
-            line(n, "broken", Refusal::SIZE.0, rest.len());
+            line(n, "broken", Err(Refusal::SIZE), rest.len());
             break;
         };
         match KINDS.iter().find(|kind| kind.number == number) {
-            Some(kind) => line(n, kind.word, code((kind.judge)(body)), body.len()),
-            None => line(n, "unknown", Refusal::KIND.0, body.len()),
+            Some(kind) => line(n, kind.word, (kind.judge)(body), body.len()),
+            None => line(n, "unknown", Err(Refusal::KIND), body.len()),
         }
         rest = after;
     }

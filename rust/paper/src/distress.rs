@@ -1,22 +1,40 @@
 //! The distress report and its sentence (01, "Distress report"; 001, annex A).
 
-use super::{narrow, signed, within, xor, LARGEST_ADDRESS};
+use super::{narrow, signed, within, xor, Tested, LARGEST_ADDRESS};
 use record::{Refusal, Report};
 
 const CODE: [u8; 2] = [0xBD, 0xC1];
 
-/// The fields stand in their ranges. All of them are refused by 4, so their order does not show, and they are judged
-/// together, without branches.
-fn good(r: &Report) -> bool {
-    (r.mmsi <= 999_999_999)
-        & within(r.longitude, 10_800_000, 10_860_000)
-        & within(r.latitude, 5_400_000, 5_460_000)
-        & (r.day <= 31)
-        & (r.hour <= 24)
-        & (r.minute <= 60)
-        & (r.speed <= 126)
-        & (r.course <= 360)
-        & (r.kind <= 9)
+/// The bits that the fields start at.
+const MMSI: u32 = 16;
+const LONGITUDE: u32 = 48;
+const LATITUDE: u32 = 73;
+const DAY: u32 = 97;
+const HOUR: u32 = 102;
+const MINUTE: u32 = 107;
+const SPEED: u32 = 113;
+const COURSE: u32 = 120;
+const KIND: u32 = 129;
+const FILL: u32 = 133;
+
+impl Tested for Report {
+    type Fills = u64;
+
+    /// The fields stand in their ranges, and the fill is zero.
+    #[inline]
+    fn tests(&self, fill: u64, test: &mut impl FnMut(bool, Refusal)) {
+        let mut range = |good: bool, at: u32| test(good, Refusal::RANGE.at(at));
+        range(self.mmsi <= 999_999_999, MMSI);
+        range(within(self.longitude, 10_800_000, 10_860_000), LONGITUDE);
+        range(within(self.latitude, 5_400_000, 5_460_000), LATITUDE);
+        range(self.day <= 31, DAY);
+        range(self.hour <= 24, HOUR);
+        range(self.minute <= 60, MINUTE);
+        range(self.speed <= 126, SPEED);
+        range(self.course <= 360, COURSE);
+        range(self.kind <= 9, KIND);
+        test(fill == 0, Refusal::FILL.at(FILL));
+    }
 }
 
 /// The fields, and the three bits of fill. The last eight bytes hold all from the latitude on, after one bit of the
@@ -57,6 +75,7 @@ fn pack(r: &Report) -> [u8; Report::BYTES] {
     m
 }
 
+#[inline]
 pub fn read(message: &[u8]) -> Result<Report, Refusal> {
     let head = message.first_chunk().ok_or(Refusal::SIZE)?;
     if head[..2] != CODE {
@@ -66,13 +85,17 @@ pub fn read(message: &[u8]) -> Result<Report, Refusal> {
         return Err(Refusal::SIZE);
     }
     let (report, fill) = unpack(head);
-    if !good(&report) {
-        return Err(Refusal::RANGE);
-    }
-    if fill != 0 {
-        return Err(Refusal::FILL);
+    if !report.good(fill) {
+        return Err(fault(head));
     }
     Ok(report)
+}
+
+/// What refuses a message with a bad field or fill.
+#[cold]
+fn fault(message: &[u8; Report::BYTES]) -> Refusal {
+    let (report, fill) = unpack(message);
+    report.fault(fill)
 }
 
 pub fn read_row(message: &[u8], row: &mut [i64]) -> Result<(), Refusal> {
@@ -82,13 +105,13 @@ pub fn read_row(message: &[u8], row: &mut [i64]) -> Result<(), Refusal> {
 }
 
 /// The 17 bytes of a report.
+#[inline]
 pub fn message(report: &Report) -> Result<[u8; Report::BYTES], Refusal> {
-    if !good(report) {
-        return Err(Refusal::RANGE);
-    }
+    report.judge(0)?;
     Ok(pack(report))
 }
 
+#[inline]
 pub fn write(buf: &mut [u8], report: &Report) -> Result<(), Refusal> {
     let message = message(report)?;
     *buf.first_chunk_mut().ok_or(Refusal::ROOM)? = message;
@@ -98,15 +121,15 @@ pub fn write(buf: &mut [u8], report: &Report) -> Result<(), Refusal> {
 pub fn correct(message: &mut [u8], field: usize, value: u64) -> Result<(), Refusal> {
     let mut report = read(message)?;
     match field {
-        Report::MMSI => report.mmsi = narrow(value, 32)? as u32,
-        Report::LONGITUDE => report.longitude = signed(narrow(value, 25)?, 25),
-        Report::LATITUDE => report.latitude = signed(narrow(value, 24)?, 24),
-        Report::DAY => report.day = narrow(value, 5)? as u8,
-        Report::HOUR => report.hour = narrow(value, 5)? as u8,
-        Report::MINUTE => report.minute = narrow(value, 6)? as u8,
-        Report::SPEED => report.speed = narrow(value, 7)? as u8,
-        Report::COURSE => report.course = narrow(value, 9)? as u16,
-        Report::KIND => report.kind = narrow(value, 4)? as u8,
+        Report::MMSI => report.mmsi = narrow(value, 32, MMSI)? as u32,
+        Report::LONGITUDE => report.longitude = signed(narrow(value, 25, LONGITUDE)?, 25),
+        Report::LATITUDE => report.latitude = signed(narrow(value, 24, LATITUDE)?, 24),
+        Report::DAY => report.day = narrow(value, 5, DAY)? as u8,
+        Report::HOUR => report.hour = narrow(value, 5, HOUR)? as u8,
+        Report::MINUTE => report.minute = narrow(value, 6, MINUTE)? as u8,
+        Report::SPEED => report.speed = narrow(value, 7, SPEED)? as u8,
+        Report::COURSE => report.course = narrow(value, 9, COURSE)? as u16,
+        Report::KIND => report.kind = narrow(value, 4, KIND)? as u8,
         _ => return Err(Refusal::FIELD),
     }
     write(message, &report)

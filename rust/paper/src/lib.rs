@@ -37,11 +37,49 @@ fn field(number: u64, below: u32, width: u32) -> u64 {
     number >> below & ((1 << width) - 1)
 }
 
-/// A corrected field's new value, if its bits can spell it.
+/// The new value of a corrected field that starts at a bit, if its bits can spell it.
 #[inline]
-fn narrow(value: u64, width: u32) -> Result<u64, Refusal> {
-    need(value >> width == 0, Refusal::RANGE)?;
+fn narrow(value: u64, width: u32, at: u32) -> Result<u64, Refusal> {
+    need(value >> width == 0, Refusal::RANGE.at(at))?;
     Ok(value)
+}
+
+/// A record that is judged by tests in bit order.
+pub trait Tested: Copy {
+    /// What stands in a message beside the record: its fills.
+    type Fills: Copy;
+
+    /// Makes the tests in bit order: whether each holds, and the refusal where it does not.
+    fn tests(&self, fills: Self::Fills, test: &mut impl FnMut(bool, Refusal));
+
+    /// Whether all tests hold. They are made together, without branches.
+    #[inline]
+    fn good(&self, fills: Self::Fills) -> bool {
+        let mut good = true;
+        self.tests(fills, &mut |holds, _| good &= holds);
+        good
+    }
+
+    /// The refusal of the first test that fails; one does. It is given a copy, so that a good record need not be in memory.
+    #[cold]
+    fn fault(self, fills: Self::Fills) -> Refusal {
+        let mut first = None;
+        self.tests(fills, &mut |holds, refusal| {
+            if !holds {
+                first.get_or_insert(refusal);
+            }
+        });
+        first.expect("a test fails")
+    }
+
+    #[inline]
+    fn judge(&self, fills: Self::Fills) -> Result<(), Refusal> {
+        if self.good(fills) {
+            Ok(())
+        } else {
+            Err(self.fault(fills))
+        }
+    }
 }
 
 /// The number that `width` bits spell in two's complement.

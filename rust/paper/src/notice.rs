@@ -3,7 +3,7 @@
 pub(crate) mod area;
 mod text;
 
-use super::{bits, field, narrow, need};
+use super::{bits, field, narrow, need, Tested};
 use area::{walk, Part};
 use bits::Writer;
 use record::{Head, Refusal};
@@ -18,6 +18,8 @@ const ROW: usize = 10;
 
 /// The widths of the fields before the areas, in bit order: the head's, and how many areas there are.
 const WIDTHS: [u32; 8] = [5, 4, 14, 7, 4, 4, 21, 4];
+/// The bits that they start at, and the one behind them.
+const STARTS: [u32; 8] = [0, 5, 9, 23, 30, 34, 38, 59];
 const HEAD_BITS: usize = 63;
 /// How many areas there are stands last among them. It decides the layout, so that it is not corrected.
 const COUNT: usize = 7;
@@ -41,15 +43,18 @@ fn find(message: &[u8], language: u8) -> Result<Found, Refusal> {
     let first = message.first_chunk().ok_or(Refusal::SIZE)?;
     need(message.len() <= GREATEST, Refusal::SIZE)?;
     let (head, areas) = head_of(first);
-    need(good_head(&head), Refusal::RANGE)?;
+    if !head.good(()) {
+        return Err(head_of(first).0.fault(()));
+    }
     let mut found = Found { head, areas, entries: 0, angles: 0, text_at: HEAD_BITS };
     walk(areas, |part| {
         found.entries += 1;
         found.angles += usize::from(part.is_angle());
         part.read(message, &mut found.text_at)
     })?;
-    need(text::good(bits::bytes_from(message, found.text_at), language), Refusal::RANGE)?;
-    need(bits::good_fill(message, found.text_at), Refusal::FILL)?;
+    let at = found.text_at;
+    need(text::good(bits::bytes_from(message, at), language), Refusal::RANGE.at(at as u32))?;
+    bits::need_fill(message, at)?;
     Ok(found)
 }
 
@@ -72,36 +77,39 @@ fn head_of(first: &[u8; LEAST]) -> (Head, u32) {
     (head, areas as u32)
 }
 
-/// The fields of the head stand in their ranges. All of them are refused by 4, so their order does not show.
-fn good_head(head: &Head) -> bool {
-    (1..=21).contains(&head.source)
-        && (1..=3).contains(&head.station)
-        && (1..=9_999).contains(&head.serial)
-        && head.year <= 99
-        && good_kind(head.kind, head.subtype)
-        && good_expiry(head.expiry)
+impl Tested for Head {
+    type Fills = ();
+
+    /// The fields stand in their ranges.
+    #[inline]
+    fn tests(&self, (): (), test: &mut impl FnMut(bool, Refusal)) {
+        let mut range = |good: bool, at: u32| test(good, Refusal::RANGE.at(at));
+        range((1..=21).contains(&self.source), STARTS[0]);
+        range((1..=3).contains(&self.station), STARTS[1]);
+        range((1..=9_999).contains(&self.serial), STARTS[2]);
+        range(self.year <= 99, STARTS[3]);
+        range((1..=8).contains(&self.kind), STARTS[4]);
+        range(good_subtype(self.kind, self.subtype), STARTS[5]);
+
+        // Zero means not known. Else there is a month, a day, an hour and a minute; the calendar is not asked.
+        let part = |below, width| field(self.expiry.into(), below, width);
+        let none = self.expiry == 0;
+        range(self.expiry < 1 << 21, STARTS[6]);
+        range(none | (1..=12).contains(&part(16, 4)), STARTS[6] + 1);
+        range(none | (part(11, 5) > 0), STARTS[6] + 5);
+        range(part(6, 5) <= 23, STARTS[6] + 10);
+        range(part(0, 6) <= 59, STARTS[6] + 15);
+    }
 }
 
 /// A type has subtypes of its own, or 0 alone.
-fn good_kind(kind: u8, subtype: u8) -> bool {
+fn good_subtype(kind: u8, subtype: u8) -> bool {
     match kind {
         1 => (1..=10).contains(&subtype),
         4 | 6 => (1..=13).contains(&subtype),
         5 => (1..=8).contains(&subtype),
-        2 | 3 | 7 | 8 => subtype == 0,
-        _ => false,
+        _ => subtype == 0,
     }
-}
-
-/// Zero means not known. Else there is a month, a day, an hour and a minute; the calendar is not asked.
-fn good_expiry(expiry: u32) -> bool {
-    let part = |below, width| field(expiry.into(), below, width);
-    expiry == 0
-        || expiry < 1 << 21
-            && (1..=12).contains(&part(16, 4))
-            && (1..=31).contains(&part(11, 5))
-            && part(6, 5) <= 23
-            && part(0, 6) <= 59
 }
 
 /// Reads a notice into three lent rows: its numbers, the entries of its areas, and its text.
@@ -116,7 +124,7 @@ pub fn read(message: &[u8], language: u8, row: &mut [i64], areas: &mut [u32], te
     row[7..].copy_from_slice(&[found.areas.into(), found.entries as i64, size as i64]);
     let (mut at, mut used) = (HEAD_BITS, 0);
     walk(found.areas, |part| {
-        let value = part.read(message, &mut at)?;
+        let value = part.take(message, &mut at);
         areas[used] = value;
         used += 1;
         Ok(value)
@@ -127,18 +135,19 @@ pub fn read(message: &[u8], language: u8, row: &mut [i64], areas: &mut [u32], te
 
 /// Writes the notice of a head, of so many areas whose entries stand in a row, and of a text.
 pub fn write(buf: &mut [u8], language: u8, head: &Head, count: u8, areas: &[u32], text: &[u8]) -> Result<(), Refusal> {
-    need(language <= 1 && good_head(head), Refusal::RANGE)?;
-    need(usize::from(count) <= MOST_AREAS, Refusal::RANGE)?;
+    need(language <= 1, Refusal::RANGE)?;
+    head.judge(())?;
+    need(usize::from(count) <= MOST_AREAS, Refusal::RANGE.at(STARTS[COUNT]))?;
     let (mut entries, mut bits) = (0, HEAD_BITS);
     walk(count.into(), |part| {
         // What is missing counts as 0 until room is tested.
         let value = areas.get(entries).copied().unwrap_or(0);
-        need(part.good(value), Refusal::RANGE)?;
+        part.judge(value, bits as u32)?;
         entries += 1;
         bits += part.width() as usize;
         Ok(value)
     })?;
-    need(text::good(text.iter().copied(), language), Refusal::RANGE)?;
+    need(text::good(text.iter().copied(), language), Refusal::RANGE.at(bits as u32))?;
     let size = bits.div_ceil(8) + text.len();
     need(size <= GREATEST, Refusal::SIZE)?;
     let notice = buf.get_mut(..size).ok_or(Refusal::ROOM)?;
@@ -163,11 +172,11 @@ pub fn correct(message: &mut [u8], language: u8, number: usize, value: u64) -> R
     let found = find(message, language)?;
     let (at, width) = if number < FIRST_ENTRY {
         let width = change(found.head, number, value)?;
-        (WIDTHS[..number].iter().sum::<u32>() as usize, width)
+        (STARTS[number] as usize, width)
     } else {
         let (at, part) = entry(message, found.areas, number - FIRST_ENTRY).ok_or(Refusal::FIELD)?;
         need(part.is_free(), Refusal::FIELD)?;
-        need(part.good(narrow(value, part.width())? as u32), Refusal::RANGE)?;
+        part.judge(narrow(value, part.width(), at as u32)? as u32, at as u32)?;
         (at, part.width())
     };
     bits::put(message, at, width, value);
@@ -178,7 +187,7 @@ pub fn correct(message: &mut [u8], language: u8, number: usize, value: u64) -> R
 fn change(mut head: Head, number: usize, value: u64) -> Result<u32, Refusal> {
     need(number != COUNT, Refusal::FIELD)?;
     let width = WIDTHS[number];
-    let value = narrow(value, width)?;
+    let value = narrow(value, width, STARTS[number])?;
     match number {
         0 => head.source = value as u8,
         1 => head.station = value as u8,
@@ -188,7 +197,7 @@ fn change(mut head: Head, number: usize, value: u64) -> Result<u32, Refusal> {
         5 => head.subtype = value as u8,
         _ => head.expiry = value as u32,
     }
-    need(good_head(&head), Refusal::RANGE)?;
+    head.judge(())?;
     Ok(width)
 }
 
@@ -200,7 +209,7 @@ fn entry(message: &[u8], areas: u32, place: usize) -> Option<(usize, Part)> {
             sought = Some((at, part));
         }
         index += 1;
-        part.read(message, &mut at)
+        Ok(part.take(message, &mut at))
     })
     .ok()?;
     sought
@@ -212,7 +221,7 @@ pub fn outline(message: &[u8], language: u8, row: &mut [i32]) -> Result<usize, R
     let row = row.get_mut(..found.angles).ok_or(Refusal::ROOM)?;
     let (mut at, mut used) = (HEAD_BITS, 0);
     walk(found.areas, |part| {
-        let value = part.read(message, &mut at)?;
+        let value = part.take(message, &mut at);
         if let Some(hundredths) = part.hundredths(value) {
             row[used] = hundredths;
             used += 1;

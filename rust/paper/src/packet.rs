@@ -6,6 +6,12 @@ use record::{Packet, Refusal};
 const TYPE: u8 = 0xE1;
 const VERSION: u8 = 1;
 
+/// The bits that the fields start at.
+const LANGUAGE: u32 = 11;
+const NUMBER: u32 = 12;
+const TOTAL: u32 = 20;
+const OWN: u32 = 26;
+
 /// Reads a packet: its numbers, and the content as a part of it.
 #[inline]
 pub fn read(packet: &[u8]) -> Result<(Packet, &[u8]), Refusal> {
@@ -14,7 +20,7 @@ pub fn read(packet: &[u8]) -> Result<(Packet, &[u8]), Refusal> {
     let (_, content) = packet.split_at(Packet::HEAD);
     need(content.len() <= Packet::CONTENT, Refusal::SIZE)?;
     let record = Packet { language: a >> 4 & 1, number: a << 4 | b >> 4, total: (b & 15) << 2 | c >> 6, own: c & 0x3F };
-    need(good(&record), Refusal::RANGE)?;
+    judge(&record)?;
     Ok((record, content))
 }
 
@@ -35,8 +41,10 @@ pub fn read_row(packet: &[u8], row: &mut [i64]) -> Result<(), Refusal> {
 
 /// The fields stand in their ranges.
 #[inline]
-fn good(record: &Packet) -> bool {
-    record.language <= 1 && (1..=63).contains(&record.total) && record.own < record.total
+fn judge(record: &Packet) -> Result<(), Refusal> {
+    need(record.language <= 1, Refusal::RANGE.at(LANGUAGE))?;
+    need((1..=63).contains(&record.total), Refusal::RANGE.at(TOTAL))?;
+    need(record.own < record.total, Refusal::RANGE.at(OWN))
 }
 
 /// The bytes before the content of a good packet.
@@ -52,7 +60,7 @@ fn head(record: &Packet) -> [u8; Packet::HEAD] {
 
 #[inline]
 pub fn write(buf: &mut [u8], record: &Packet, content: &[u8]) -> Result<(), Refusal> {
-    need(good(record), Refusal::RANGE)?;
+    judge(record)?;
     need((1..=Packet::CONTENT).contains(&content.len()), Refusal::SIZE)?;
     let packet = buf.get_mut(..Packet::HEAD + content.len()).ok_or(Refusal::ROOM)?;
     packet[..Packet::HEAD].copy_from_slice(&head(record));
@@ -63,13 +71,13 @@ pub fn write(buf: &mut [u8], record: &Packet, content: &[u8]) -> Result<(), Refu
 pub fn correct(packet: &mut [u8], field: usize, value: u64) -> Result<(), Refusal> {
     let (mut record, _) = read(packet)?;
     match field {
-        Packet::LANGUAGE => record.language = narrow(value, 1)? as u8,
-        Packet::NUMBER => record.number = narrow(value, 8)? as u8,
-        Packet::TOTAL => record.total = narrow(value, 6)? as u8,
-        Packet::OWN => record.own = narrow(value, 6)? as u8,
+        Packet::LANGUAGE => record.language = narrow(value, 1, LANGUAGE)? as u8,
+        Packet::NUMBER => record.number = narrow(value, 8, NUMBER)? as u8,
+        Packet::TOTAL => record.total = narrow(value, 6, TOTAL)? as u8,
+        Packet::OWN => record.own = narrow(value, 6, OWN)? as u8,
         _ => return Err(Refusal::FIELD),
     }
-    need(good(&record), Refusal::RANGE)?;
+    judge(&record)?;
     packet[..Packet::HEAD].copy_from_slice(&head(&record));
     Ok(())
 }

@@ -115,26 +115,40 @@ fn put_u24(frame: &mut [u8], at: usize, value: u32) {
     frame[at..at + 3].copy_from_slice(&value.to_be_bytes()[1..]);
 }
 
+/// The bit that the own address starts at, in every kind.
+const ADDRESS: u32 = 56;
+
+/// An address that starts at a bit.
 #[inline]
-fn need_address(address: u32) -> Result<(), Refusal> {
-    need(address <= LARGEST_ADDRESS, Refusal::RANGE)
+fn need_address(address: u32, at: u32) -> Result<(), Refusal> {
+    need(address <= LARGEST_ADDRESS, Refusal::RANGE.at(at))
 }
 
-/// An hour and a minute.
+/// An hour that starts at a bit, and the minute behind it.
 #[inline]
-fn need_time(hour: u8, minute: u8) -> Result<(), Refusal> {
-    need(hour <= 23 && minute <= 59, Refusal::RANGE)
+fn need_time(hour: u8, minute: u8, at: u32) -> Result<(), Refusal> {
+    need(hour <= 23, Refusal::RANGE.at(at))?;
+    need(minute <= 59, Refusal::RANGE.at(at + 8))
 }
 
-/// The content has as many bytes as the bit length takes.
+/// The content has as many bytes as the bit length takes, which starts at a bit.
 #[inline]
-fn need_bytes(content: &[u8], bits: u16) -> Result<(), Refusal> {
-    need(content.len() == usize::from(bits.div_ceil(8)), Refusal::SIZE)
+fn need_bytes(content: &[u8], bits: u16, at: u32) -> Result<(), Refusal> {
+    need(content.len() == usize::from(bits.div_ceil(8)), Refusal::SIZE.at(at))
 }
 
-/// The low bits that the last byte of the content doesn't use are zero.
+/// The low bits that the last byte of the content doesn't use are zero. The content starts at a bit.
 #[inline]
-fn need_fill(content: &[u8], bits: u16) -> Result<(), Refusal> {
+fn need_fill(content: &[u8], bits: u16, at: u32) -> Result<(), Refusal> {
     let used = bits % 8;
-    need(used == 0 || content.last().is_none_or(|last| last << used == 0), Refusal::FILL)
+    if used == 0 || content.last().is_none_or(|last| last << used == 0) {
+        Ok(())
+    } else {
+        Err(fill(at + u32::from(bits)))
+    }
+}
+
+#[cold]
+fn fill(at: u32) -> Refusal {
+    Refusal::FILL.at(at)
 }

@@ -49,7 +49,7 @@ fn judge(message: &[u8]) -> Result<Found, Refusal> {
     need(head >> (u64::BITS - KIND_BITS) == KIND, Refusal::KIND)?;
     need(message.len() <= GREATEST, Refusal::SIZE)?;
     let records = field(head, u64::BITS - KIND_BITS - COUNT_BITS, COUNT_BITS) as u16;
-    need(records > 0, Refusal::RANGE)?;
+    need(records > 0, Refusal::RANGE.at(KIND_BITS))?;
 
     let mut found = Found { records, numbers: 0, entries: 0 };
     let mut at = HEAD_BITS;
@@ -68,8 +68,8 @@ fn judge(message: &[u8]) -> Result<Found, Refusal> {
 fn close(message: &[u8], at: usize) -> Result<(), Refusal> {
     let end = at.div_ceil(8);
     let fill = 8 * end - at;
-    need(fill == 0 || message[end - 1] << (8 - fill) == 0, Refusal::FILL)?;
-    need(end == message.len(), Refusal::SIZE)
+    need(fill == 0 || message[end - 1] << (8 - fill) == 0, Refusal::FILL.at(at as u32))?;
+    need(end == message.len(), Refusal::SIZE.at(8 * end as u32))
 }
 
 /// The openings of a good telegram's records.

@@ -23,7 +23,7 @@ pub use desk::{Accepted, Place};
 pub use distress::Report;
 pub use notice::Head;
 pub use packet::{Packet, CHINESE, ENGLISH};
-pub use refusal::{code, Refusal};
+pub use refusal::{answer, Refusal};
 pub use serial::{Frame, Gljc, Txhz, Txsq, Txxx};
 
 /// What a row that is too short for its record panics with.

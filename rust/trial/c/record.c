@@ -5,7 +5,7 @@
  *
  * A call in the file, least byte first: the size of its name, its name; 8 bytes for each number, in order; for each part
  * that it is lent the width of an entry, how many entries (4 bytes) and the entries; then for each part the stretch that
- * changed: where it begins and how many bytes it has (4 each), and those; last the answer. One call is made at a time.
+ * changed: where it begins and how many bytes it has (4 each), and those; last the answer (4). One call is made at a time.
  */
 #define _GNU_SOURCE
 #include "part.h"
@@ -56,7 +56,7 @@ static void begin(const char *name, const uint64_t *numbers, int many, const str
     }
 }
 
-static uint8_t end(const struct part *parts, int lent, uint8_t answer) {
+static uint32_t end(const struct part *parts, int lent, uint32_t answer) {
     for (int k = 0; k < lent; k++) {
         const unsigned char *now = parts[k].at;
         size_t first = 0, past = parts[k].count * parts[k].width;
@@ -70,7 +70,7 @@ static uint8_t end(const struct part *parts, int lent, uint8_t answer) {
         put(past - first, 4);
         fwrite(now + first, 1, past - first, file);
     }
-    put(answer, 1);
+    put(answer, 4);
     pthread_mutex_unlock(&one);
     return answer;
 }

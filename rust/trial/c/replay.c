@@ -118,15 +118,16 @@ static int again(int wrong) {
         size_t first = get(4), bytes = get(4);
         take(lent[k].due + lent[k].start + first, bytes);
     }
-    int due = (int)get(1);
+    uint32_t due = (uint32_t)get(4);
     if (wrong && last >= 0) {
         lent[last].due[lent[last].size - GUARD - 1] ^= 1;
     } else {
-        due ^= wrong;
+        due ^= (uint32_t)wrong;
     }
-    int code = answer(parts, numbers);
-    if (code != due) {
-        printf("call %ld, %s: answers %d, due %d\n", calls, name, code, due);
+    uint32_t said = answer(parts, numbers);
+    if (said != due) {
+        printf("call %ld, %s: answers %d at bit %u, due %d at bit %u\n", calls, name, bellnewt_code(said),
+               (unsigned)bellnewt_bit(said), bellnewt_code(due), (unsigned)bellnewt_bit(due));
         found = 1;
     }
     for (int k = 0; k < shape->parts; k++) {

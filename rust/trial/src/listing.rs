@@ -1,8 +1,8 @@
 //! The listing program, compiled from proved code, against the independent listing.
 
-use crate::harness::{self, Call, Counts, Options, Tally};
+use crate::harness::{self, Call, Counts, Floor, Options, Tally};
 use crate::inputs::{daylog, Random};
-use crate::sample;
+use crate::{places, sample};
 use paper::daylog::{listing, KINDS};
 use std::io::{self, Write};
 use std::process::{ChildStdin, Command, Stdio};
@@ -15,12 +15,12 @@ const OTHER: &str = "BELLNEWT_LISTING";
 /// The words of a listing's lines as a family's calls, with the numbers that a line of each can have.
 const NAME: &str = "listing";
 const CALLS: [Call; 6] = [
-    Call { name: "serial", numbers: &[0, 1, 2, 3, 4, 5] },
-    Call { name: "packet", numbers: &[0, 1, 2, 4] },
-    Call { name: "distress", numbers: &[0, 1, 2, 4, 5] },
-    Call { name: "ais", numbers: &[0, 1, 2, 4, 5] },
-    Call { name: "unknown", numbers: &[2] },
-    Call { name: "broken", numbers: &[1] },
+    Call { name: "serial", numbers: &[0, 1, 2, 3, 4, 5], places: places::serial::LISTED },
+    Call { name: "packet", numbers: &[0, 1, 2, 4], places: places::packet::READ },
+    Call { name: "distress", numbers: &[0, 1, 2, 4, 5], places: places::distress::READ },
+    Call { name: "ais", numbers: &[0, 1, 2, 4, 5], places: places::ais::LISTED },
+    Call { name: "unknown", numbers: &[2], places: places::NONE },
+    Call { name: "broken", numbers: &[1], places: places::NONE },
 ];
 
 /// A log, and what is tried by it.
@@ -33,7 +33,9 @@ pub fn run(options: &Options, tally: &mut Tally) {
         compare(&format!("{name}, seed {}, log {index}", options.seed), log, counts);
     };
     // A log has one broken record at most, and a program is started for each.
-    harness::run_pieces(NAME, &CALLS, logs.len() as u64, compare, options.floor() / 10, tally);
+    let floor = options.floor();
+    let floor = Floor { times: floor.times / 10, ..floor };
+    harness::run_pieces(NAME, &CALLS, logs.len() as u64, compare, floor, tally);
     samples(tally);
 }
 
@@ -63,7 +65,9 @@ fn logs(options: &Options) -> Vec<Log> {
 /// Lists a log by both programs and counts its lines.
 fn compare(name: &str, log: &[u8], counts: &mut Counts) {
     let due = listing(log);
-    due.lines().skip(1).map(met).for_each(|(call, code)| counts.meet(call, code));
+    for (call, answer) in due.lines().skip(1).map(met) {
+        counts.meet(call, answer, |number, bit| is_fill(call, number, bit).then_some("fill"));
+    }
     let fault = match proved_listing(log) {
         Ok(found) if found == due.as_bytes() => return,
         Ok(found) => difference(&found, &due),
@@ -73,12 +77,18 @@ fn compare(name: &str, log: &[u8], counts: &mut Counts) {
     counts.differ(call, || format!("{name}, {} bytes: {fault}", log.len()));
 }
 
-/// Which of `CALLS` a line is of, and its code.
-fn met(line: &str) -> (usize, u8) {
-    let mut words = line.split(' ').skip(1);
-    let (word, code) = (words.next().unwrap_or(""), words.next().unwrap_or(""));
+/// Which of `CALLS` a line is of, and its code and bit as one answer.
+fn met(line: &str) -> (usize, u32) {
+    let words: Vec<&str> = line.split(' ').collect();
+    let [_, word, code, _, bit] = words[..] else { panic!("a line of five columns") };
     let call = CALLS.iter().position(|call| call.name == word).expect("a word of the listing");
-    (call, code.parse().expect("a code"))
+    let number = |word: &str| word.parse::<u32>().expect("a number");
+    (call, number(bit) << 8 | number(code))
+}
+
+/// A line does not say which kind of frame it is of, and so not whose fill it is that starts at a bit.
+fn is_fill(call: usize, number: u8, bit: u32) -> bool {
+    CALLS[call].name == "serial" && number == 5 && bit > 0
 }
 
 /// The first line on which the programs differ.

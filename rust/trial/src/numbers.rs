@@ -11,6 +11,11 @@ pub mod tide;
 
 use crate::harness::Tally;
 
+/// A refusal of a field that starts at a bit, as C has it.
+const fn at(number: u32, bit: u32) -> u32 {
+    bit << 8 | number
+}
+
 pub fn run(tally: &mut Tally) {
     serial::run(tally);
     distress::run(tally);

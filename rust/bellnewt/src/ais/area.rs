@@ -5,7 +5,7 @@ use crate::call::{Calls, Correct, Read};
 use record::{Area, Shape};
 
 extern "C" {
-    fn bellnewt_area_read(s: *const u8, len: usize, row: *mut i64, row_len: usize) -> u8;
+    fn bellnewt_area_read(s: *const u8, len: usize, row: *mut i64, row_len: usize) -> u32;
     fn bellnewt_circle_write(
         buf: *mut u8,
         len: usize,
@@ -26,7 +26,7 @@ extern "C" {
         second_day: u8,
         second_hour: u8,
         advice: u8,
-    ) -> u8;
+    ) -> u32;
     fn bellnewt_rectangle_write(
         buf: *mut u8,
         len: usize,
@@ -48,8 +48,8 @@ extern "C" {
         second_day: u8,
         second_hour: u8,
         advice: u8,
-    ) -> u8;
-    fn bellnewt_area_correct(s: *mut u8, len: usize, field: usize, value: u64) -> u8;
+    ) -> u32;
+    fn bellnewt_area_correct(s: *mut u8, len: usize, field: usize, value: u64) -> u32;
 }
 
 // SAFETY: both calls are the library's.
@@ -90,7 +90,7 @@ macro_rules! put {
 
 impl Kind for Area {
     #[inline]
-    fn put(&self, buf: &mut [u8]) -> u8 {
+    fn put(&self, buf: &mut [u8]) -> u32 {
         match self.shape {
             Shape::Circle { radius } => put!(bellnewt_circle_write, self, buf, radius),
             Shape::Rectangle { longitude, latitude } => {

@@ -5,7 +5,7 @@ use crate::call::{Calls, Correct, Read};
 use record::{Body, Warning};
 
 extern "C" {
-    fn bellnewt_warning_read(s: *const u8, len: usize, row: *mut i64, row_len: usize) -> u8;
+    fn bellnewt_warning_read(s: *const u8, len: usize, row: *mut i64, row_len: usize) -> u32;
     fn bellnewt_cyclone_write(
         buf: *mut u8,
         len: usize,
@@ -25,7 +25,7 @@ extern "C" {
         hour: u8,
         minute: u8,
         hours: u8,
-    ) -> u8;
+    ) -> u32;
     fn bellnewt_gale_write(
         buf: *mut u8,
         len: usize,
@@ -42,7 +42,7 @@ extern "C" {
         hour: u8,
         minute: u8,
         hours: u8,
-    ) -> u8;
+    ) -> u32;
     fn bellnewt_waves_write(
         buf: *mut u8,
         len: usize,
@@ -58,7 +58,7 @@ extern "C" {
         hour: u8,
         minute: u8,
         hours: u8,
-    ) -> u8;
+    ) -> u32;
     fn bellnewt_fog_write(
         buf: *mut u8,
         len: usize,
@@ -73,7 +73,7 @@ extern "C" {
         hour: u8,
         minute: u8,
         hours: u8,
-    ) -> u8;
+    ) -> u32;
     fn bellnewt_surge_write(
         buf: *mut u8,
         len: usize,
@@ -90,8 +90,8 @@ extern "C" {
         hour: u8,
         minute: u8,
         hours: u8,
-    ) -> u8;
-    fn bellnewt_warning_correct(s: *mut u8, len: usize, field: usize, value: u64) -> u8;
+    ) -> u32;
+    fn bellnewt_warning_correct(s: *mut u8, len: usize, field: usize, value: u64) -> u32;
 }
 
 // SAFETY: both calls are the library's.
@@ -125,7 +125,7 @@ macro_rules! put {
 
 impl Kind for Warning {
     #[inline]
-    fn put(&self, buf: &mut [u8]) -> u8 {
+    fn put(&self, buf: &mut [u8]) -> u32 {
         match self.body {
             Body::Cyclone { kind, gale_radius, storm_radius, speed, direction, force, pressure } => {
                 put!(

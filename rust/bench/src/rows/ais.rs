@@ -32,18 +32,18 @@ fn correction<M: Kind>(random: &mut Random) -> Correction<Vec<u8>> {
     Correction::accepted(message, || inputs::correction::<M>(random, variant), correct)
 }
 
-fn read<M: Kind, C: Calls<M>>(message: &mut impl AsRef<[u8]>, scratch: &mut Scratch) -> u8 {
+fn read<M: Kind, C: Calls<M>>(message: &mut impl AsRef<[u8]>, scratch: &mut Scratch) -> u32 {
     C::read(message.as_ref(), &mut scratch.row)
 }
 
-fn write<M: Kind, C: Calls<M>>(record: &mut M, scratch: &mut Scratch) -> u8 {
+fn write<M: Kind, C: Calls<M>>(record: &mut M, scratch: &mut Scratch) -> u32 {
     C::write(&mut scratch.bytes, record)
 }
 
-fn correct<M: Kind, C: Calls<M>>(correction: &mut Correction<Vec<u8>>, _: &mut Scratch) -> u8 {
+fn correct<M: Kind, C: Calls<M>>(correction: &mut Correction<Vec<u8>>, _: &mut Scratch) -> u32 {
     C::correct(&mut correction.message, correction.field, correction.value)
 }
 
-fn slots<C: SlotCall>(&mut (message, bytes): &mut (u8, usize), scratch: &mut Scratch) -> u8 {
+fn slots<C: SlotCall>(&mut (message, bytes): &mut (u8, usize), scratch: &mut Scratch) -> u32 {
     C::slots(message, bytes, &mut scratch.bytes[0])
 }

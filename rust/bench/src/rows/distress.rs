@@ -47,22 +47,22 @@ fn sentence(random: &mut Random) -> Sentence {
     Sentence { bytes, size }
 }
 
-fn read<C: Calls>(message: &mut Message, scratch: &mut Scratch) -> u8 {
+fn read<C: Calls>(message: &mut Message, scratch: &mut Scratch) -> u32 {
     C::read(message, &mut scratch.row)
 }
 
-fn write<C: Calls>(report: &mut Report, scratch: &mut Scratch) -> u8 {
+fn write<C: Calls>(report: &mut Report, scratch: &mut Scratch) -> u32 {
     C::write(&mut scratch.bytes, report)
 }
 
-fn correct<C: Calls>(correction: &mut Correction<Message>, _: &mut Scratch) -> u8 {
+fn correct<C: Calls>(correction: &mut Correction<Message>, _: &mut Scratch) -> u32 {
     C::correct(&mut correction.message, correction.field, correction.value)
 }
 
-fn read_sentence<C: Calls>(sentence: &mut Sentence, scratch: &mut Scratch) -> u8 {
+fn read_sentence<C: Calls>(sentence: &mut Sentence, scratch: &mut Scratch) -> u32 {
     C::read_sentence(&sentence.bytes[..sentence.size], &mut scratch.row)
 }
 
-fn write_sentence<C: Calls>((address, report): &mut (u32, Report), scratch: &mut Scratch) -> u8 {
+fn write_sentence<C: Calls>((address, report): &mut (u32, Report), scratch: &mut Scratch) -> u32 {
     C::write_sentence(&mut scratch.bytes, &mut scratch.size, *address, report)
 }

@@ -74,19 +74,19 @@ fn correction(random: &mut Random) -> Correction<Message> {
     Correction::accepted(message, || inputs::correction(random, &draft), correct)
 }
 
-fn read<C: Calls>(message: &mut Message, scratch: &mut Scratch) -> u8 {
+fn read<C: Calls>(message: &mut Message, scratch: &mut Scratch) -> u32 {
     C::read(&message.bytes, message.language, &mut scratch.row, &mut scratch.areas, &mut scratch.text)
 }
 
-fn write<C: Calls>(record: &mut Record, scratch: &mut Scratch) -> u8 {
+fn write<C: Calls>(record: &mut Record, scratch: &mut Scratch) -> u32 {
     C::write(&mut scratch.bytes, record.language, &record.head, record.count, &record.areas, &record.text)
 }
 
-fn correct<C: Calls>(correction: &mut Correction<Message>, _: &mut Scratch) -> u8 {
+fn correct<C: Calls>(correction: &mut Correction<Message>, _: &mut Scratch) -> u32 {
     let message = &mut correction.message;
     C::correct(&mut message.bytes, message.language, correction.field, correction.value)
 }
 
-fn outline<C: Calls>(message: &mut Message, scratch: &mut Scratch) -> u8 {
+fn outline<C: Calls>(message: &mut Message, scratch: &mut Scratch) -> u32 {
     C::outline(&message.bytes, message.language, &mut scratch.outline, &mut scratch.size)
 }

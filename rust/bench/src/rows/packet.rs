@@ -25,18 +25,18 @@ fn correction(random: &mut Random) -> Correction<Vec<u8>> {
     Correction::accepted(inputs::good_packet(random), || inputs::correction(random), correct)
 }
 
-fn read<C: Calls>(packet: &mut impl AsRef<[u8]>, scratch: &mut Scratch) -> u8 {
+fn read<C: Calls>(packet: &mut impl AsRef<[u8]>, scratch: &mut Scratch) -> u32 {
     C::read(packet.as_ref(), &mut scratch.row)
 }
 
-fn write<C: Calls>((record, content): &mut (Packet, Vec<u8>), scratch: &mut Scratch) -> u8 {
+fn write<C: Calls>((record, content): &mut (Packet, Vec<u8>), scratch: &mut Scratch) -> u32 {
     C::write(&mut scratch.bytes, record, content)
 }
 
-fn correct<C: Calls>(correction: &mut Correction<Vec<u8>>, _: &mut Scratch) -> u8 {
+fn correct<C: Calls>(correction: &mut Correction<Vec<u8>>, _: &mut Scratch) -> u32 {
     C::correct(&mut correction.message, correction.field, correction.value)
 }
 
-fn split<C: Calls>(split: &mut Split, scratch: &mut Scratch) -> u8 {
+fn split<C: Calls>(split: &mut Split, scratch: &mut Scratch) -> u32 {
     C::split(&mut scratch.bytes, &split.content, split.language, split.number, split.packet)
 }

@@ -30,14 +30,14 @@ fn correction<F: Kind>(random: &mut Random) -> Correction<Vec<u8>> {
     Correction::accepted(inputs::good_frame::<F>(random), || inputs::correction::<F>(random), correct)
 }
 
-fn read<F: Kind, C: Calls<F>>(frame: &mut impl AsRef<[u8]>, scratch: &mut Scratch) -> u8 {
+fn read<F: Kind, C: Calls<F>>(frame: &mut impl AsRef<[u8]>, scratch: &mut Scratch) -> u32 {
     C::read(frame.as_ref(), &mut scratch.row)
 }
 
-fn write<F: Kind, C: Calls<F>>((record, run): &mut (F, Vec<u8>), scratch: &mut Scratch) -> u8 {
+fn write<F: Kind, C: Calls<F>>((record, run): &mut (F, Vec<u8>), scratch: &mut Scratch) -> u32 {
     C::write(&mut scratch.bytes, record, run)
 }
 
-fn correct<F: Kind, C: Calls<F>>(correction: &mut Correction<Vec<u8>>, _: &mut Scratch) -> u8 {
+fn correct<F: Kind, C: Calls<F>>(correction: &mut Correction<Vec<u8>>, _: &mut Scratch) -> u32 {
     C::correct(&mut correction.message, correction.field, correction.value)
 }

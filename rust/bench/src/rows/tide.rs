@@ -59,18 +59,18 @@ fn correction<const ENTRIES: usize>(random: &mut Random) -> Correction<Message> 
     Correction::accepted(Message(draft.message()), || inputs::correction(random, &draft), correct)
 }
 
-fn read<C: Calls>(message: &mut Message, scratch: &mut Scratch) -> u8 {
+fn read<C: Calls>(message: &mut Message, scratch: &mut Scratch) -> u32 {
     C::read(&message.0, &mut scratch.count, &mut scratch.size, &mut scratch.areas)
 }
 
-fn write<C: Calls>(record: &mut Record, scratch: &mut Scratch) -> u8 {
+fn write<C: Calls>(record: &mut Record, scratch: &mut Scratch) -> u32 {
     C::write(&mut scratch.bytes, record.count, &record.row)
 }
 
-fn correct<C: Calls>(correction: &mut Correction<Message>, _: &mut Scratch) -> u8 {
+fn correct<C: Calls>(correction: &mut Correction<Message>, _: &mut Scratch) -> u32 {
     C::correct(&mut correction.message.0, correction.field, correction.value)
 }
 
-fn heights<C: Calls>(message: &mut Message, scratch: &mut Scratch) -> u8 {
+fn heights<C: Calls>(message: &mut Message, scratch: &mut Scratch) -> u32 {
     C::heights(&message.0, &mut scratch.outline, &mut scratch.size)
 }

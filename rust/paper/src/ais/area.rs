@@ -2,7 +2,7 @@
 //! are not the 176 that both print).
 
 use super::time::TimeField;
-use super::{bytes_at, field, narrow, signed, within, Kind, LARGEST_MMSI, SMALLEST};
+use super::{bytes_at, field, narrow, signed, within, Kind, Tested, LARGEST_MMSI, REPEAT, SMALLEST, SOURCE};
 use record::{Ais, Area, Refusal, Shape, ShortTime, Time};
 
 pub const MESSAGE: u8 = 6;
@@ -11,6 +11,55 @@ const APPLICATION: [u8; 2] = [0x67, 0x0B];
 
 const LONGITUDE_WIDTH: u32 = 28;
 const LATITUDE_WIDTH: u32 = 27;
+
+/// The bits that the fields start at. Behind the position stand a circle's radius and fill, or the other corner.
+const SEQUENCE: u32 = 38;
+const DESTINATION: u32 = 40;
+const RESENT: u32 = 70;
+const HEAD_FILL: u32 = 71;
+const KIND: u32 = 88;
+const LONGITUDE: u32 = 94;
+const LATITUDE: u32 = 122;
+const RADIUS: u32 = 149;
+const CIRCLE_FILL: u32 = 156;
+const OTHER_LONGITUDE: u32 = 149;
+const OTHER_LATITUDE: u32 = 177;
+const TIME: u32 = 204;
+const SECOND_TIME: u32 = 224;
+const ADVICE: u32 = 238;
+const FILL: u32 = 242;
+
+impl Tested for Area {
+    type Fills = [u64; 3];
+
+    /// The fields stand in their ranges, and the fills are zero.
+    #[inline]
+    fn tests(&self, [head_fill, place_fill, fill]: [u64; 3], test: &mut impl FnMut(bool, Refusal)) {
+        test(self.repeat <= 3, Refusal::RANGE.at(REPEAT));
+        test(self.source <= LARGEST_MMSI, Refusal::RANGE.at(SOURCE));
+        test(self.sequence <= 3, Refusal::RANGE.at(SEQUENCE));
+        test(self.destination <= LARGEST_MMSI, Refusal::RANGE.at(DESTINATION));
+        test(self.resent <= 1, Refusal::RANGE.at(RESENT));
+        test(head_fill == 0, Refusal::FILL.at(HEAD_FILL));
+        test((1..=14).contains(&self.kind), Refusal::RANGE.at(KIND));
+        test(good_longitude(self.longitude), Refusal::RANGE.at(LONGITUDE));
+        test(good_latitude(self.latitude), Refusal::RANGE.at(LATITUDE));
+        match self.shape {
+            Shape::Circle { radius } => {
+                test(radius < 1 << 7, Refusal::RANGE.at(RADIUS));
+                test(place_fill == 0, Refusal::FILL.at(CIRCLE_FILL));
+            }
+            Shape::Rectangle { longitude, latitude } => {
+                test(good_longitude(longitude), Refusal::RANGE.at(OTHER_LONGITUDE));
+                test(good_latitude(latitude), Refusal::RANGE.at(OTHER_LATITUDE));
+            }
+        }
+        self.time.tests(TIME, test);
+        self.second_time.tests(SECOND_TIME, test);
+        test((1..=6).contains(&self.advice), Refusal::RANGE.at(ADVICE));
+        test(fill == 0, Refusal::FILL.at(FILL));
+    }
+}
 
 impl Kind for Area {
     #[inline]
@@ -49,19 +98,6 @@ impl Kind for Area {
     }
 
     #[inline]
-    fn good(&self) -> [bool; 3] {
-        [
-            (self.repeat <= 3)
-                & (self.source <= LARGEST_MMSI)
-                & (self.sequence <= 3)
-                & (self.destination <= LARGEST_MMSI)
-                & (self.resent <= 1),
-            (1..=14).contains(&self.kind) & good_position(self.longitude, self.latitude) & good_shape(&self.shape),
-            self.time.good() & self.second_time.good() & (1..=6).contains(&self.advice),
-        ]
-    }
-
-    #[inline]
     fn pack(&self, message: &mut [u8]) {
         let head = u64::from(self.source) << 34
             | u64::from(self.sequence) << 32
@@ -85,23 +121,27 @@ impl Kind for Area {
     }
 
     fn change(&mut self, field: usize, value: u64) -> Result<(), Refusal> {
-        let new_longitude = || Ok(signed(narrow(value, LONGITUDE_WIDTH)?, LONGITUDE_WIDTH));
-        let new_latitude = || Ok(signed(narrow(value, LATITUDE_WIDTH)?, LATITUDE_WIDTH));
+        let to_longitude = |at| Ok(signed(narrow(value, LONGITUDE_WIDTH, at)?, LONGITUDE_WIDTH));
+        let to_latitude = |at| Ok(signed(narrow(value, LATITUDE_WIDTH, at)?, LATITUDE_WIDTH));
         match (field, &mut self.shape) {
-            (Area::REPEAT, _) => self.repeat = narrow(value, 2)? as u8,
-            (Area::SOURCE, _) => self.source = narrow(value, 30)? as u32,
-            (Area::SEQUENCE, _) => self.sequence = narrow(value, 2)? as u8,
-            (Area::DESTINATION, _) => self.destination = narrow(value, 30)? as u32,
-            (Area::RESENT, _) => self.resent = narrow(value, 1)? as u8,
-            (Area::KIND, _) => self.kind = narrow(value, 4)? as u8,
-            (Area::LONGITUDE, _) => self.longitude = new_longitude()?,
-            (Area::LATITUDE, _) => self.latitude = new_latitude()?,
-            (Area::TIME, _) => self.time = Time::of_bits(narrow(value, Time::WIDTH)?),
-            (Area::SECOND_TIME, _) => self.second_time = ShortTime::of_bits(narrow(value, ShortTime::WIDTH)?),
-            (Area::ADVICE, _) => self.advice = narrow(value, 4)? as u8,
-            (Area::CIRCLE_RADIUS, Shape::Circle { radius }) => *radius = narrow(value, 7)? as u8,
-            (Area::RECTANGLE_LONGITUDE, Shape::Rectangle { longitude, .. }) => *longitude = new_longitude()?,
-            (Area::RECTANGLE_LATITUDE, Shape::Rectangle { latitude, .. }) => *latitude = new_latitude()?,
+            (Area::REPEAT, _) => self.repeat = narrow(value, 2, REPEAT)? as u8,
+            (Area::SOURCE, _) => self.source = narrow(value, 30, SOURCE)? as u32,
+            (Area::SEQUENCE, _) => self.sequence = narrow(value, 2, SEQUENCE)? as u8,
+            (Area::DESTINATION, _) => self.destination = narrow(value, 30, DESTINATION)? as u32,
+            (Area::RESENT, _) => self.resent = narrow(value, 1, RESENT)? as u8,
+            (Area::KIND, _) => self.kind = narrow(value, 4, KIND)? as u8,
+            (Area::LONGITUDE, _) => self.longitude = to_longitude(LONGITUDE)?,
+            (Area::LATITUDE, _) => self.latitude = to_latitude(LATITUDE)?,
+            (Area::TIME, _) => self.time = Time::of_bits(narrow(value, Time::WIDTH, TIME)?),
+            (Area::SECOND_TIME, _) => {
+                self.second_time = ShortTime::of_bits(narrow(value, ShortTime::WIDTH, SECOND_TIME)?);
+            }
+            (Area::ADVICE, _) => self.advice = narrow(value, 4, ADVICE)? as u8,
+            (Area::CIRCLE_RADIUS, Shape::Circle { radius }) => *radius = narrow(value, 7, RADIUS)? as u8,
+            (Area::RECTANGLE_LONGITUDE, Shape::Rectangle { longitude, .. }) => {
+                *longitude = to_longitude(OTHER_LONGITUDE)?;
+            }
+            (Area::RECTANGLE_LATITUDE, Shape::Rectangle { latitude, .. }) => *latitude = to_latitude(OTHER_LATITUDE)?,
             _ => return Err(Refusal::FIELD),
         }
         Ok(())
@@ -114,14 +154,6 @@ fn shape_bits(shape: &Shape) -> u64 {
     match *shape {
         Shape::Circle { radius } => u64::from(radius) << 48,
         Shape::Rectangle { longitude, latitude } => position(longitude, latitude),
-    }
-}
-
-#[inline]
-fn good_shape(shape: &Shape) -> bool {
-    match *shape {
-        Shape::Circle { radius } => radius < 1 << 7,
-        Shape::Rectangle { longitude, latitude } => good_position(longitude, latitude),
     }
 }
 
@@ -143,6 +175,11 @@ fn position(longitude: i32, latitude: i32) -> u64 {
 }
 
 #[inline]
-fn good_position(longitude: i32, latitude: i32) -> bool {
-    within(longitude, 108_000_000, 108_600_000) & within(latitude, 54_000_000, 54_600_000)
+fn good_longitude(longitude: i32) -> bool {
+    within(longitude, 108_000_000, 108_600_000)
+}
+
+#[inline]
+fn good_latitude(latitude: i32) -> bool {
+    within(latitude, 54_000_000, 54_600_000)
 }

@@ -1,7 +1,7 @@
 //! Times of the year.
 
 use super::field;
-use record::{ShortTime, Time};
+use record::{Refusal, ShortTime, Time};
 
 /// A time that stands in a message as one field.
 pub trait TimeField {
@@ -9,7 +9,8 @@ pub trait TimeField {
 
     fn of_bits(bits: u64) -> Self;
     fn bits(&self) -> u64;
-    fn good(&self) -> bool;
+    /// Tests the parts of a time that starts at a bit.
+    fn tests(&self, at: u32, test: &mut impl FnMut(bool, Refusal));
 }
 
 impl TimeField for Time {
@@ -31,8 +32,11 @@ impl TimeField for Time {
     }
 
     #[inline]
-    fn good(&self) -> bool {
-        (self.month <= 12) & (self.day <= 31) & (self.hour <= 23) & (self.minute <= 59)
+    fn tests(&self, at: u32, test: &mut impl FnMut(bool, Refusal)) {
+        test(self.month <= 12, Refusal::RANGE.at(at));
+        test(self.day <= 31, Refusal::RANGE.at(at + 4));
+        test(self.hour <= 23, Refusal::RANGE.at(at + 9));
+        test(self.minute <= 59, Refusal::RANGE.at(at + 14));
     }
 }
 
@@ -50,7 +54,9 @@ impl TimeField for ShortTime {
     }
 
     #[inline]
-    fn good(&self) -> bool {
-        (self.month <= 12) & (self.day <= 31) & (self.hour <= 23)
+    fn tests(&self, at: u32, test: &mut impl FnMut(bool, Refusal)) {
+        test(self.month <= 12, Refusal::RANGE.at(at));
+        test(self.day <= 31, Refusal::RANGE.at(at + 4));
+        test(self.hour <= 23, Refusal::RANGE.at(at + 9));
     }
 }

@@ -1,7 +1,7 @@
 //! Message 8 with application 412/03 (003, tables 5 and 56 to 62).
 
 use super::time::TimeField;
-use super::{body, bytes_at, field, narrow, Kind, LARGEST_MMSI, SMALLEST};
+use super::{body, bytes_at, field, narrow, Kind, Tested, LARGEST_MMSI, REPEAT, SMALLEST, SOURCE};
 use record::{Ais, Refusal, Time, Warning};
 
 pub const MESSAGE: u8 = 8;
@@ -10,6 +10,32 @@ const APPLICATION: [u8; 2] = [0x67, 0x03];
 
 /// The longitudes from 60° E to 180°, and as many latitudes.
 const FARTHEST: u32 = 7_200_000;
+
+/// The bits that the fields start at; those of the body stand between latitude and time.
+const HEAD_FILL: u32 = 38;
+const LONGITUDE: u32 = 60;
+const LATITUDE: u32 = 83;
+const TIME: u32 = 156;
+const HOURS: u32 = 176;
+const FILL: u32 = 182;
+
+impl Tested for Warning {
+    type Fills = [u64; 3];
+
+    /// The fields stand in their ranges, and the fills are zero.
+    #[inline]
+    fn tests(&self, [head_fill, body_fill, fill]: [u64; 3], test: &mut impl FnMut(bool, Refusal)) {
+        test(self.repeat <= 3, Refusal::RANGE.at(REPEAT));
+        test(self.source <= LARGEST_MMSI, Refusal::RANGE.at(SOURCE));
+        test(head_fill == 0, Refusal::FILL.at(HEAD_FILL));
+        test(self.longitude <= FARTHEST, Refusal::RANGE.at(LONGITUDE));
+        test(self.latitude <= FARTHEST, Refusal::RANGE.at(LATITUDE));
+        body::tests(&self.body, body_fill, test);
+        self.time.tests(TIME, test);
+        test(self.hours <= 48, Refusal::RANGE.at(HOURS));
+        test(fill == 0, Refusal::FILL.at(FILL));
+    }
+}
 
 impl Kind for Warning {
     #[inline]
@@ -37,15 +63,6 @@ impl Kind for Warning {
     }
 
     #[inline]
-    fn good(&self) -> [bool; 3] {
-        [
-            (self.repeat <= 3) & (self.source <= LARGEST_MMSI),
-            (self.longitude <= FARTHEST) & (self.latitude <= FARTHEST) & body::good(&self.body),
-            self.time.good() & (self.hours <= 48),
-        ]
-    }
-
-    #[inline]
     fn pack(&self, message: &mut [u8]) {
         let rest = u128::from(self.body.kind()) << 124
             | u128::from(self.longitude) << 101
@@ -67,12 +84,12 @@ impl Kind for Warning {
 
     fn change(&mut self, field: usize, value: u64) -> Result<(), Refusal> {
         match field {
-            Warning::REPEAT => self.repeat = narrow(value, 2)? as u8,
-            Warning::SOURCE => self.source = narrow(value, 30)? as u32,
-            Warning::LONGITUDE => self.longitude = narrow(value, 23)? as u32,
-            Warning::LATITUDE => self.latitude = narrow(value, 23)? as u32,
-            Warning::TIME => self.time = Time::of_bits(narrow(value, Time::WIDTH)?),
-            Warning::HOURS => self.hours = narrow(value, 6)? as u8,
+            Warning::REPEAT => self.repeat = narrow(value, 2, REPEAT)? as u8,
+            Warning::SOURCE => self.source = narrow(value, 30, SOURCE)? as u32,
+            Warning::LONGITUDE => self.longitude = narrow(value, 23, LONGITUDE)? as u32,
+            Warning::LATITUDE => self.latitude = narrow(value, 23, LATITUDE)? as u32,
+            Warning::TIME => self.time = Time::of_bits(narrow(value, Time::WIDTH, TIME)?),
+            Warning::HOURS => self.hours = narrow(value, 6, HOURS)? as u8,
             _ => body::change(&mut self.body, field, value)?,
         }
         Ok(())

@@ -1,8 +1,11 @@
 //! GLJC (004, 4.2.1).
 
-use super::{narrow, need, need_address, put_u24, u24_at, Kind};
+use super::{narrow, need, need_address, put_u24, u24_at, Kind, ADDRESS};
 use record::{Frame, Gljc, Refusal};
 use std::ops::RangeInclusive;
+
+/// The bit that the minutes start at.
+const MINUTES: u32 = 80;
 
 impl Kind for Gljc {
     const SIZES: RangeInclusive<usize> = 12..=12;
@@ -15,7 +18,7 @@ impl Kind for Gljc {
     #[inline]
     fn judge(&self, run: &[u8]) -> Result<(), Refusal> {
         need(run.is_empty(), Refusal::SIZE)?;
-        need_address(self.address)
+        need_address(self.address, ADDRESS)
     }
 
     #[inline]
@@ -33,8 +36,8 @@ impl Kind for Gljc {
     #[inline]
     fn change(mut self, frame: &mut [u8], field: usize, value: u64) -> Result<(), Refusal> {
         match field {
-            Gljc::ADDRESS => self.address = narrow(value, 24)? as u32,
-            Gljc::MINUTES => self.minutes = narrow(value, 8)? as u8,
+            Gljc::ADDRESS => self.address = narrow(value, 24, ADDRESS)? as u32,
+            Gljc::MINUTES => self.minutes = narrow(value, 8, MINUTES)? as u8,
             _ => return Err(Refusal::FIELD),
         }
         self.replace(frame)

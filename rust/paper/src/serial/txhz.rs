@@ -1,8 +1,19 @@
 //! TXHZ (004, 4.4.4).
 
-use super::{narrow, need, need_address, need_time, put_u24, run, u24_at, Kind};
+use super::{narrow, need, need_address, need_time, put_u24, run, u24_at, Kind, ADDRESS};
 use record::{Frame, Refusal, Txhz};
 use std::ops::RangeInclusive;
+
+/// The bits that the fields start at. Each byte of the receipts is a field.
+const RECEIVER: u32 = 80;
+const COUNT: u32 = 104;
+const RECEIPTS: u32 = 112;
+
+/// The bit that a byte of the receipts starts at.
+#[inline]
+fn bit(byte: usize) -> u32 {
+    RECEIPTS + 8 * byte as u32
+}
 
 /// A receipt's bytes.
 const RECEIPT: usize = 4;
@@ -19,7 +30,7 @@ fn change_receipt(record: &Txhz, frame: &mut [u8], field: usize, value: u64) -> 
     need(at < counted(record), Refusal::FIELD)?;
     let mut receipts = [0; Txhz::RECEIPTS];
     receipts.copy_from_slice(run::<Txhz>(frame));
-    receipts[at] = narrow(value, 8)? as u8;
+    receipts[at] = narrow(value, 8, bit(at))? as u8;
     record.judge(&receipts)?;
     frame[Txhz::RUN + at] = receipts[at];
     Ok(())
@@ -36,12 +47,16 @@ impl Kind for Txhz {
     #[inline]
     fn judge(&self, receipts: &[u8]) -> Result<(), Refusal> {
         need(receipts.len() == Txhz::RECEIPTS, Refusal::SIZE)?;
-        need_address(self.address)?;
-        need_address(self.receiver)?;
-        need(self.count <= 5, Refusal::RANGE)?;
+        need_address(self.address, ADDRESS)?;
+        need_address(self.receiver, RECEIVER)?;
+        need(self.count <= 5, Refusal::RANGE.at(COUNT))?;
         let (counted, fill) = receipts.split_at(counted(self));
-        counted.chunks_exact(2).try_for_each(|time| need_time(time[0], time[1]))?;
-        need(fill.iter().all(|byte| *byte == 0), Refusal::FILL)
+        let mut times = counted.chunks_exact(2).enumerate();
+        times.try_for_each(|(index, time)| need_time(time[0], time[1], bit(2 * index)))?;
+        match fill.iter().position(|byte| *byte != 0) {
+            None => Ok(()),
+            Some(byte) => Err(Refusal::FILL.at(bit(counted.len() + byte))),
+        }
     }
 
     #[inline]
@@ -61,9 +76,9 @@ impl Kind for Txhz {
 
     fn change(mut self, frame: &mut [u8], field: usize, value: u64) -> Result<(), Refusal> {
         match field {
-            Txhz::ADDRESS => self.address = narrow(value, 24)? as u32,
-            Txhz::RECEIVER => self.receiver = narrow(value, 24)? as u32,
-            Txhz::COUNT => self.count = narrow(value, 8)? as u8,
+            Txhz::ADDRESS => self.address = narrow(value, 24, ADDRESS)? as u32,
+            Txhz::RECEIVER => self.receiver = narrow(value, 24, RECEIVER)? as u32,
+            Txhz::COUNT => self.count = narrow(value, 8, COUNT)? as u8,
             _ => return change_receipt(&self, frame, field, value),
         }
         self.replace(frame)

@@ -1,11 +1,20 @@
 //! TXSQ (004, 4.2.3).
 
-use super::{narrow, need, need_address, need_bytes, need_fill, put_u24, u16_at, u24_at, Kind, LONGEST};
+use super::{narrow, need, need_address, need_bytes, need_fill, put_u24, u16_at, u24_at, Kind, ADDRESS, LONGEST};
 use record::{Frame, Refusal, Txsq};
 use std::ops::RangeInclusive;
 
 /// The class's first four bits: 010, key 0.
 const MESSAGE: u8 = 0b0100;
+
+/// The bits that the fields behind these start at.
+const CATEGORY: u32 = 84;
+const MODE: u32 = 86;
+const PASSWORD: u32 = 87;
+const RECEIVER: u32 = 88;
+const BITS: u32 = 112;
+const ANSWER: u32 = 128;
+const CONTENT: u32 = 136;
 
 impl Kind for Txsq {
     const SIZES: RangeInclusive<usize> = 18..=228;
@@ -14,7 +23,7 @@ impl Kind for Txsq {
     #[inline]
     fn unpack(frame: &[u8]) -> Result<Txsq, Refusal> {
         let (address, class) = (u24_at(frame, 7), frame[10]);
-        need_address(address)?;
+        need_address(address, ADDRESS)?;
         need(class >> 4 == MESSAGE, Refusal::KIND)?;
         Ok(Txsq {
             address,
@@ -27,20 +36,23 @@ impl Kind for Txsq {
         })
     }
 
+    #[inline]
     fn judge(&self, content: &[u8]) -> Result<(), Refusal> {
         let most = match (self.category, self.password) {
             (_, 1) => 83,
             (0, _) => 188,
             _ => LONGEST,
         };
-        need_address(self.address)?;
-        need(self.category <= 1 && self.mode <= 1, Refusal::RANGE)?;
-        need(self.password == 0 || self.password == 1 && self.category == 1, Refusal::RANGE)?;
-        need_address(self.receiver)?;
-        need(self.bits <= most && (self.mode == 1 || self.bits.is_multiple_of(8)), Refusal::RANGE)?;
-        need_bytes(content, self.bits)?;
-        need(self.password == 1 || self.answer == 0, Refusal::RANGE)?;
-        need_fill(content, self.bits)
+        let is_whole = self.mode == 1 || self.bits.is_multiple_of(8);
+        need_address(self.address, ADDRESS)?;
+        need(self.category <= 1, Refusal::RANGE.at(CATEGORY))?;
+        need(self.mode <= 1, Refusal::RANGE.at(MODE))?;
+        need(self.password == 0 || self.password == 1 && self.category == 1, Refusal::RANGE.at(PASSWORD))?;
+        need_address(self.receiver, RECEIVER)?;
+        need(self.bits <= most && is_whole, Refusal::RANGE.at(BITS))?;
+        need_bytes(content, self.bits, BITS)?;
+        need(self.password == 1 || self.answer == 0, Refusal::RANGE.at(ANSWER))?;
+        need_fill(content, self.bits, CONTENT)
     }
 
     #[inline]
@@ -70,12 +82,12 @@ impl Kind for Txsq {
 
     fn change(mut self, frame: &mut [u8], field: usize, value: u64) -> Result<(), Refusal> {
         match field {
-            Txsq::ADDRESS => self.address = narrow(value, 24)? as u32,
-            Txsq::CATEGORY => self.category = narrow(value, 2)? as u8,
-            Txsq::MODE => self.mode = narrow(value, 1)? as u8,
-            Txsq::PASSWORD => self.password = narrow(value, 1)? as u8,
-            Txsq::RECEIVER => self.receiver = narrow(value, 24)? as u32,
-            Txsq::ANSWER => self.answer = narrow(value, 8)? as u8,
+            Txsq::ADDRESS => self.address = narrow(value, 24, ADDRESS)? as u32,
+            Txsq::CATEGORY => self.category = narrow(value, 2, CATEGORY)? as u8,
+            Txsq::MODE => self.mode = narrow(value, 1, MODE)? as u8,
+            Txsq::PASSWORD => self.password = narrow(value, 1, PASSWORD)? as u8,
+            Txsq::RECEIVER => self.receiver = narrow(value, 24, RECEIVER)? as u32,
+            Txsq::ANSWER => self.answer = narrow(value, 8, ANSWER)? as u8,
             _ => return Err(Refusal::FIELD),
         }
         self.replace(frame)

@@ -1,8 +1,37 @@
 //! TXXX (004, 4.4.3).
 
-use super::{narrow, need, need_address, need_bytes, need_fill, need_time, put_u24, u16_at, u24_at, Kind, LONGEST};
+use super::{narrow, need_bytes, need_fill, put_u24, u16_at, u24_at, Kind, ADDRESS, LARGEST_ADDRESS, LONGEST};
+use crate::Tested;
 use record::{Frame, Refusal, Txxx};
 use std::ops::RangeInclusive;
+
+/// The bits that the fields start at. The mark stands last but for the checksum.
+const CLASS: u32 = 80;
+const SENDER: u32 = 88;
+const HOUR: u32 = 112;
+const MINUTE: u32 = 120;
+const BITS: u32 = 128;
+const CONTENT: u32 = 144;
+
+/// The bit that the mark starts at.
+fn mark_at(frame: &[u8]) -> u32 {
+    8 * (frame.len() as u32 - 2)
+}
+
+impl Tested for Txxx {
+    type Fills = ();
+
+    /// The numbers before the content are in their ranges.
+    #[inline]
+    fn tests(&self, (): (), test: &mut impl FnMut(bool, Refusal)) {
+        let mut range = |good: bool, at: u32| test(good, Refusal::RANGE.at(at));
+        range(self.address <= LARGEST_ADDRESS, ADDRESS);
+        range(self.sender <= LARGEST_ADDRESS, SENDER);
+        range(self.hour <= 23, HOUR);
+        range(self.minute <= 59, MINUTE);
+        range(self.bits <= LONGEST, BITS);
+    }
+}
 
 impl Kind for Txxx {
     const SIZES: RangeInclusive<usize> = 20..=230;
@@ -21,12 +50,9 @@ impl Kind for Txxx {
     }
 
     fn judge(&self, content: &[u8]) -> Result<(), Refusal> {
-        need_address(self.address)?;
-        need_address(self.sender)?;
-        need_time(self.hour, self.minute)?;
-        need(self.bits <= LONGEST, Refusal::RANGE)?;
-        need_bytes(content, self.bits)?;
-        need_fill(content, self.bits)
+        Tested::judge(self, ())?;
+        need_bytes(content, self.bits, BITS)?;
+        need_fill(content, self.bits, CONTENT)
     }
 
     #[inline]
@@ -57,12 +83,12 @@ impl Kind for Txxx {
 
     fn change(mut self, frame: &mut [u8], field: usize, value: u64) -> Result<(), Refusal> {
         match field {
-            Txxx::ADDRESS => self.address = narrow(value, 24)? as u32,
-            Txxx::CLASS => self.class = narrow(value, 8)? as u8,
-            Txxx::SENDER => self.sender = narrow(value, 24)? as u32,
-            Txxx::HOUR => self.hour = narrow(value, 8)? as u8,
-            Txxx::MINUTE => self.minute = narrow(value, 8)? as u8,
-            Txxx::MARK => self.mark = narrow(value, 8)? as u8,
+            Txxx::ADDRESS => self.address = narrow(value, 24, ADDRESS)? as u32,
+            Txxx::CLASS => self.class = narrow(value, 8, CLASS)? as u8,
+            Txxx::SENDER => self.sender = narrow(value, 24, SENDER)? as u32,
+            Txxx::HOUR => self.hour = narrow(value, 8, HOUR)? as u8,
+            Txxx::MINUTE => self.minute = narrow(value, 8, MINUTE)? as u8,
+            Txxx::MARK => self.mark = narrow(value, 8, mark_at(frame))? as u8,
             _ => return Err(Refusal::FIELD),
         }
         self.replace(frame)

@@ -3,7 +3,7 @@
 use super::opening::Opening;
 use super::{entry, judge, openings};
 use crate::notice::area::Part::{Latitude, Longitude};
-use crate::{bits, narrow, need};
+use crate::{bits, narrow};
 use record::Refusal;
 
 /// The number that a correction names the row's first entry by. Below it are the codes, and how many records there are.
@@ -28,8 +28,8 @@ pub fn correct(message: &mut [u8], field: usize, value: u64) -> Result<(), Refus
     let place = field.checked_sub(FIRST_ENTRY).ok_or(Refusal::FIELD)?;
     let (at, number) = locate(message, found.records, place).ok_or(Refusal::FIELD)?;
     let width = number.width();
-    let value = narrow(value, width)?;
-    need(number.good(message, value as u32), Refusal::RANGE)?;
+    let value = narrow(value, width, at as u32)?;
+    number.judge(message, at as u32, value as u32)?;
     bits::put(message, at, width, value);
     Ok(())
 }
@@ -76,15 +76,16 @@ impl Number {
     }
 
     /// Judges the changed record. Whatever of an entry is changed, all of it is judged: a sign may not fit its value.
-    fn good(&self, message: &[u8], value: u32) -> bool {
+    fn judge(&self, message: &[u8], at: u32, value: u32) -> Result<(), Refusal> {
         match *self {
-            Number::Port | Number::Forecast => true,
-            Number::Latitude => Latitude.good(value),
-            Number::Longitude => Longitude.good(value),
+            Number::Port | Number::Forecast => Ok(()),
+            Number::Latitude => Latitude.judge(value, at),
+            Number::Longitude => Longitude.judge(value, at),
             Number::Part { entry, part } => {
                 let mut numbers = entry::numbers(bits::get(message, entry, entry::BITS as u32));
                 numbers[part] = value;
-                entry::spelled(&numbers).is_some_and(entry::good)
+                let is_good = entry::spelled(&numbers).is_some_and(entry::good);
+                is_good.then_some(()).ok_or_else(|| entry::fault_of(&numbers, entry as u32))
             }
         }
     }

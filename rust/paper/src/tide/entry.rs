@@ -1,6 +1,6 @@
 //! An entry of a tide record, as the 32 bits that it has: time 21, sign 1, centimetres 10 (000, 5.4.2.3 and table 6).
 
-use super::window;
+use crate::bits::{self, Part};
 use record::Refusal;
 
 /// How many bits an entry has, and how many numbers it takes in a row.
@@ -15,8 +15,10 @@ pub const BEFORE: [usize; NUMBERS] = [0, 21, 22];
 /// The bits of the sign and the value together.
 const LEVEL: u32 = 0x7FF;
 
-/// The parts before the value: the width, the least and the most of each. The calendar is not asked.
-const PARTS: [(u32, u32, u32); 6] = [(1, 0, 1), (4, 1, 12), (5, 1, 31), (5, 0, 23), (6, 0, 59), (1, 0, 1)];
+/// The parts of the time and the sign. The calendar is not asked.
+const PARTS: [Part; 6] = [(1, 0, 1), (4, 1, 12), (5, 1, 31), (5, 0, 23), (6, 0, 59), (1, 0, 1)];
+/// The value, under sign 0 and under sign 1.
+const VALUE: [Part; 2] = [(10, 1, 1_023), (10, 0, 1_023)];
 
 /// The parts of the time are in their ranges, so that all zeros are no time; and sign 0 with value 0 is no level.
 #[inline]
@@ -26,27 +28,28 @@ pub fn good(entry: u32) -> bool {
     (1..=12).contains(&month) & (day > 0) & (hour <= 23) & (minute <= 59) & (entry & LEVEL > 0)
 }
 
-/// What refuses entries from a bit on that the message is too short for: a bad part that is there, or the size.
+/// What refuses the entry that starts at a bit: its first part that is bad, or that the message is too short for; none if
+/// it is good.
+pub fn fault(message: &[u8], at: usize) -> Option<Refusal> {
+    let value_at = at + BEFORE[2];
+    bits::fault(message, at, &PARTS).or_else(|| {
+        let sign = bits::get(message, value_at - 1, 1);
+        bits::fault(message, value_at, &[VALUE[sign as usize]])
+    })
+}
+
+/// What refuses three numbers that are no good entry, to stand from a bit on. One that is too wide is refused at its first
+/// bit.
 #[cold]
-pub fn cut(message: &[u8], mut at: usize) -> Refusal {
-    let end = 8 * message.len();
-    while at + BITS <= end {
-        if !good((window(message, at) >> 32) as u32) {
-            return Refusal::RANGE;
-        }
-        at += BITS;
-    }
-    for (width, least, most) in PARTS {
-        if at + width as usize > end {
-            break;
-        }
-        let part = (window(message, at) >> (64 - width)) as u32;
-        if !(least..=most).contains(&part) {
-            return Refusal::RANGE;
-        }
-        at += width as usize;
-    }
-    Refusal::SIZE
+pub fn fault_of(&[time, sign, _]: &[u32; NUMBERS], at: u32) -> Refusal {
+    let before = if time >> WIDTHS[0] > 0 {
+        0
+    } else if let Some(refusal) = fault(&(time << 11 | LEVEL).to_be_bytes(), 0) {
+        refusal.bit()
+    } else {
+        BEFORE[if sign > 1 { 1 } else { 2 }] as u32
+    };
+    Refusal::RANGE.at(at + before)
 }
 
 /// So many entries from a bit past the first byte on, all of which are there.

@@ -2,7 +2,7 @@
 
 use super::{entry, window};
 use crate::notice::area::Part;
-use crate::{field, need};
+use crate::{bits, field};
 use record::Refusal;
 
 /// The bits of an opening with a port: position type 1, port 6, forecast mark 1, count 9.
@@ -68,24 +68,33 @@ impl Opening {
     /// Judges the record.
     #[inline]
     pub fn judge(&self, message: &[u8]) -> Result<(), Refusal> {
-        let end = 8 * message.len();
-        if self.entries_at() > end {
-            return Err(self.cut(message));
+        // Where the record is all there, so is its opening.
+        let good = self.end() <= 8 * message.len()
+            && self.entries > 0
+            && (!self.is_point || good_point(self.latitude(), self.longitude()))
+            && self.list(message).fold(true, |good, entry| good & entry::good(entry));
+        if good {
+            Ok(())
+        } else {
+            Err(self.fault(message))
         }
-        need(!self.is_point || good_point(self.latitude(), self.longitude()), Refusal::RANGE)?;
-        need(self.entries > 0, Refusal::RANGE)?;
-        if self.end() > end {
-            return Err(entry::cut(message, self.entries_at()));
-        }
-        need(self.list(message).fold(true, |good, entry| good & entry::good(entry)), Refusal::RANGE)
     }
 
-    /// What refuses an opening that the message is too short for: a bad part of its point that is there, or the size.
+    /// What refuses a record that is not good: its first part that is bad, or that the message is too short for.
     #[cold]
-    fn cut(&self, message: &[u8]) -> Refusal {
-        let parts: &[Part] = if self.is_point { &[Part::Latitude, Part::Longitude] } else { &[] };
-        let mut at = self.start + 1;
-        parts.iter().find_map(|part| part.read(message, &mut at).err()).unwrap_or(Refusal::SIZE)
+    fn fault(self, message: &[u8]) -> Refusal {
+        let point = [Part::Latitude, Part::Longitude].into_iter().flat_map(Part::made_of);
+        let mut parts = vec![(1, 0, 1)];
+        if self.is_point {
+            parts.extend(point);
+        } else {
+            parts.push((6, 0, 63));
+        }
+        parts.extend([(1, 0, 1), (9, 1, 511)]);
+        let entries = (0..self.entries).map(|index| self.entries_at() + entry::BITS * index);
+        bits::fault(message, self.start, &parts)
+            .or_else(|| entries.into_iter().find_map(|at| entry::fault(message, at)))
+            .expect("a record that is refused")
     }
 
     fn latitude(&self) -> u32 {

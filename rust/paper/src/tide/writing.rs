@@ -1,8 +1,9 @@
 //! A tide telegram that is written from its row.
 
 use super::opening::{good_point, POINT_BITS, PORT_BITS};
-use super::{entry, COUNT_BITS, GREATEST, HEAD_BITS, KIND};
+use super::{entry, COUNT_BITS, GREATEST, HEAD_BITS, KIND, KIND_BITS};
 use crate::need;
+use crate::notice::area::Part::{Latitude, Longitude};
 use record::Refusal;
 use std::mem;
 
@@ -42,6 +43,23 @@ fn lead(row: &[u32], at: usize) -> Option<Lead> {
     is_good.then_some(Lead { width, bits, numbers, entries: entries as usize })
 }
 
+/// What refuses an opening of which a number is bad, to stand from a bit on.
+#[cold]
+fn lead_fault(row: &[u32], at: usize, start: u32) -> Refusal {
+    let [kind, first, second] = [0, 1, 2].map(|next| number(row, at + next, 0));
+    let (position, forecast, before) = match kind {
+        0 => (need(first <= 63, Refusal::RANGE.at(start + 1)), at + 2, 7),
+        1 => {
+            let latitude = Latitude.judge(first, start + 1);
+            (latitude.and_then(|()| Longitude.judge(second, start + 22)), at + 3, 44)
+        }
+        _ => return Refusal::RANGE.at(start),
+    };
+    let entries_at = start + before + 1;
+    let rest = need(number(row, forecast, 0) <= 1, Refusal::RANGE.at(start + before));
+    position.and(rest).err().unwrap_or(Refusal::RANGE.at(entries_at))
+}
+
 /// Three numbers are those of a good entry.
 #[inline]
 fn good_entry(numbers: &[u32; entry::NUMBERS]) -> bool {
@@ -63,23 +81,38 @@ fn good_entries(row: &[u32], at: usize, entries: usize) -> bool {
     }
 }
 
+/// The numbers of so many entries from a place of a row on, whether it has them or not.
+fn all_threes(row: &[u32], at: usize, entries: usize) -> impl Iterator<Item = [u32; entry::NUMBERS]> + '_ {
+    (0..entries).map(move |index| [0, 1, 2].map(|next| number(row, at + entry::NUMBERS * index + next, MISSING[next])))
+}
+
 /// Judges entries that the row is too short for.
 #[cold]
 fn good_short(row: &[u32], at: usize, entries: usize) -> bool {
-    let three = |index| [0, 1, 2].map(|next| number(row, at + entry::NUMBERS * index + next, MISSING[next]));
-    (0..entries).all(|index| good_entry(&three(index)))
+    all_threes(row, at, entries).all(|numbers| good_entry(&numbers))
+}
+
+/// What refuses entries of which one is bad, to stand from a bit on.
+#[cold]
+fn entries_fault(row: &[u32], at: usize, entries: usize, start: usize) -> Refusal {
+    let mut threes = all_threes(row, at, entries).enumerate();
+    let (index, numbers) = threes.find(|(_, numbers)| !good_entry(numbers)).expect("a bad entry");
+    entry::fault_of(&numbers, (start + entry::BITS * index) as u32)
 }
 
 /// Judges the records of a row. Answers how many numbers they are, and how many bits the telegram has.
 fn judge(count: u16, row: &[u32]) -> Result<(usize, usize), Refusal> {
-    need((1..=MOST).contains(&count.into()), Refusal::RANGE)?;
+    need((1..=MOST).contains(&count.into()), Refusal::RANGE.at(KIND_BITS))?;
     let (mut at, mut bits) = (0, HEAD_BITS);
     for _ in 0..count {
-        let lead = lead(row, at).ok_or(Refusal::RANGE)?;
+        let lead = lead(row, at).ok_or_else(|| lead_fault(row, at, bits as u32))?;
         at += lead.numbers;
-        need(good_entries(row, at, lead.entries), Refusal::RANGE)?;
+        bits += lead.width as usize;
+        if !good_entries(row, at, lead.entries) {
+            return Err(entries_fault(row, at, lead.entries, bits));
+        }
         at += entry::NUMBERS * lead.entries;
-        bits += lead.width as usize + entry::BITS * lead.entries;
+        bits += entry::BITS * lead.entries;
     }
     Ok((at, bits))
 }

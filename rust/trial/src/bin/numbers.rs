@@ -4,7 +4,7 @@
 
 use bellnewt::notice::{Angle, Area, Field, Head, Notice, Point};
 use bellnewt::{ais, desk, distress, notice, packet as packets_of, serial};
-use record::{code, Gljc, Packet, Place, Refusal, Report, Txsq, CHINESE};
+use record::{answer, Gljc, Packet, Place, Refusal, Report, Txsq, CHINESE};
 use trial::numbers::desk::{packets, NUMBER};
 use trial::numbers::distress::{example_with_longitude, EXAMPLE, EXAMPLE_REPORT};
 use trial::numbers::notice::{outermost, BARE, BARE_HEAD};
@@ -32,7 +32,7 @@ fn hex(bytes: &[u8]) -> String {
 fn print_case(case: &str, answer: Result<String, Refusal>) {
     match answer {
         Ok(values) => println!("{case}: 0, {values}"),
-        Err(Refusal(number)) => println!("{case}: {number}"),
+        Err(refusal) => println!("{case}: {}", refusal.code()),
     }
 }
 
@@ -121,7 +121,7 @@ fn one_packet() {
 fn two_packets_of_three() {
     let [first, _, third] = packets();
     let (mut places, mut store, mut again) = ([0; Place::ROW], vec![0; Place::STORE], 0);
-    let mut accept = |packet: &[u8]| code(desk::accept_in(&mut places, &mut store, packet, &mut again));
+    let mut accept = |packet: &[u8]| answer(desk::accept_in(&mut places, &mut store, packet, &mut again));
     let accepted = [accept(&third), accept(&first)];
 
     let (mut notice, mut missing, mut count, mut language) = ([0; 0], [0; Place::MISSING], 0, 0);
@@ -131,7 +131,7 @@ fn two_packets_of_three() {
         "J desk from empty, total 3, packets 2 and 0 accepted: {} and {}, then asked: {}, missing {}",
         accepted[0],
         accepted[1],
-        code(asked),
+        answer(asked),
         numbers.join(" ")
     );
 }

@@ -2,68 +2,69 @@
 //! family, and the slots too.
 
 use super::{Paper, Proved};
-use crate::harness::{self, Call, Family, Guarded, Options, Tally};
+use crate::harness::{self, Call, Family, Guarded, Options, Places, Tally};
 use crate::inputs::{ais as inputs, room, spare, Random};
-use record::{code, Ais, Area, Warning};
+use crate::places::{ais as places, NONE};
+use record::{answer, Ais, Area, Warning};
 use std::marker::PhantomData;
 
 /// The calls of a message, each as in C but for slices and the record, whose type or shape says which writing is meant.
 pub trait Calls<M: Ais> {
-    fn read(message: &[u8], row: &mut [i64]) -> u8;
-    fn write(buf: &mut [u8], record: &M) -> u8;
-    fn correct(message: &mut [u8], field: usize, value: u64) -> u8;
+    fn read(message: &[u8], row: &mut [i64]) -> u32;
+    fn write(buf: &mut [u8], record: &M) -> u32;
+    fn correct(message: &mut [u8], field: usize, value: u64) -> u32;
 }
 
 impl<M: bellnewt::ais::Kind> Calls<M> for Proved {
     #[inline]
-    fn read(message: &[u8], row: &mut [i64]) -> u8 {
-        code(bellnewt::ais::read_row::<M>(message, row))
+    fn read(message: &[u8], row: &mut [i64]) -> u32 {
+        answer(bellnewt::ais::read_row::<M>(message, row))
     }
 
     #[inline]
-    fn write(buf: &mut [u8], record: &M) -> u8 {
-        code(bellnewt::ais::write(buf, record))
+    fn write(buf: &mut [u8], record: &M) -> u32 {
+        answer(bellnewt::ais::write(buf, record))
     }
 
     #[inline]
-    fn correct(message: &mut [u8], field: usize, value: u64) -> u8 {
-        code(bellnewt::ais::correct::<M>(message, field, value))
+    fn correct(message: &mut [u8], field: usize, value: u64) -> u32 {
+        answer(bellnewt::ais::correct::<M>(message, field, value))
     }
 }
 
 impl<M: paper::ais::Kind> Calls<M> for Paper {
     #[inline(never)]
-    fn read(message: &[u8], row: &mut [i64]) -> u8 {
-        code(paper::ais::read_row::<M>(message, row))
+    fn read(message: &[u8], row: &mut [i64]) -> u32 {
+        answer(paper::ais::read_row::<M>(message, row))
     }
 
     #[inline(never)]
-    fn write(buf: &mut [u8], record: &M) -> u8 {
-        code(paper::ais::write(buf, record))
+    fn write(buf: &mut [u8], record: &M) -> u32 {
+        answer(paper::ais::write(buf, record))
     }
 
     #[inline(never)]
-    fn correct(message: &mut [u8], field: usize, value: u64) -> u8 {
-        code(paper::ais::correct::<M>(message, field, value))
+    fn correct(message: &mut [u8], field: usize, value: u64) -> u32 {
+        answer(paper::ais::correct::<M>(message, field, value))
     }
 }
 
 /// The call that counts slots, as in C.
 pub trait SlotCall {
-    fn slots(message: u8, bytes: usize, slots: &mut u8) -> u8;
+    fn slots(message: u8, bytes: usize, slots: &mut u8) -> u32;
 }
 
 impl SlotCall for Proved {
     #[inline]
-    fn slots(message: u8, bytes: usize, slots: &mut u8) -> u8 {
-        code(bellnewt::ais::count_slots(message, bytes, slots))
+    fn slots(message: u8, bytes: usize, slots: &mut u8) -> u32 {
+        answer(bellnewt::ais::count_slots(message, bytes, slots))
     }
 }
 
 impl SlotCall for Paper {
     #[inline(never)]
-    fn slots(message: u8, bytes: usize, slots: &mut u8) -> u8 {
-        code(paper::ais::slots(message, bytes).map(|needed| *slots = needed))
+    fn slots(message: u8, bytes: usize, slots: &mut u8) -> u32 {
+        answer(paper::ais::slots(message, bytes).map(|needed| *slots = needed))
     }
 }
 
@@ -74,29 +75,39 @@ pub trait Kind: inputs::Kind + bellnewt::ais::Kind + paper::ais::Kind {
     const CALLS: &'static [Call];
 }
 
-const READ: Call = Call { name: "read", numbers: &[0, 1, 2, 4, 5, 6] };
-const CORRECT: Call = Call { name: "correct", numbers: &[0, 1, 2, 4, 5, 10] };
+const fn read(places: Places) -> Call {
+    Call { name: "read", numbers: &[0, 1, 2, 4, 5, 6], places }
+}
 
-const fn write(name: &'static str) -> Call {
-    Call { name, numbers: &[0, 4, 6] }
+const fn write(name: &'static str, places: Places) -> Call {
+    Call { name, numbers: &[0, 4, 6], places }
+}
+
+const fn correct(places: Places) -> Call {
+    Call { name: "correct", numbers: &[0, 1, 2, 4, 5, 10], places }
 }
 
 impl Kind for Warning {
     const NAME: &'static str = "warning";
     const CALLS: &'static [Call] = &[
-        READ,
-        write("cyclone write"),
-        write("gale write"),
-        write("waves write"),
-        write("fog write"),
-        write("surge write"),
-        CORRECT,
+        read(places::WARNING),
+        write("cyclone write", places::CYCLONE),
+        write("gale write", places::GALE),
+        write("waves write", places::WAVES),
+        write("fog write", places::FOG),
+        write("surge write", places::SURGE),
+        correct(places::WARNING_CORRECT),
     ];
 }
 
 impl Kind for Area {
     const NAME: &'static str = "area";
-    const CALLS: &'static [Call] = &[READ, write("circle write"), write("rectangle write"), CORRECT];
+    const CALLS: &'static [Call] = &[
+        read(places::AREA),
+        write("circle write", places::CIRCLE),
+        write("rectangle write", places::RECTANGLE),
+        correct(places::AREA_CORRECT),
+    ];
 }
 
 /// One call and its numbers; the message or buffer and the row stand in `Lent`.
@@ -114,7 +125,7 @@ pub struct Lent {
 }
 
 impl<M: Kind> Input<M> {
-    fn answer<C: Calls<M>>(&self, lent: &mut Lent) -> u8 {
+    fn answer<C: Calls<M>>(&self, lent: &mut Lent) -> u32 {
         let bytes = lent.bytes.part();
         match self {
             Input::Read => C::read(bytes, lent.row.part()),
@@ -146,11 +157,11 @@ impl<M: Kind> Family for Message<M> {
         (input, Lent { bytes: Guarded::new(random, bytes), row: Guarded::any(random, row) })
     }
 
-    fn proved(input: &Input<M>, lent: &mut Lent) -> u8 {
+    fn proved(input: &Input<M>, lent: &mut Lent) -> u32 {
         input.answer::<Proved>(lent)
     }
 
-    fn paper(input: &Input<M>, lent: &mut Lent) -> u8 {
+    fn paper(input: &Input<M>, lent: &mut Lent) -> u32 {
         input.answer::<Paper>(lent)
     }
 }
@@ -159,7 +170,7 @@ pub struct Slots;
 
 impl Family for Slots {
     const NAME: &'static str = "slots";
-    const CALLS: &'static [Call] = &[Call { name: "slots", numbers: &[0, 1, 2] }];
+    const CALLS: &'static [Call] = &[Call { name: "slots", numbers: &[0, 1, 2], places: NONE }];
     /// A message number, and how many data bytes.
     type Input = (u8, usize);
     type Lent = Guarded<u8>;
@@ -168,11 +179,11 @@ impl Family for Slots {
         (inputs::slots(random), Guarded::any(random, 1))
     }
 
-    fn proved(&(message, bytes): &(u8, usize), slots: &mut Guarded<u8>) -> u8 {
+    fn proved(&(message, bytes): &(u8, usize), slots: &mut Guarded<u8>) -> u32 {
         Proved::slots(message, bytes, &mut slots.part()[0])
     }
 
-    fn paper(&(message, bytes): &(u8, usize), slots: &mut Guarded<u8>) -> u8 {
+    fn paper(&(message, bytes): &(u8, usize), slots: &mut Guarded<u8>) -> u32 {
         Paper::slots(message, bytes, &mut slots.part()[0])
     }
 }

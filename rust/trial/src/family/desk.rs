@@ -8,8 +8,9 @@ mod sequence;
 use super::{Paper, Proved};
 use crate::harness::{self, Call, Cell, Counts, Options, Tally};
 use crate::inputs::Random;
+use crate::places::{packet, NONE};
 use paper::desk::Answer;
-use record::{code, Accepted, Place, Refusal};
+use record::{answer, Accepted, Place, Refusal};
 use rows::Rows;
 
 /// The desk's calls, each as in C but for slices, and for the places: the independent program has its own.
@@ -23,7 +24,7 @@ pub trait Calls {
     fn places(row: &[u8]) -> Vec<Self::Cell>;
     fn row(places: &[Self::Cell]) -> Vec<u8>;
 
-    fn accept(places: &mut [Self::Cell], store: &mut [u8], packet: &[u8], again: &mut u8) -> u8;
+    fn accept(places: &mut [Self::Cell], store: &mut [u8], packet: &[u8], again: &mut u8) -> u32;
     fn ask(
         places: &mut [Self::Cell],
         store: &[u8],
@@ -32,8 +33,8 @@ pub trait Calls {
         missing: &mut [u16],
         count: &mut usize,
         language: &mut u8,
-    ) -> u8;
-    fn drop(places: &mut [Self::Cell], store: &[u8], number: u8) -> u8;
+    ) -> u32;
+    fn drop(places: &mut [Self::Cell], store: &[u8], number: u8) -> u32;
 }
 
 impl Calls for Proved {
@@ -51,8 +52,8 @@ impl Calls for Proved {
     }
 
     #[inline]
-    fn accept(places: &mut [u8], store: &mut [u8], packet: &[u8], again: &mut u8) -> u8 {
-        code(bellnewt::desk::accept_in(places, store, packet, again))
+    fn accept(places: &mut [u8], store: &mut [u8], packet: &[u8], again: &mut u8) -> u32 {
+        answer(bellnewt::desk::accept_in(places, store, packet, again))
     }
 
     #[inline]
@@ -64,13 +65,13 @@ impl Calls for Proved {
         missing: &mut [u16],
         count: &mut usize,
         language: &mut u8,
-    ) -> u8 {
-        code(bellnewt::desk::ask_in(places, store, number, notice, missing, count, language))
+    ) -> u32 {
+        answer(bellnewt::desk::ask_in(places, store, number, notice, missing, count, language))
     }
 
     #[inline]
-    fn drop(places: &mut [u8], store: &[u8], number: u8) -> u8 {
-        code(bellnewt::desk::drop_in(places, store, number))
+    fn drop(places: &mut [u8], store: &[u8], number: u8) -> u32 {
+        answer(bellnewt::desk::drop_in(places, store, number))
     }
 }
 
@@ -87,9 +88,9 @@ impl Calls for Paper {
     }
 
     #[inline(never)]
-    fn accept(places: &mut [Place], store: &mut [u8], packet: &[u8], again: &mut u8) -> u8 {
+    fn accept(places: &mut [Place], store: &mut [u8], packet: &[u8], again: &mut u8) -> u32 {
         let accepted = paper::desk::accept(places, store, packet);
-        code(accepted.map(|accepted| *again = u8::from(accepted == Accepted::Again)))
+        answer(accepted.map(|accepted| *again = u8::from(accepted == Accepted::Again)))
     }
 
     #[inline(never)]
@@ -101,8 +102,8 @@ impl Calls for Paper {
         missing: &mut [u16],
         count: &mut usize,
         language: &mut u8,
-    ) -> u8 {
-        code(paper::desk::ask(places, store, number, notice, missing).and_then(|answer| match answer {
+    ) -> u32 {
+        answer(paper::desk::ask(places, store, number, notice, missing).and_then(|answer| match answer {
             Answer::Complete { bytes, language: spoken } => {
                 (*count, *language) = (bytes, spoken);
                 Ok(())
@@ -115,8 +116,8 @@ impl Calls for Paper {
     }
 
     #[inline(never)]
-    fn drop(places: &mut [Place], store: &[u8], number: u8) -> u8 {
-        code(paper::desk::drop(places, store, number))
+    fn drop(places: &mut [Place], store: &[u8], number: u8) -> u32 {
+        answer(paper::desk::drop(places, store, number))
     }
 }
 
@@ -126,10 +127,10 @@ const ACCEPT_AGAIN: usize = 1;
 const ASK: usize = 2;
 const DROP: usize = 3;
 const CALLS: [Call; 4] = [
-    Call { name: "accept", numbers: &[0, 1, 2, 4, 6, 7, 8] },
-    Call { name: "accept again", numbers: &[0] },
-    Call { name: "ask", numbers: &[0, 4, 6, 9, 11] },
-    Call { name: "drop", numbers: &[0, 4, 6, 11] },
+    Call { name: "accept", numbers: &[0, 1, 2, 4, 6, 7, 8], places: packet::READ },
+    Call { name: "accept again", numbers: &[0], places: NONE },
+    Call { name: "ask", numbers: &[0, 4, 6, 9, 11], places: NONE },
+    Call { name: "drop", numbers: &[0, 4, 6, 11], places: NONE },
 ];
 
 /// The most calls of a sequence; the least are a tenth of them.

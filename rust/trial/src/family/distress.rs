@@ -3,68 +3,69 @@
 use super::{Paper, Proved};
 use crate::harness::{Call, Family, Guarded};
 use crate::inputs::{distress as inputs, room, spare, Random};
-use record::{code, Report};
+use crate::places::distress as places;
+use record::{answer, Report};
 
 /// The family's calls, each as in C but for slices and the report.
 pub trait Calls {
-    fn read(message: &[u8], row: &mut [i64]) -> u8;
-    fn write(buf: &mut [u8], report: &Report) -> u8;
-    fn correct(message: &mut [u8], field: usize, value: u64) -> u8;
-    fn read_sentence(sentence: &[u8], row: &mut [i64]) -> u8;
-    fn write_sentence(buf: &mut [u8], size: &mut usize, address: u32, report: &Report) -> u8;
+    fn read(message: &[u8], row: &mut [i64]) -> u32;
+    fn write(buf: &mut [u8], report: &Report) -> u32;
+    fn correct(message: &mut [u8], field: usize, value: u64) -> u32;
+    fn read_sentence(sentence: &[u8], row: &mut [i64]) -> u32;
+    fn write_sentence(buf: &mut [u8], size: &mut usize, address: u32, report: &Report) -> u32;
 }
 
 impl Calls for Proved {
     #[inline]
-    fn read(message: &[u8], row: &mut [i64]) -> u8 {
-        code(bellnewt::distress::read_row(message, row))
+    fn read(message: &[u8], row: &mut [i64]) -> u32 {
+        answer(bellnewt::distress::read_row(message, row))
     }
 
     #[inline]
-    fn write(buf: &mut [u8], report: &Report) -> u8 {
-        code(bellnewt::distress::write(buf, report))
+    fn write(buf: &mut [u8], report: &Report) -> u32 {
+        answer(bellnewt::distress::write(buf, report))
     }
 
     #[inline]
-    fn correct(message: &mut [u8], field: usize, value: u64) -> u8 {
-        code(bellnewt::distress::correct(message, field, value))
+    fn correct(message: &mut [u8], field: usize, value: u64) -> u32 {
+        answer(bellnewt::distress::correct(message, field, value))
     }
 
     #[inline]
-    fn read_sentence(sentence: &[u8], row: &mut [i64]) -> u8 {
-        code(bellnewt::distress::read_sentence_row(sentence, row))
+    fn read_sentence(sentence: &[u8], row: &mut [i64]) -> u32 {
+        answer(bellnewt::distress::read_sentence_row(sentence, row))
     }
 
     #[inline]
-    fn write_sentence(buf: &mut [u8], size: &mut usize, address: u32, report: &Report) -> u8 {
-        code(bellnewt::distress::write_sentence_sized(buf, size, address, report))
+    fn write_sentence(buf: &mut [u8], size: &mut usize, address: u32, report: &Report) -> u32 {
+        answer(bellnewt::distress::write_sentence_sized(buf, size, address, report))
     }
 }
 
 impl Calls for Paper {
     #[inline(never)]
-    fn read(message: &[u8], row: &mut [i64]) -> u8 {
-        code(paper::distress::read_row(message, row))
+    fn read(message: &[u8], row: &mut [i64]) -> u32 {
+        answer(paper::distress::read_row(message, row))
     }
 
     #[inline(never)]
-    fn write(buf: &mut [u8], report: &Report) -> u8 {
-        code(paper::distress::write(buf, report))
+    fn write(buf: &mut [u8], report: &Report) -> u32 {
+        answer(paper::distress::write(buf, report))
     }
 
     #[inline(never)]
-    fn correct(message: &mut [u8], field: usize, value: u64) -> u8 {
-        code(paper::distress::correct(message, field, value))
+    fn correct(message: &mut [u8], field: usize, value: u64) -> u32 {
+        answer(paper::distress::correct(message, field, value))
     }
 
     #[inline(never)]
-    fn read_sentence(sentence: &[u8], row: &mut [i64]) -> u8 {
-        code(paper::distress::read_sentence_row(sentence, row))
+    fn read_sentence(sentence: &[u8], row: &mut [i64]) -> u32 {
+        answer(paper::distress::read_sentence_row(sentence, row))
     }
 
     #[inline(never)]
-    fn write_sentence(buf: &mut [u8], size: &mut usize, address: u32, report: &Report) -> u8 {
-        code(paper::distress::write_sentence(buf, address, report).map(|written| *size = written))
+    fn write_sentence(buf: &mut [u8], size: &mut usize, address: u32, report: &Report) -> u32 {
+        answer(paper::distress::write_sentence(buf, address, report).map(|written| *size = written))
     }
 }
 
@@ -92,7 +93,7 @@ impl Lent {
 }
 
 impl Input {
-    fn answer<C: Calls>(&self, lent: &mut Lent) -> u8 {
+    fn answer<C: Calls>(&self, lent: &mut Lent) -> u32 {
         let (bytes, row) = (lent.bytes.part(), lent.row.part());
         match self {
             Input::Read => C::read(bytes, row),
@@ -111,11 +112,11 @@ pub struct Distress;
 impl Family for Distress {
     const NAME: &'static str = "distress";
     const CALLS: &'static [Call] = &[
-        Call { name: "read", numbers: &[0, 1, 2, 4, 5, 6] },
-        Call { name: "write", numbers: &[0, 4, 6] },
-        Call { name: "correct", numbers: &[0, 1, 2, 4, 5, 10] },
-        Call { name: "sentence read", numbers: &[0, 1, 2, 3, 4, 5, 6] },
-        Call { name: "sentence write", numbers: &[0, 4, 6] },
+        Call { name: "read", numbers: &[0, 1, 2, 4, 5, 6], places: places::READ },
+        Call { name: "write", numbers: &[0, 4, 6], places: places::WRITE },
+        Call { name: "correct", numbers: &[0, 1, 2, 4, 5, 10], places: places::CORRECT },
+        Call { name: "sentence read", numbers: &[0, 1, 2, 3, 4, 5, 6], places: places::READ },
+        Call { name: "sentence write", numbers: &[0, 4, 6], places: places::WRITE },
     ];
     type Input = Input;
     type Lent = Lent;
@@ -138,11 +139,11 @@ impl Family for Distress {
         (input, Lent::new(random, bytes, row))
     }
 
-    fn proved(input: &Input, lent: &mut Lent) -> u8 {
+    fn proved(input: &Input, lent: &mut Lent) -> u32 {
         input.answer::<Proved>(lent)
     }
 
-    fn paper(input: &Input, lent: &mut Lent) -> u8 {
+    fn paper(input: &Input, lent: &mut Lent) -> u32 {
         input.answer::<Paper>(lent)
     }
 }

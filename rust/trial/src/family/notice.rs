@@ -3,58 +3,59 @@
 use super::{Paper, Proved};
 use crate::harness::{Call, Family, Guarded};
 use crate::inputs::{notice as inputs, rooms, row_to_write, spare, Random};
+use crate::places::{notice as places, Numbers};
 use bellnewt::notice::{Head, Notice};
-use record::code;
+use record::{answer, ENGLISH};
 
 /// The family's calls, each as in C but for slices and the head.
 pub trait Calls {
-    fn read(message: &[u8], language: u8, row: &mut [i64], areas: &mut [u32], text: &mut [u8]) -> u8;
-    fn write(buf: &mut [u8], language: u8, head: &Head, count: u8, areas: &[u32], text: &[u8]) -> u8;
-    fn correct(message: &mut [u8], language: u8, field: usize, value: u64) -> u8;
-    fn outline(message: &[u8], language: u8, row: &mut [i32], points: &mut usize) -> u8;
+    fn read(message: &[u8], language: u8, row: &mut [i64], areas: &mut [u32], text: &mut [u8]) -> u32;
+    fn write(buf: &mut [u8], language: u8, head: &Head, count: u8, areas: &[u32], text: &[u8]) -> u32;
+    fn correct(message: &mut [u8], language: u8, field: usize, value: u64) -> u32;
+    fn outline(message: &[u8], language: u8, row: &mut [i32], points: &mut usize) -> u32;
 }
 
 impl Calls for Proved {
     #[inline]
-    fn read(message: &[u8], language: u8, row: &mut [i64], areas: &mut [u32], text: &mut [u8]) -> u8 {
-        code(bellnewt::notice::read_row(message, language, row, areas, text))
+    fn read(message: &[u8], language: u8, row: &mut [i64], areas: &mut [u32], text: &mut [u8]) -> u32 {
+        answer(bellnewt::notice::read_row(message, language, row, areas, text))
     }
 
     #[inline]
-    fn write(buf: &mut [u8], language: u8, head: &Head, count: u8, areas: &[u32], text: &[u8]) -> u8 {
-        code(bellnewt::notice::write_row(buf, language, head, count, areas, text))
+    fn write(buf: &mut [u8], language: u8, head: &Head, count: u8, areas: &[u32], text: &[u8]) -> u32 {
+        answer(bellnewt::notice::write_row(buf, language, head, count, areas, text))
     }
 
     #[inline]
-    fn correct(message: &mut [u8], language: u8, field: usize, value: u64) -> u8 {
-        code(bellnewt::notice::correct_field(message, language, field, value))
+    fn correct(message: &mut [u8], language: u8, field: usize, value: u64) -> u32 {
+        answer(bellnewt::notice::correct_field(message, language, field, value))
     }
 
     #[inline]
-    fn outline(message: &[u8], language: u8, row: &mut [i32], points: &mut usize) -> u8 {
-        code(bellnewt::notice::outline_row(message, language, row, points))
+    fn outline(message: &[u8], language: u8, row: &mut [i32], points: &mut usize) -> u32 {
+        answer(bellnewt::notice::outline_row(message, language, row, points))
     }
 }
 
 impl Calls for Paper {
     #[inline(never)]
-    fn read(message: &[u8], language: u8, row: &mut [i64], areas: &mut [u32], text: &mut [u8]) -> u8 {
-        code(paper::notice::read(message, language, row, areas, text))
+    fn read(message: &[u8], language: u8, row: &mut [i64], areas: &mut [u32], text: &mut [u8]) -> u32 {
+        answer(paper::notice::read(message, language, row, areas, text))
     }
 
     #[inline(never)]
-    fn write(buf: &mut [u8], language: u8, head: &Head, count: u8, areas: &[u32], text: &[u8]) -> u8 {
-        code(paper::notice::write(buf, language, head, count, areas, text))
+    fn write(buf: &mut [u8], language: u8, head: &Head, count: u8, areas: &[u32], text: &[u8]) -> u32 {
+        answer(paper::notice::write(buf, language, head, count, areas, text))
     }
 
     #[inline(never)]
-    fn correct(message: &mut [u8], language: u8, field: usize, value: u64) -> u8 {
-        code(paper::notice::correct(message, language, field, value))
+    fn correct(message: &mut [u8], language: u8, field: usize, value: u64) -> u32 {
+        answer(paper::notice::correct(message, language, field, value))
     }
 
     #[inline(never)]
-    fn outline(message: &[u8], language: u8, row: &mut [i32], points: &mut usize) -> u8 {
-        code(paper::notice::outline(message, language, row).map(|count| *points = count))
+    fn outline(message: &[u8], language: u8, row: &mut [i32], points: &mut usize) -> u32 {
+        answer(paper::notice::outline(message, language, row).map(|count| *points = count))
     }
 }
 
@@ -94,7 +95,7 @@ impl Lent {
 }
 
 impl Input {
-    fn answer<C: Calls>(&self, lent: &mut Lent) -> u8 {
+    fn answer<C: Calls>(&self, lent: &mut Lent) -> u32 {
         let (bytes, areas, text) = (lent.bytes.part(), lent.areas.part(), lent.text.part());
         match self {
             Input::Read { language } => C::read(bytes, *language, lent.row.part(), areas, text),
@@ -149,10 +150,10 @@ pub struct Notices;
 impl Family for Notices {
     const NAME: &'static str = "notice";
     const CALLS: &'static [Call] = &[
-        Call { name: "read", numbers: &[0, 1, 4, 5, 6] },
-        Call { name: "write", numbers: &[0, 1, 4, 6] },
-        Call { name: "correct", numbers: &[0, 1, 4, 5, 10] },
-        Call { name: "outline", numbers: &[0, 1, 4, 5, 6] },
+        Call { name: "read", numbers: &[0, 1, 4, 5, 6], places: places::READ },
+        Call { name: "write", numbers: &[0, 1, 4, 6], places: places::WRITE },
+        Call { name: "correct", numbers: &[0, 1, 4, 5, 10], places: places::CORRECT },
+        Call { name: "outline", numbers: &[0, 1, 4, 5, 6], places: places::READ },
     ];
     type Input = Input;
     type Lent = Lent;
@@ -166,11 +167,24 @@ impl Family for Notices {
         }
     }
 
-    fn proved(input: &Input, lent: &mut Lent) -> u8 {
+    fn proved(input: &Input, lent: &mut Lent) -> u32 {
         input.answer::<Proved>(lent)
     }
 
-    fn paper(input: &Input, lent: &mut Lent) -> u8 {
+    fn paper(input: &Input, lent: &mut Lent) -> u32 {
         input.answer::<Paper>(lent)
+    }
+
+    /// Bit 0 is the source's where it is 4 and the language is one.
+    fn field(input: &Input, before: &Lent, number: u8, bit: u32) -> Option<&'static str> {
+        let message = before.bytes.see();
+        let (language, areas, numbers) = match *input {
+            Input::Write { language, count, .. } => (language, count, Numbers::Row(before.areas.see())),
+            Input::Read { language } | Input::Correct { language, .. } | Input::Outline { language } => {
+                (language, message.get(7).map_or(0, |last| last >> 1 & 15), Numbers::Bits(message))
+            }
+        };
+        let is_field = bit > 0 || number == 4 && language <= ENGLISH;
+        is_field.then(|| places::field(number, bit, areas.into(), numbers))
     }
 }

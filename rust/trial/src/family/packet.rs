@@ -3,39 +3,40 @@
 use super::{show, Paper, Proved};
 use crate::harness::{Call, Family, Guarded};
 use crate::inputs::{packet as inputs, room, spare, Random};
-use record::{code, Packet};
+use crate::places::{packet as places, NONE};
+use record::{answer, Packet};
 
 /// The family's calls, each as in C but for slices and the record. `numbers` asks what follows each of the 256 message
 /// numbers.
 pub trait Calls {
-    fn read(packet: &[u8], row: &mut [i64]) -> u8;
-    fn write(buf: &mut [u8], record: &Packet, content: &[u8]) -> u8;
-    fn correct(packet: &mut [u8], field: usize, value: u64) -> u8;
-    fn split(buf: &mut [u8], content: &[u8], language: u8, number: u8, packet: usize) -> u8;
+    fn read(packet: &[u8], row: &mut [i64]) -> u32;
+    fn write(buf: &mut [u8], record: &Packet, content: &[u8]) -> u32;
+    fn correct(packet: &mut [u8], field: usize, value: u64) -> u32;
+    fn split(buf: &mut [u8], content: &[u8], language: u8, number: u8, packet: usize) -> u32;
     fn next_number(number: u8) -> u8;
     /// The content in the front of `bytes`, where it fits, and how many bytes it has in `shown`; the number is reading's.
-    fn content(packet: &[u8], bytes: &mut [u8], shown: &mut usize) -> u8;
+    fn content(packet: &[u8], bytes: &mut [u8], shown: &mut usize) -> u32;
 }
 
 impl Calls for Proved {
     #[inline]
-    fn read(packet: &[u8], row: &mut [i64]) -> u8 {
-        code(bellnewt::packet::read_row(packet, row))
+    fn read(packet: &[u8], row: &mut [i64]) -> u32 {
+        answer(bellnewt::packet::read_row(packet, row))
     }
 
     #[inline]
-    fn write(buf: &mut [u8], record: &Packet, content: &[u8]) -> u8 {
-        code(bellnewt::packet::write(buf, record, content))
+    fn write(buf: &mut [u8], record: &Packet, content: &[u8]) -> u32 {
+        answer(bellnewt::packet::write(buf, record, content))
     }
 
     #[inline]
-    fn correct(packet: &mut [u8], field: usize, value: u64) -> u8 {
-        code(bellnewt::packet::correct(packet, field, value))
+    fn correct(packet: &mut [u8], field: usize, value: u64) -> u32 {
+        answer(bellnewt::packet::correct(packet, field, value))
     }
 
     #[inline]
-    fn split(buf: &mut [u8], content: &[u8], language: u8, number: u8, packet: usize) -> u8 {
-        code(bellnewt::packet::split(buf, content, language, number, packet))
+    fn split(buf: &mut [u8], content: &[u8], language: u8, number: u8, packet: usize) -> u32 {
+        answer(bellnewt::packet::split(buf, content, language, number, packet))
     }
 
     #[inline]
@@ -43,31 +44,31 @@ impl Calls for Proved {
         bellnewt::packet::next_number(number)
     }
 
-    fn content(packet: &[u8], bytes: &mut [u8], shown: &mut usize) -> u8 {
+    fn content(packet: &[u8], bytes: &mut [u8], shown: &mut usize) -> u32 {
         *shown = direct::packet_content(packet, bytes);
-        code(bellnewt::packet::read(packet).map(drop))
+        answer(bellnewt::packet::read(packet).map(drop))
     }
 }
 
 impl Calls for Paper {
     #[inline(never)]
-    fn read(packet: &[u8], row: &mut [i64]) -> u8 {
-        code(paper::packet::read_row(packet, row))
+    fn read(packet: &[u8], row: &mut [i64]) -> u32 {
+        answer(paper::packet::read_row(packet, row))
     }
 
     #[inline(never)]
-    fn write(buf: &mut [u8], record: &Packet, content: &[u8]) -> u8 {
-        code(paper::packet::write(buf, record, content))
+    fn write(buf: &mut [u8], record: &Packet, content: &[u8]) -> u32 {
+        answer(paper::packet::write(buf, record, content))
     }
 
     #[inline(never)]
-    fn correct(packet: &mut [u8], field: usize, value: u64) -> u8 {
-        code(paper::packet::correct(packet, field, value))
+    fn correct(packet: &mut [u8], field: usize, value: u64) -> u32 {
+        answer(paper::packet::correct(packet, field, value))
     }
 
     #[inline(never)]
-    fn split(buf: &mut [u8], content: &[u8], language: u8, number: u8, packet: usize) -> u8 {
-        code(paper::packet::split(buf, content, language, number, packet))
+    fn split(buf: &mut [u8], content: &[u8], language: u8, number: u8, packet: usize) -> u32 {
+        answer(paper::packet::split(buf, content, language, number, packet))
     }
 
     #[inline(never)]
@@ -75,8 +76,8 @@ impl Calls for Paper {
         paper::packet::next_number(number)
     }
 
-    fn content(packet: &[u8], bytes: &mut [u8], shown: &mut usize) -> u8 {
-        code(paper::packet::read(packet).map(|(_, content)| *shown = show(content, bytes)))
+    fn content(packet: &[u8], bytes: &mut [u8], shown: &mut usize) -> u32 {
+        answer(paper::packet::read(packet).map(|(_, content)| *shown = show(content, bytes)))
     }
 }
 
@@ -99,7 +100,7 @@ pub struct Lent {
 }
 
 impl Input {
-    fn answer<C: Calls>(&self, lent: &mut Lent) -> u8 {
+    fn answer<C: Calls>(&self, lent: &mut Lent) -> u32 {
         let (bytes, content) = (lent.bytes.part(), lent.content.part());
         match self {
             Input::Read => C::read(bytes, lent.row.part()),
@@ -116,11 +117,11 @@ pub struct Packets;
 impl Family for Packets {
     const NAME: &'static str = "packet";
     const CALLS: &'static [Call] = &[
-        Call { name: "read", numbers: &[0, 1, 2, 4, 6] },
-        Call { name: "write", numbers: &[0, 1, 4, 6] },
-        Call { name: "correct", numbers: &[0, 1, 2, 4, 10] },
-        Call { name: "split", numbers: &[0, 1, 4, 6] },
-        Call { name: "content", numbers: &[0, 1, 2, 4] },
+        Call { name: "read", numbers: &[0, 1, 2, 4, 6], places: places::READ },
+        Call { name: "write", numbers: &[0, 1, 4, 6], places: places::WRITE },
+        Call { name: "correct", numbers: &[0, 1, 2, 4, 10], places: places::CORRECT },
+        Call { name: "split", numbers: &[0, 1, 4, 6], places: NONE },
+        Call { name: "content", numbers: &[0, 1, 2, 4], places: places::READ },
     ];
     type Input = Input;
     type Lent = Lent;
@@ -157,11 +158,11 @@ impl Family for Packets {
         (input, lent)
     }
 
-    fn proved(input: &Input, lent: &mut Lent) -> u8 {
+    fn proved(input: &Input, lent: &mut Lent) -> u32 {
         input.answer::<Proved>(lent)
     }
 
-    fn paper(input: &Input, lent: &mut Lent) -> u8 {
+    fn paper(input: &Input, lent: &mut Lent) -> u32 {
         input.answer::<Paper>(lent)
     }
 }

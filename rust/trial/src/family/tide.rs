@@ -3,57 +3,58 @@
 use super::{Paper, Proved};
 use crate::harness::{Call, Family, Guarded};
 use crate::inputs::{rooms, row_to_write, spare, tide as inputs, Random};
-use record::code;
+use crate::places::{tide as places, Numbers};
+use record::answer;
 
 /// The family's calls, each as in C but for slices.
 pub trait Calls {
-    fn read(message: &[u8], count: &mut u16, numbers: &mut usize, row: &mut [u32]) -> u8;
-    fn write(buf: &mut [u8], count: u16, row: &[u32]) -> u8;
-    fn correct(message: &mut [u8], field: usize, value: u64) -> u8;
-    fn heights(message: &[u8], heights: &mut [i32], count: &mut usize) -> u8;
+    fn read(message: &[u8], count: &mut u16, numbers: &mut usize, row: &mut [u32]) -> u32;
+    fn write(buf: &mut [u8], count: u16, row: &[u32]) -> u32;
+    fn correct(message: &mut [u8], field: usize, value: u64) -> u32;
+    fn heights(message: &[u8], heights: &mut [i32], count: &mut usize) -> u32;
 }
 
 impl Calls for Proved {
     #[inline]
-    fn read(message: &[u8], count: &mut u16, numbers: &mut usize, row: &mut [u32]) -> u8 {
-        code(bellnewt::tide::read_row(message, count, numbers, row))
+    fn read(message: &[u8], count: &mut u16, numbers: &mut usize, row: &mut [u32]) -> u32 {
+        answer(bellnewt::tide::read_row(message, count, numbers, row))
     }
 
     #[inline]
-    fn write(buf: &mut [u8], count: u16, row: &[u32]) -> u8 {
-        code(bellnewt::tide::write_row(buf, count, row))
+    fn write(buf: &mut [u8], count: u16, row: &[u32]) -> u32 {
+        answer(bellnewt::tide::write_row(buf, count, row))
     }
 
     #[inline]
-    fn correct(message: &mut [u8], field: usize, value: u64) -> u8 {
-        code(bellnewt::tide::correct_field(message, field, value))
+    fn correct(message: &mut [u8], field: usize, value: u64) -> u32 {
+        answer(bellnewt::tide::correct_field(message, field, value))
     }
 
     #[inline]
-    fn heights(message: &[u8], heights: &mut [i32], count: &mut usize) -> u8 {
-        code(bellnewt::tide::heights_row(message, heights, count))
+    fn heights(message: &[u8], heights: &mut [i32], count: &mut usize) -> u32 {
+        answer(bellnewt::tide::heights_row(message, heights, count))
     }
 }
 
 impl Calls for Paper {
     #[inline(never)]
-    fn read(message: &[u8], count: &mut u16, numbers: &mut usize, row: &mut [u32]) -> u8 {
-        code(paper::tide::read(message, row).map(|found| (*count, *numbers) = found))
+    fn read(message: &[u8], count: &mut u16, numbers: &mut usize, row: &mut [u32]) -> u32 {
+        answer(paper::tide::read(message, row).map(|found| (*count, *numbers) = found))
     }
 
     #[inline(never)]
-    fn write(buf: &mut [u8], count: u16, row: &[u32]) -> u8 {
-        code(paper::tide::write(buf, count, row))
+    fn write(buf: &mut [u8], count: u16, row: &[u32]) -> u32 {
+        answer(paper::tide::write(buf, count, row))
     }
 
     #[inline(never)]
-    fn correct(message: &mut [u8], field: usize, value: u64) -> u8 {
-        code(paper::tide::correct(message, field, value))
+    fn correct(message: &mut [u8], field: usize, value: u64) -> u32 {
+        answer(paper::tide::correct(message, field, value))
     }
 
     #[inline(never)]
-    fn heights(message: &[u8], heights: &mut [i32], count: &mut usize) -> u8 {
-        code(paper::tide::heights(message, heights).map(|found| *count = found))
+    fn heights(message: &[u8], heights: &mut [i32], count: &mut usize) -> u32 {
+        answer(paper::tide::heights(message, heights).map(|found| *count = found))
     }
 }
 
@@ -94,7 +95,7 @@ impl Lent {
 }
 
 impl Input {
-    fn answer<C: Calls>(&self, lent: &mut Lent) -> u8 {
+    fn answer<C: Calls>(&self, lent: &mut Lent) -> u32 {
         let (bytes, row) = (lent.bytes.part(), lent.row.part());
         match self {
             Input::Read => C::read(bytes, &mut lent.count.part()[0], &mut lent.numbers.part()[0], row),
@@ -143,10 +144,10 @@ pub struct Tides;
 impl Family for Tides {
     const NAME: &'static str = "tide";
     const CALLS: &'static [Call] = &[
-        Call { name: "read", numbers: &[0, 1, 2, 4, 5, 6] },
-        Call { name: "write", numbers: &[0, 1, 4, 6] },
-        Call { name: "correct", numbers: &[0, 1, 2, 4, 5, 10] },
-        Call { name: "heights", numbers: &[0, 1, 2, 4, 5, 6] },
+        Call { name: "read", numbers: &[0, 1, 2, 4, 5, 6], places: places::READ },
+        Call { name: "write", numbers: &[0, 1, 4, 6], places: places::WRITE },
+        Call { name: "correct", numbers: &[0, 1, 2, 4, 5, 10], places: places::CORRECT },
+        Call { name: "heights", numbers: &[0, 1, 2, 4, 5, 6], places: places::READ },
     ];
     type Input = Input;
     type Lent = Lent;
@@ -160,11 +161,21 @@ impl Family for Tides {
         }
     }
 
-    fn proved(input: &Input, lent: &mut Lent) -> u8 {
+    fn proved(input: &Input, lent: &mut Lent) -> u32 {
         input.answer::<Proved>(lent)
     }
 
-    fn paper(input: &Input, lent: &mut Lent) -> u8 {
+    fn paper(input: &Input, lent: &mut Lent) -> u32 {
         input.answer::<Paper>(lent)
+    }
+
+    fn field(input: &Input, before: &Lent, number: u8, bit: u32) -> Option<&'static str> {
+        let message = before.bytes.see();
+        let (records, numbers) = match (input, message) {
+            (Input::Write { count }, _) => (*count, Numbers::Row(before.row.see())),
+            (_, [_, first, second, ..]) => (u16::from_be_bytes([first & 15, *second]) >> 3, Numbers::Bits(message)),
+            _ => return None,
+        };
+        (bit > 0).then(|| places::field(number, bit, records.into(), numbers))
     }
 }

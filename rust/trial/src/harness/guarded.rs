@@ -47,6 +47,10 @@ impl<T: Cell> Guarded<T> {
     pub fn part(&mut self) -> &mut [T] {
         &mut self.cells[self.start..self.end]
     }
+
+    pub fn see(&self) -> &[T] {
+        &self.cells[self.start..self.end]
+    }
 }
 
 impl<T: PartialEq> Guarded<T> {

@@ -1,10 +1,15 @@
 //! The lines of a table that a run prints.
 
+use super::places::PLACED;
+
 /// 0 and the eleven refusals.
 pub const NUMBERS: usize = 12;
 
 /// A line of a table: how often each number was answered, none where it can't be.
 pub type Row = [Option<u64>; NUMBERS];
+
+/// How many different bits were shown with 1, 4 and 5, none where there can't be any.
+pub type Shown = [Option<u64>; PLACED.len()];
 
 /// How many inputs a line is of.
 pub fn inputs(row: &Row) -> u64 {
@@ -34,11 +39,12 @@ pub fn grouped(digits: &str) -> String {
 pub fn print_head() {
     print!("{:<10}{:<16}{:>9}", "family", "call", "inputs");
     (0..NUMBERS).for_each(|number| print!("{number:>9}"));
+    PLACED.iter().for_each(|number| print!("{:>9}", format!("bits {number}")));
     println!();
 }
 
-pub fn print_row(family: &str, call: &str, row: &Row) {
+pub fn print_row(family: &str, call: &str, row: &Row, shown: &Shown) {
     print!("{family:<10}{call:<16}{:>9}", inputs(row));
-    row.iter().for_each(|count| print!("{:>9}", cell(count)));
+    row.iter().chain(shown).for_each(|count| print!("{:>9}", cell(count)));
     println!();
 }

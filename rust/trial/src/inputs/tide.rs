@@ -12,7 +12,13 @@ use draft::good_draft;
 /// The bytes of a telegram up to a bit of a number that is at an edge, or a little past it: a bad part of a point or of
 /// a time goes before what is missing behind it.
 fn cut_message(random: &mut Random, mut draft: Draft) -> Vec<u8> {
-    let at = random.below(draft.numbers.len());
+    // Few numbers open a record, and a byte ends before a longitude in the fourth at the soonest, so that one of six
+    // records is cut there at times.
+    let mut at = random.below(draft.numbers.len());
+    if random.one_in(2) {
+        draft = good_draft_with(random, &[1; 6]);
+        at = random.pick(&draft.openings()) + random.below(3);
+    }
     let parts = draft.numbers[at].parts;
     draft.numbers[at].number = parts.edge(random);
     let bits = draft.bits_before(at) as usize + random.below(parts.width() as usize + 8);

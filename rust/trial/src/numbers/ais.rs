@@ -5,6 +5,7 @@ mod messages;
 
 pub use messages::{AREAS, WARNINGS};
 
+use super::at;
 use crate::family::ais::{Calls, Kind, SlotCall};
 use crate::family::{Paper, Proved};
 use crate::harness::Tally;
@@ -71,7 +72,7 @@ fn good<C: Calls<M>, M: Kind>(case: &str, message: &[u8], row: &[i64], record: &
 }
 
 /// A message that is refused, and leaves the row.
-fn refused<C: Calls<M>, M: Kind>(case: &str, message: &[u8], due: u8, tally: &mut Tally) {
+fn refused<C: Calls<M>, M: Kind>(case: &str, message: &[u8], due: u32, tally: &mut Tally) {
     let mut row = vec![7; M::ROW];
     let code = C::read(message, &mut row);
     tally.same(case, (code, row), (due, vec![7; M::ROW]));
@@ -88,12 +89,12 @@ fn refused_warnings<C: Calls<Warning>>(who: &str, tally: &mut Tally) {
         ("warning type 6", with_bytes(cyclone, &[(7, 0x67)]), 2),
         ("24 bytes of warning type 6", [&with_bytes(cyclone, &[(7, 0x67)])[..], &[0]].concat(), 2),
         ("24 bytes", [&cyclone[..], &[0]].concat(), 1),
-        ("a bad source before the header's fill", with_bytes(cyclone, &[(1, 0xFF), (4, 0xD1)]), 4),
-        ("the header's fill before a bad longitude", with_bytes(cyclone, &[(4, 0xD1), (7, 0x1F)]), 5),
-        ("visibility 251 before the body's fill", with_bytes(fog, &[(14, 0x1F), (15, 0x61)]), 4),
-        ("the body's fill before a bad month", with_bytes(fog, &[(18, 0x10), (19, 0x0D)]), 5),
-        ("49 hours before the last fill", with_bytes(fog, &[(22, 0xC5)]), 4),
-        ("the last fill", with_bytes(fog, &[(22, 0xC2)]), 5),
+        ("a bad source before the header's fill", with_bytes(cyclone, &[(1, 0xFF), (4, 0xD1)]), at(4, 8)),
+        ("the header's fill before a bad longitude", with_bytes(cyclone, &[(4, 0xD1), (7, 0x1F)]), at(5, 38)),
+        ("visibility 251 before the body's fill", with_bytes(fog, &[(14, 0x1F), (15, 0x61)]), at(4, 115)),
+        ("the body's fill before a bad month", with_bytes(fog, &[(18, 0x10), (19, 0x0D)]), at(5, 123)),
+        ("49 hours before the last fill", with_bytes(fog, &[(22, 0xC5)]), at(4, 176)),
+        ("the last fill", with_bytes(fog, &[(22, 0xC2)]), at(5, 182)),
     ] {
         refused::<C, Warning>(&format!("{who}: {case}"), &message, due, tally);
     }
@@ -109,14 +110,14 @@ fn refused_areas<C: Calls<Area>>(who: &str, tally: &mut Tally) {
         ("shape 0 in area kind 15", with_bytes(circle, &[(11, 0xF1)]), 2),
         ("23 bytes of a circle", circle[..23].to_vec(), 1),
         ("30 bytes of area kind 15", with_bytes(circle, &[(11, 0xF5)])[..30].to_vec(), 1),
-        ("area kind 15", with_bytes(circle, &[(11, 0xF5)]), 4),
-        ("area kind 0", with_bytes(circle, &[(11, 0x05)]), 4),
+        ("area kind 15", with_bytes(circle, &[(11, 0xF5)]), at(4, 88)),
+        ("area kind 0", with_bytes(circle, &[(11, 0x05)]), at(4, 88)),
         ("message 6 with 412/03", with_bytes(circle, &[(10, 0x03)]), 2),
         ("message 8 with 412/11", with_bytes(circle, &[(0, 0x20)]), 2),
-        ("the header's fill before area kind 0", with_bytes(circle, &[(8, 0x55), (11, 0x05)]), 5),
-        ("the circle's fill before a bad month", with_bytes(circle, &[(24, 0x01), (25, 0x0D)]), 5),
-        ("advice 7 before the last fill", with_bytes(circle, &[(29, 0x49), (30, 0xC1)]), 4),
-        ("the last fill", with_bytes(circle, &[(30, 0xA0)]), 5),
+        ("the header's fill before area kind 0", with_bytes(circle, &[(8, 0x55), (11, 0x05)]), at(5, 71)),
+        ("the circle's fill before a bad month", with_bytes(circle, &[(24, 0x01), (25, 0x0D)]), at(5, 156)),
+        ("advice 7 before the last fill", with_bytes(circle, &[(29, 0x49), (30, 0xC1)]), at(4, 238)),
+        ("the last fill", with_bytes(circle, &[(30, 0xA0)]), at(5, 242)),
     ] {
         refused::<C, Area>(&format!("{who}: {case}"), &message, due, tally);
     }
@@ -124,7 +125,7 @@ fn refused_areas<C: Calls<Area>>(who: &str, tally: &mut Tally) {
 
 /// Corrections of a field that spans bytes, of one with a sign, of times, and of what another type or shape has.
 fn corrections<C: Calls<Warning> + Calls<Area>>(who: &str, tally: &mut Tally) {
-    let corrected = |message: &[u8], field: usize, value: u64, correct: fn(&mut [u8], usize, u64) -> u8| {
+    let corrected = |message: &[u8], field: usize, value: u64, correct: fn(&mut [u8], usize, u64) -> u32| {
         let mut message = message.to_vec();
         (correct(&mut message, field, value), message)
     };
@@ -132,10 +133,10 @@ fn corrections<C: Calls<Warning> + Calls<Area>>(who: &str, tally: &mut Tally) {
     for (field, value, due, others) in [
         (Warning::SOURCE, 0, 0, &[(2, 0), (3, 0), (4, 0)][..]),
         (Warning::TIME, 0, 0, &[(19, 0x60), (20, 0), (21, 0)][..]),
-        (Warning::TIME, 13 << 16, 4, &[][..]),
-        (Warning::TIME, 1 << 20, 4, &[][..]),
+        (Warning::TIME, 13 << 16, at(4, 156), &[][..]),
+        (Warning::TIME, 1 << 20, at(4, 156), &[][..]),
         (Warning::CYCLONE_PRESSURE, 511, 0, &[(18, 0xDF), (19, 0xF8)][..]),
-        (Warning::CYCLONE_PRESSURE, 512, 4, &[][..]),
+        (Warning::CYCLONE_PRESSURE, 512, at(4, 147), &[][..]),
         (Warning::GALE_RADIUS, 100, 10, &[][..]),
         (0, 0, 10, &[][..]),
         (27, 0, 10, &[][..]),
@@ -148,8 +149,8 @@ fn corrections<C: Calls<Warning> + Calls<Area>>(who: &str, tally: &mut Tally) {
     let minus_1 = &[(11, 0x17), (12, 0xFF), (13, 0xFF), (14, 0xFF), (15, 0xC8)][..];
     for (field, value, due, others) in [
         (Area::LONGITUDE, (1 << 28) - 1, 0, minus_1),
-        (Area::LONGITUDE, u64::MAX, 4, &[][..]),
-        (Area::SECOND_TIME, 24, 4, &[][..]),
+        (Area::LONGITUDE, u64::MAX, at(4, 94), &[][..]),
+        (Area::SECOND_TIME, 24, at(4, 233), &[][..]),
         (Area::CIRCLE_RADIUS, 127, 0, &[(18, 0x87), (19, 0xF0)][..]),
         (Area::RECTANGLE_LONGITUDE, 0, 10, &[][..]),
         (15, 0, 10, &[][..]),

@@ -1,6 +1,7 @@
 //! Case J, refusals whose order is easily mistaken, and places that are none of a desk.
 
 use super::ais::with_bytes;
+use super::at;
 use super::packet::packet;
 use crate::family::desk::Calls;
 use crate::family::{Paper, Proved};
@@ -27,7 +28,7 @@ fn single(number: u8) -> Vec<u8> {
 }
 
 /// What an asking answers: the number, what stands in front of the buffer and of the row, and the language.
-type Answer = (u8, Vec<u8>, Vec<u16>, u8);
+type Answer = (u32, Vec<u8>, Vec<u16>, u8);
 
 /// A language that no call has put down.
 const NONE: u8 = 9;
@@ -55,7 +56,7 @@ impl<C: Calls> Lent<C> {
     }
 
     /// The number, and whether it is marked "again".
-    fn accept(&mut self, packet: &[u8]) -> (u8, u8) {
+    fn accept(&mut self, packet: &[u8]) -> (u32, u8) {
         let mut again = NONE;
         let code = C::accept(&mut self.places, &mut self.store, packet, &mut again);
         (code, again)
@@ -71,7 +72,7 @@ impl<C: Calls> Lent<C> {
         (code, notice, missing, language)
     }
 
-    fn drop(&mut self, number: u8) -> u8 {
+    fn drop(&mut self, number: u8) -> u32 {
         C::drop(&mut self.places, &self.store, number)
     }
 }
@@ -90,7 +91,7 @@ fn cases<C: Calls>(who: &str, tally: &mut Tally) {
     bad_places::<C>(who, tally);
 }
 
-fn refused(code: u8) -> Answer {
+fn refused(code: u32) -> Answer {
     (code, Vec::new(), Vec::new(), NONE)
 }
 
@@ -154,7 +155,7 @@ fn ordered<C: Calls>(who: &str, tally: &mut Tally) {
     for (case, packet, row, store, due) in [
         ("4 bytes before all else", &first[..4], &spoiled[..267], short, [1, 6, 6]),
         ("version 2 before all else", &with_bytes(&first, &[(1, 0x50)])[..], &spoiled[..267], short, [2, 6, 6]),
-        ("own number 3 of 3 before all else", &packet(head(3), b"A")[..], &spoiled[..267], short, [4, 6, 6]),
+        ("own number 3 of 3 before all else", &packet(head(3), b"A")[..], &spoiled[..267], short, [at(4, 26), 6, 6]),
         ("a short store before the places", &first[..], &spoiled[..], short, [6, 6, 6]),
         ("a short row", &first[..], &good[..267], exact, [6, 6, 6]),
         ("no row", &first[..], &[], exact, [6, 6, 6]),

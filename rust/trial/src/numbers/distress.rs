@@ -1,5 +1,6 @@
 //! Cases C to F, and the example of 001, A.2, which C is.
 
+use super::at;
 use crate::family::distress::Calls;
 use crate::family::{Paper, Proved};
 use crate::harness::Tally;
@@ -41,7 +42,7 @@ pub fn run(tally: &mut Tally) {
 fn cases<C: Calls>(who: &str, tally: &mut Tally) {
     example::<C>(who, tally);
     longitude::<C>(&format!("{who}: case D"), 10_800_000, [0x52, 0x65, 0xC0, 0x00], 0, tally);
-    longitude::<C>(&format!("{who}: case E"), 10_800_001, [0x52, 0x65, 0xC0, 0x80], 4, tally);
+    longitude::<C>(&format!("{who}: case E"), 10_800_001, [0x52, 0x65, 0xC0, 0x80], at(4, 48), tally);
     longitude::<C>(&format!("{who}: case F"), 10_860_000, [0x52, 0xDA, 0xF0, 0x00], 0, tally);
 }
 
@@ -68,7 +69,7 @@ fn example<C: Calls>(who: &str, tally: &mut Tally) {
 }
 
 /// A longitude that is good or refused: written, read, and put in by a correction.
-fn longitude<C: Calls>(case: &str, longitude: i32, spelled: [u8; 4], due: u8, tally: &mut Tally) {
+fn longitude<C: Calls>(case: &str, longitude: i32, spelled: [u8; 4], due: u32, tally: &mut Tally) {
     let report = Report { longitude, ..EXAMPLE_REPORT };
     let message = example_with_longitude(spelled);
     let or = |kept| if due == 0 { message } else { kept };

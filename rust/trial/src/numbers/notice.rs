@@ -8,6 +8,7 @@ mod wrapped;
 pub use notices::{outermost, BARE, BARE_HEAD, CHINESE_NOTICE, WARNING};
 
 use super::ais::with_bytes;
+use super::at;
 use crate::family::notice::Calls;
 use crate::family::{Paper, Proved};
 use crate::harness::Tally;
@@ -55,7 +56,7 @@ fn good<C: Calls>(case: &str, message: &[u8], language: u8, notice: &Notice, tal
 }
 
 /// What reading a notice answers, with room for all that it could answer, and whether nothing of that was touched.
-fn answer<C: Calls>(message: &[u8], language: u8) -> (u8, bool) {
+fn answer<C: Calls>(message: &[u8], language: u8) -> (u32, bool) {
     let (mut row, mut areas, mut text) = ([7; Notice::ROW], [7; Notice::ENTRIES], [7; Notice::TEXT]);
     let code = C::read(message, language, &mut row, &mut areas, &mut text);
     (code, row == [7; Notice::ROW] && areas == [7; Notice::ENTRIES] && text == [7; Notice::TEXT])
@@ -96,17 +97,24 @@ fn not_written<C: Calls>(who: &str, tally: &mut Tally) {
     let too_wide = 1 << 21;
     for (case, language, head, count, areas, due) in [
         ("language 2", 2, BARE_HEAD, 0, &[][..], 4),
-        ("a serial too wide", CHINESE, Head { serial: 1 << 14, ..BARE_HEAD }, 0, &[], 4),
-        ("an expiry too wide", CHINESE, Head { expiry: WARNING_HEAD.expiry | too_wide, ..BARE_HEAD }, 0, &[], 4),
-        ("16 areas", CHINESE, BARE_HEAD, 16, &[0; 32], 4),
-        ("kind 8", CHINESE, BARE_HEAD, 1, &[8, 1, 0, 0], 4),
-        ("a code too wide", CHINESE, BARE_HEAD, 1, &[0, 256], 4),
-        ("16 points", CHINESE, BARE_HEAD, 1, &[1, 16], 4),
-        ("a latitude too wide", CHINESE, BARE_HEAD, 1, &[3, too_wide, 0, 0, 0], 4),
-        ("a radius too wide", CHINESE, BARE_HEAD, 1, &[3, 0, 0, 1_024, 0], 4),
-        ("a unit too wide", CHINESE, BARE_HEAD, 1, &[3, 0, 0, 0, 4], 4),
+        ("a serial too wide", CHINESE, Head { serial: 1 << 14, ..BARE_HEAD }, 0, &[], at(4, 9)),
+        (
+            "an expiry too wide",
+            CHINESE,
+            Head { expiry: WARNING_HEAD.expiry | too_wide, ..BARE_HEAD },
+            0,
+            &[],
+            at(4, 38),
+        ),
+        ("16 areas", CHINESE, BARE_HEAD, 16, &[0; 32], at(4, 59)),
+        ("kind 8", CHINESE, BARE_HEAD, 1, &[8, 1, 0, 0], at(4, 63)),
+        ("a code too wide", CHINESE, BARE_HEAD, 1, &[0, 256], at(4, 66)),
+        ("16 points", CHINESE, BARE_HEAD, 1, &[1, 16], at(4, 66)),
+        ("a latitude too wide", CHINESE, BARE_HEAD, 1, &[3, too_wide, 0, 0, 0], at(4, 66)),
+        ("a radius too wide", CHINESE, BARE_HEAD, 1, &[3, 0, 0, 1_024, 0], at(4, 109)),
+        ("a unit too wide", CHINESE, BARE_HEAD, 1, &[3, 0, 0, 0, 4], at(4, 119)),
         ("an area that is missing, which is a sea area till room is asked", CHINESE, BARE_HEAD, 1, &[], 6),
-        ("a count that is missing, which is 0", CHINESE, BARE_HEAD, 1, &[1], 4),
+        ("a count that is missing, which is 0", CHINESE, BARE_HEAD, 1, &[1], at(4, 66)),
         ("room for an area", CHINESE, BARE_HEAD, 1, &[0, 17], 6),
     ] {
         let mut buf = [7; 8];
@@ -122,18 +130,18 @@ fn not_written<C: Calls>(who: &str, tally: &mut Tally) {
 }
 
 /// A correction: the field's number, its new value, and what is answered, with the bytes that are others then.
-type Corrected = (usize, u64, u8, &'static [(usize, u8)]);
+type Corrected = (usize, u64, u32, &'static [(usize, u8)]);
 
 /// Case H, and what decides the layout or is refused with the other fields.
 const BARE_CORRECTIONS: [Corrected; 10] = [
     (3, 25, 0, &[(3, 0x65)]),
-    (3, 100, 4, &[]),
-    (3, 128, 4, &[]),
+    (3, 100, at(4, 23), &[]),
+    (3, 128, at(4, 23), &[]),
     (4, 1, 0, &[(3, 0x60), (4, 0x58)]),
-    (4, 2, 4, &[]),
-    (5, 0, 4, &[]),
+    (4, 2, at(4, 34), &[]),
+    (5, 0, at(4, 34), &[]),
     (6, 2 << 16 | 31 << 11, 0, &[(5, 0x5F)]),
-    (6, 1 << 20, 4, &[]),
+    (6, 1 << 20, at(4, 39), &[]),
     (7, 0, 10, &[]),
     (8, 0, 10, &[]),
 ];
@@ -143,12 +151,12 @@ const WARNING_CORRECTIONS: [Corrected; 13] = [
     (6, 592_640, 0, &[(5, 0x21), (6, 0x60), (7, 0x0A)]),
     (8, 0, 10, &[]),
     (9, 255, 0, &[(8, 0x3F), (9, 0xC8)]),
-    (9, 256, 4, &[]),
+    (9, 256, at(4, 66), &[]),
     (11, 1, 10, &[]),
     (21, 8_192, 0, &[(27, 0x30), (28, 0x10), (30, 0x6D)]),
-    (21, 91 << 13, 4, &[]),
+    (21, 91 << 13, at(4, 221), &[]),
     (23, 1_023, 0, &[(32, 0xC7), (33, 0xFF)]),
-    (24, 4, 4, &[]),
+    (24, 4, at(4, 273), &[]),
     (25, 4, 10, &[]),
     (32, 2_105_344, 0, &[(48, 0x2C), (49, 0x04)]),
     (33, 0, 10, &[]),
@@ -166,7 +174,7 @@ fn corrections<C: Calls>(who: &str, tally: &mut Tally) {
     WARNING_CORRECTIONS.into_iter().for_each(|corrected| correct(&WARNING, ENGLISH, corrected));
     correct(&BARE, 2, (33, 0, 4, &[]));
     correct(&BARE[..7], CHINESE, (33, 0, 1, &[]));
-    correct(&bare_with(&[0x61, 0x18, 0, 0, 0x01]), CHINESE, (33, 0, 5, &[]));
+    correct(&bare_with(&[0x61, 0x18, 0, 0, 0x01]), CHINESE, (33, 0, at(5, 63), &[]));
 }
 
 /// Case L among the points of the notice of every area; a row too short; a notice without points.

@@ -1,6 +1,7 @@
 //! Case I, refusals whose order is easily mistaken, and the splitter at its bounds.
 
 use super::ais::with_bytes;
+use super::at;
 use super::notice::BARE;
 use crate::family::packet::Calls;
 use crate::family::{Paper, Proved};
@@ -62,8 +63,8 @@ fn refused<C: Calls>(who: &str, tally: &mut Tally) {
         ("version 0", with_bytes(&good, &[(1, 0x00)]), 2),
         ("211 bytes of version 2", with_bytes(&long, &[(1, 0x40)]), 2),
         ("211 bytes", long, 1),
-        ("total 0", with_bytes(&good, &[(3, 0x00)]), 4),
-        ("own number 1 of 1", with_bytes(&good, &[(3, 0x41)]), 4),
+        ("total 0", with_bytes(&good, &[(3, 0x00)]), at(4, 20)),
+        ("own number 1 of 1", with_bytes(&good, &[(3, 0x41)]), at(4, 26)),
     ] {
         let mut row = [7; Packet::ROW];
         let code = C::read(&packet, &mut row);
@@ -74,10 +75,10 @@ fn refused<C: Calls>(who: &str, tally: &mut Tally) {
 fn not_written<C: Calls>(who: &str, tally: &mut Tally) {
     let none_of_none = Packet { total: 0, ..HEAD_RECORD };
     for (case, record, content, room, due) in [
-        ("language 2 before no content", Packet { language: 2, ..HEAD_RECORD }, 0, 0, 4),
-        ("total 0", none_of_none, 1, 5, 4),
-        ("total 64", Packet { total: 64, ..HEAD_RECORD }, 1, 5, 4),
-        ("own number 1 of 1", Packet { own: 1, ..HEAD_RECORD }, 1, 5, 4),
+        ("language 2 before no content", Packet { language: 2, ..HEAD_RECORD }, 0, 0, at(4, 11)),
+        ("total 0", none_of_none, 1, 5, at(4, 20)),
+        ("total 64", Packet { total: 64, ..HEAD_RECORD }, 1, 5, at(4, 20)),
+        ("own number 1 of 1", Packet { own: 1, ..HEAD_RECORD }, 1, 5, at(4, 26)),
         ("no content before no room", HEAD_RECORD, 0, 0, 1),
         ("207 bytes of content", HEAD_RECORD, 207, 211, 1),
         ("a byte too little", HEAD_RECORD, 206, 209, 6),
@@ -92,13 +93,13 @@ fn corrections<C: Calls>(who: &str, tally: &mut Tally) {
     let last = packet(LAST_HEAD, &[0x20]);
     for (field, value, due, others) in [
         (Packet::LANGUAGE, 0, 0, &[(1, 0x2F)][..]),
-        (Packet::LANGUAGE, 2, 4, &[]),
+        (Packet::LANGUAGE, 2, at(4, 11), &[]),
         (Packet::NUMBER, 0, 0, &[(1, 0x30), (2, 0x0F)]),
-        (Packet::NUMBER, 256, 4, &[]),
-        (Packet::TOTAL, 62, 4, &[]),
-        (Packet::TOTAL, 64, 4, &[]),
+        (Packet::NUMBER, 256, at(4, 12), &[]),
+        (Packet::TOTAL, 62, at(4, 26), &[]),
+        (Packet::TOTAL, 64, at(4, 20), &[]),
         (Packet::OWN, 0, 0, &[(3, 0xC0)]),
-        (Packet::OWN, 63, 4, &[]),
+        (Packet::OWN, 63, at(4, 26), &[]),
         (0, 0xE1, 10, &[]),
         (1, 1, 10, &[]),
         (6, 0, 10, &[]),

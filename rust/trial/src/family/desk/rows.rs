@@ -35,7 +35,7 @@ impl Calls for Rows {
         places.iter().flat_map(|place| record::Place::from(*place).bytes()).collect()
     }
 
-    fn accept(places: &mut [Place], store: &mut [u8], packet: &[u8], again: &mut u8) -> u8 {
+    fn accept(places: &mut [Place], store: &mut [u8], packet: &[u8], again: &mut u8) -> u32 {
         let mut said = [usize::from(*again), UNSAID, UNSAID];
         let code = direct::accept(&mut said, places, store, packet);
         assert_eq!(said[1..], [UNSAID; 2], "accepting says no count and no language");
@@ -51,7 +51,7 @@ impl Calls for Rows {
         missing: &mut [u16],
         count: &mut usize,
         language: &mut u8,
-    ) -> u8 {
+    ) -> u32 {
         let mut said = [UNSAID, *count, usize::from(*language)];
         let code = direct::ask(&mut said, places, store, number, notice, missing);
         assert_eq!(said[0], UNSAID, "asking says nothing of a packet");
@@ -59,7 +59,7 @@ impl Calls for Rows {
         code
     }
 
-    fn drop(places: &mut [Place], store: &[u8], number: u8) -> u8 {
+    fn drop(places: &mut [Place], store: &[u8], number: u8) -> u32 {
         let mut said = [0, UNSAID, UNSAID];
         let code = direct::drop(&mut said, places, store, number);
         assert_eq!(said, [0, UNSAID, UNSAID], "dropping says no more than done");

@@ -1,7 +1,7 @@
 //! A sequence of calls of the desk, made by both programs.
 
 use super::{Calls, Paper, ACCEPT, ACCEPT_AGAIN, ASK, DROP};
-use crate::harness::{Cell, Counts, Guarded};
+use crate::harness::{told, Cell, Counts, Guarded};
 use crate::inputs::desk::{self as inputs, Request, Traffic};
 use crate::inputs::Random;
 use bellnewt::notice::Notice;
@@ -70,7 +70,7 @@ impl Step {
         }
     }
 
-    fn answer<C: Calls>(&self, places: &mut [C::Cell], lent: &mut Lent) -> u8 {
+    fn answer<C: Calls>(&self, places: &mut [C::Cell], lent: &mut Lent) -> u32 {
         let store = &mut lent.store.part()[..self.store];
         match &self.request {
             Request::Accept(_) => C::accept(places, store, lent.packet.part(), &mut lent.again.part()[0]),
@@ -135,19 +135,19 @@ impl<C: Calls<Cell: Cell + PartialEq>> Desks<C> {
         due
     }
 
-    /// Makes a call by both programs and compares the number, and every lent cell with its guards. Answers the number.
-    fn step(&mut self, step: &Step, counts: &mut Counts, shown: impl FnOnce() -> String) -> Option<u8> {
-        let code = step.answer::<C>(&mut self.row.part()[..step.row / C::CELL], &mut self.proved);
+    /// Makes a call by both programs and compares the answers, and every lent cell with its guards. Gives the answer.
+    fn step(&mut self, step: &Step, counts: &mut Counts, shown: impl FnOnce() -> String) -> Option<u32> {
+        let answer = step.answer::<C>(&mut self.row.part()[..step.row / C::CELL], &mut self.proved);
         let due = step.answer::<Paper>(&mut self.places[..step.row / Place::BYTES], &mut self.paper);
         let row_due = self.row_due();
         let again = matches!(step.request, Request::Accept(_)) && due == 0 && self.paper.again.part()[0] == 1;
         let call = if again { ACCEPT_AGAIN } else { step.call() };
-        counts.meet(call, due);
+        counts.meet(call, due, |_, _| None);
 
         // Only 9 gives something beside its number.
-        let kept = code == 0 || code == 9 || (self.proved == self.before && self.row == self.row_before);
-        if code == due && self.row == row_due && self.proved == self.paper && kept {
-            if code == 0 || code == 9 {
+        let kept = answer == 0 || answer == 9 || (self.proved == self.before && self.row == self.row_before);
+        if answer == due && self.row == row_due && self.proved == self.paper && kept {
+            if answer == 0 || answer == 9 {
                 self.before = self.proved.clone();
                 self.row_before = row_due;
             }
@@ -155,7 +155,8 @@ impl<C: Calls<Cell: Cell + PartialEq>> Desks<C> {
         }
         let (row, lent) = (self.row.differs(&row_due), self.proved.differing(&self.paper));
         counts.differ(call, || {
-            format!("{}: {step:?}\n  proved {code}, due {due}; row differs at {row:?}; {lent:?}; kept: {kept}", shown())
+            let (shown, answer, due) = (shown(), told(answer), told(due));
+            format!("{shown}: {step:?}\n  proved {answer}, due {due}; row differs at {row:?}; {lent:?}; kept: {kept}")
         });
         None
     }

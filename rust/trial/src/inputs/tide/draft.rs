@@ -123,6 +123,11 @@ impl Draft {
         (0..self.numbers.len()).filter(|at| ptr::eq(self.numbers[*at].parts, parts)).collect()
     }
 
+    /// Where the records open.
+    pub fn openings(&self) -> Vec<usize> {
+        self.places(&POSITION)
+    }
+
     /// Makes one number of a kind another.
     fn put(&mut self, random: &mut Random, parts: &'static Parts, another: impl Fn(&mut Random, i64) -> i64) {
         let at = random.pick(&self.places(parts));

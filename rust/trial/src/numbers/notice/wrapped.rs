@@ -23,7 +23,7 @@ fn calls(tally: &mut Tally) {
     }
     tally.same("wrapper: no notice", read(&[], CHINESE), Err(Refusal::SIZE));
     let crowded = Notice { head: BARE_HEAD, areas: vec![Area::Sea { code: 0 }; 256], text: vec![] };
-    tally.same("wrapper: 256 areas", write(&mut [0; 400], CHINESE, &crowded), Err(Refusal::RANGE));
+    tally.same("wrapper: 256 areas", write(&mut [0; 400], CHINESE, &crowded), Err(Refusal::RANGE.at(59)));
     tally.same("wrapper: outline", outline(&WARNING, ENGLISH), Ok(WARNING_OUTLINE.to_vec()));
     tally.same("wrapper: an expiry's number", WARNING_EXPIRY.number(), WARNING_HEAD.expiry);
     tally.same("wrapper: a number's expiry", Expiry::of_number(WARNING_HEAD.expiry), Some(WARNING_EXPIRY));
@@ -39,7 +39,7 @@ fn corrections(tally: &mut Tally) {
         (Field::Code { area: 1 }, 99, Err(Refusal::FIELD)),
         (Field::Latitude { area: 3, point: 0 }, 90 << 13, Ok(())),
         (Field::Latitude { area: 3, point: 1 }, 0, Err(Refusal::FIELD)),
-        (Field::Longitude { area: 4, point: 2 }, 181 << 13, Err(Refusal::RANGE)),
+        (Field::Longitude { area: 4, point: 2 }, 181 << 13, Err(Refusal::RANGE.at(390))),
         (Field::Longitude { area: 4, point: 2 }, 0, Ok(())),
         (Field::Longitude { area: 5, point: 0 }, 0, Err(Refusal::FIELD)),
         (Field::Radius { area: 3 }, 30, Ok(())),

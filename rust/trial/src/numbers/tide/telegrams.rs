@@ -2,6 +2,7 @@
 //! for one reason.
 
 use crate::numbers::ais::with_bytes;
+use crate::numbers::at;
 use bellnewt::tide::{Angle, Entry, Point, Position, Tide, Time};
 
 /// One port with one observed level: Tianjin, 312 cm on 27 August at 06:30.
@@ -79,7 +80,7 @@ pub fn observed_with(others: &[(usize, u8)]) -> Vec<u8> {
 }
 
 /// Sizes, codes and what is left over: the case, and what reading it answers.
-pub fn sizes_and_codes() -> Vec<(&'static str, Vec<u8>, u8)> {
+pub fn sizes_and_codes() -> Vec<(&'static str, Vec<u8>, u32)> {
     vec![
         ("no bytes", vec![], 1),
         ("8 bytes", OBSERVED[..8].to_vec(), 1),
@@ -89,35 +90,35 @@ pub fn sizes_and_codes() -> Vec<(&'static str, Vec<u8>, u8)> {
         ("version 2", observed_with(&[(1, 0x40)]), 2),
         ("class 1", observed_with(&[(1, 0x30)]), 2),
         ("211 bytes and no records", [vec![0xE4, 0x20], vec![0; 209]].concat(), 1),
-        ("the first bit of fill", observed_with(&[(8, 0xE2)]), 5),
-        ("the last bit of fill", observed_with(&[(8, 0xE1)]), 5),
-        ("a byte left over", [&OBSERVED[..], &[0]].concat(), 1),
-        ("a fill and a byte left over", [&observed_with(&[(8, 0xE1)])[..], &[0]].concat(), 5),
+        ("the first bit of fill", observed_with(&[(8, 0xE2)]), at(5, 70)),
+        ("the last bit of fill", observed_with(&[(8, 0xE1)]), at(5, 70)),
+        ("a byte left over", [&OBSERVED[..], &[0]].concat(), at(1, 72)),
+        ("a fill and a byte left over", [&observed_with(&[(8, 0xE1)])[..], &[0]].concat(), at(5, 70)),
         ("a byte past the longest", [longest(), vec![0]].concat(), 1),
-        ("a byte too few", longest()[..209].to_vec(), 1),
+        ("a byte too few", longest()[..209].to_vec(), at(1, 1665)),
     ]
 }
 
 /// Fields that are good or refused.
-pub fn fields() -> Vec<(&'static str, Vec<u8>, u8)> {
+pub fn fields() -> Vec<(&'static str, Vec<u8>, u32)> {
     vec![
-        ("no records", observed_with(&[(2, 0x00)]), 4),
-        ("a second record that is missing", observed_with(&[(2, 0x10)]), 1),
-        ("no entries", observed_with(&[(4, 0x01)]), 4),
-        ("a second entry that is missing", observed_with(&[(4, 0x09)]), 1),
-        ("511 entries, the first with no month", observed_with(&[(3, 0x17), (4, 0xFC), (5, 0x1B)]), 4),
-        ("no time", observed_with(&[(4, 0x04), (5, 0), (6, 0), (7, 0x14)]), 4),
-        ("no month", observed_with(&[(4, 0x04)]), 4),
-        ("month 13", observed_with(&[(5, 0xBB)]), 4),
-        ("no day", observed_with(&[(5, 0x00)]), 4),
-        ("hour 24", observed_with(&[(6, 0xC3)]), 4),
-        ("minute 60", observed_with(&[(6, 0x37), (7, 0x94)]), 4),
-        ("minus nothing", observed_with(&[(7, 0xC0), (8, 0)]), 4),
+        ("no records", observed_with(&[(2, 0x00)]), at(4, 12)),
+        ("a second record that is missing", observed_with(&[(2, 0x10)]), at(1, 71)),
+        ("no entries", observed_with(&[(4, 0x01)]), at(4, 29)),
+        ("a second entry that is missing", observed_with(&[(4, 0x09)]), at(1, 71)),
+        ("511 entries, the first with no month", observed_with(&[(3, 0x17), (4, 0xFC), (5, 0x1B)]), at(4, 39)),
+        ("no time", observed_with(&[(4, 0x04), (5, 0), (6, 0), (7, 0x14)]), at(4, 39)),
+        ("no month", observed_with(&[(4, 0x04)]), at(4, 39)),
+        ("month 13", observed_with(&[(5, 0xBB)]), at(4, 39)),
+        ("no day", observed_with(&[(5, 0x00)]), at(4, 43)),
+        ("hour 24", observed_with(&[(6, 0xC3)]), at(4, 48)),
+        ("minute 60", observed_with(&[(6, 0x37), (7, 0x94)]), at(4, 53)),
+        ("minus nothing", observed_with(&[(7, 0xC0), (8, 0)]), at(4, 60)),
         ("nothing", observed_with(&[(7, 0xD0), (8, 0)]), 0),
         ("port 63", observed_with(&[(2, 0x0B), (3, 0xF0)]), 0),
-        ("latitude 91", with_bytes(&FORECAST, &[(2, 0x0D), (3, 0x6E)]), 4),
+        ("latitude 91", with_bytes(&FORECAST, &[(2, 0x0D), (3, 0x6E)]), at(4, 23)),
         ("latitude 90", with_bytes(&FORECAST, &[(2, 0x0D), (3, 0x6A)]), 0),
-        ("a second entry cut behind a bad month", with_bytes(&FORECAST[..15], &[(13, 0xBD)]), 4),
-        ("a second entry cut behind a good month", FORECAST[..15].to_vec(), 1),
+        ("a second entry cut behind a bad month", with_bytes(&FORECAST[..15], &[(13, 0xBD)]), at(4, 108)),
+        ("a second entry cut behind a good month", FORECAST[..15].to_vec(), at(1, 117)),
     ]
 }

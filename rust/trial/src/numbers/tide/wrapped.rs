@@ -26,15 +26,15 @@ fn calls(tally: &mut Tally) {
         tally.same(&format!("wrapper: {case} written"), (answer, bytes), (Ok(()), message));
     }
     tally.same("wrapper: no telegram", read(&[]), Err(Refusal::SIZE));
-    tally.same("wrapper: no records", write(&mut [0; 9], &Tide::new()), Err(Refusal::RANGE));
+    tally.same("wrapper: no records", write(&mut [0; 9], &Tide::new()), Err(Refusal::RANGE.at(12)));
     let crowded = Tide::new().with(Position::Port(1), false, &[OBSERVED_ENTRY; 512]);
-    tally.same("wrapper: 512 entries", write(&mut [0; 9], &crowded), Err(Refusal::RANGE));
+    tally.same("wrapper: 512 entries", write(&mut [0; 9], &crowded), Err(Refusal::RANGE.at(29)));
     let high = Entry { height: -1_024, ..OBSERVED_ENTRY };
     let high = Tide::new().with(Position::Port(1), false, &[high]);
-    tally.same("wrapper: a height too wide", write(&mut [0; 9], &high), Err(Refusal::RANGE));
+    tally.same("wrapper: a height too wide", write(&mut [0; 9], &high), Err(Refusal::RANGE.at(60)));
     let time = Time { month: 16, ..OBSERVED_ENTRY.time };
     let late = Tide::new().with(Position::Port(1), false, &[Entry { time, height: 0 }]);
-    tally.same("wrapper: a month too wide", write(&mut [0; 9], &late), Err(Refusal::RANGE));
+    tally.same("wrapper: a month too wide", write(&mut [0; 9], &late), Err(Refusal::RANGE.at(38)));
 }
 
 /// The records of a row.
@@ -61,7 +61,7 @@ fn corrections(tally: &mut Tally) {
         (Field::Forecast { record: 0 }, 1, Ok(())),
         (Field::Sign { record: 0, entry: 0 }, 0, Ok(())),
         (Field::Sign { record: 0, entry: 1 }, 0, Err(Refusal::FIELD)),
-        (Field::Value { record: 0, entry: 0 }, 0, Err(Refusal::RANGE)),
+        (Field::Value { record: 0, entry: 0 }, 0, Err(Refusal::RANGE.at(60))),
     ] {
         tally.same(&format!("wrapper: {field:?} of a port"), correct(&mut port, field, value), due);
     }
@@ -72,7 +72,7 @@ fn corrections(tally: &mut Tally) {
     let time = Time { next_year: true, month: 2, day: 31, hour: 0, minute: 0 };
     for (field, value, due) in [
         (Field::Port { record: 0 }, 1, Err(Refusal::FIELD)),
-        (Field::Latitude { record: 0 }, 91 << 13, Err(Refusal::RANGE)),
+        (Field::Latitude { record: 0 }, 91 << 13, Err(Refusal::RANGE.at(23))),
         (Field::Latitude { record: 0 }, 90 << 13, Ok(())),
         (Field::Longitude { record: 0 }, 1 << 21, Ok(())),
         (Field::Forecast { record: 0 }, 0, Ok(())),
