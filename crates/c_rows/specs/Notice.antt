@@ -1,8 +1,9 @@
 -- Reading a notice as numbers (paper 01, "Notice and packet"): ten of them in a lent row, those of its areas in a second, its text as bytes. Assumes nothing.
 use Prim.Native.Nat.{ℕ, zero, suc}
 use mathlib.Core.Path.{_≡_}
+use mathlib.Core.Bool.{cond}
 use mathlib.Core.List.{List, [], _∷_, _++_}
-use lib.Dec.{leb}
+use lib.Dec.{leb, eqb}
 use lib.IntN.{ℤ, pos, natAbs}
 use lib.ListN.{length, drop, getD}
 use Rattle.format.specs.Fmt.{Out, accepted, orBad, check, after}

@@ -1,6 +1,6 @@
 -- What the promise of the sentence's writing decides: one answer, and lent memory untouched by a refusal. What holds of every reading in a row stands in laws/Row, and where no refusal is told in laws/Refused and laws/Readings; of `bellnewt_distress_write` and `_correct` in format/specs/laws/Family. Assumes nothing.
 use Prim.Native.Nat.{ℕ}
-use mathlib.Core.Path.{_≡_, sym, _∙_}
+use mathlib.Core.Path.{_≡_, sym, _∙_, ap}
 use mathlib.Core.List.{List}
 use lib.ListN.{length}
 use Rattle.format.specs.Fmt.{Out, accepted, refused, also}

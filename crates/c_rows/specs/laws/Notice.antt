@@ -7,7 +7,7 @@ use native.Mathlib.Omega.{arith}
 use lib.Dec.{leb, eqb}
 use lib.IntN.{ℤ}
 use lib.ListN.{length, drop}
-use borrow.Author.Tests.{le-leb, lt-leb, leb-true}
+use borrow.Author.Tests.{le-leb, lt-leb, leb-true, ne-eqb}
 use Rattle.format.specs.Fmt.{Out, accepted, refused, orBad, check, also, after}
 use Rattle.format.specs.Message.{told, readMessage, ahead}
 use Rattle.format.specs.Refusals.{shown, bare}

@@ -151,7 +151,7 @@ module _ (language : ℕ) (s : List ℕ) where
       (leb-true language 1 l, (sym (ap outlined counts), e .1 ∙ ap (λ o. leaves o row) row-is))
     where
       never : (p : ℕ) → counted (eqb language 1) s row ≡ refused 0 p → ⊥
-      never p e = no-zero-outline (eqb language 1) s row (leaves (drawn (eqb language 1) s row) row) (sym (ap outlined e), refl)
+      never p e = no-zero-outline (eqb language 1) s row (bare 0) (leaves (drawn (eqb language 1) s row) row) refl (sym (ap outlined e), refl)
 
 -- ---- slots
 

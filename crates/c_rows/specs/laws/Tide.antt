@@ -109,4 +109,4 @@ module _ (s : List ℕ) (row : List ℤ) (n : ℕ) (c : Refusal) (t : List ℤ) 
   zero-heights z = (sym (ap heightsAnswer (zero-stands (counted s row) n m c never (tells .0) (tells .2) z)), tells .1)
     where
       never : (p : ℕ) → counted s row ≡ refused 0 p → ⊥
-      never p e = no-zero-showing s row (leaves (shown s row) row) (sym (ap heightsAnswer e), refl)
+      never p e = no-zero-showing s row (leaves (shown s row) row) (bare 0) (sym (ap heightsAnswer e), refl) refl

@@ -7,13 +7,14 @@ use native.Mathlib.Omega.{arith}
 use borrow.Author.Tests.{le-leb, lt-leb}
 use Rattle.format.specs.Fmt.{refused}
 use Rattle.format.specs.Promises.{Lays}
+use Rattle.format.specs.Refusals.{bare}
 use Rattle.notice.specs.WritingPromises.{enough}
 use borrow.Author.Needs.{needs}
 use Rattle.c_rows.proofs.notices.write.Statement.{statement}
 use Rattle.c_rows.proofs.notices.write.Tie as tie
 
 -- whether the row has enough or not
-untouched : (has : Bool) (s : List ℕ) → Lays has (refused 4 0) s 4 s
+untouched : (has : Bool) (s : List ℕ) → Lays has (refused 4 0) s (bare 4) s
 untouched true s = (refl, refl)
 untouched false s = (refl, refl)
 
