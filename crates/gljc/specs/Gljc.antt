@@ -3,9 +3,11 @@ use Prim.Native.Nat.{ℕ}
 use mathlib.Core.List.{List, [], _∷_}
 use lib.ListN.{getD}
 use Rattle.frame.specs.Frame.{frame, frames}
-use Rattle.format.specs.Fmt.{Out, accepted, refused, Fmt, end}
-use Rattle.format.specs.Message.{Layout, codeOf}
-use Rattle.format.specs.Promises.{answered}
+use Rattle.format.specs.Fmt.{Out, accepted, Fmt, end}
+use Rattle.format.specs.Message.{Layout}
+use Rattle.format.specs.Promises.{answered, refusedBy}
+use Rattle.format.specs.Refusals.{bare}
+use Rattle.format.specs.declared.Refusal.{Refusal}
 use Rattle.format.specs.Words.{_‥_, _▹_, num}
 use Rattle.gljc.specs.declared.reading.Gljc.{Gljc}
 use Rattle.gljc.specs.declared.reading.Answer.{Answer}
@@ -34,14 +36,15 @@ valuesOf r = 0x24 ∷ letters ∷ 12 ∷ r .address ∷ r .minutes ∷ []
 unfoldable pub recordOf : List ℕ → Gljc
 recordOf vs = record { address = getD vs 3 0; minutes = getD vs 4 0 }
 
--- the paper's number and values
+-- the paper's refusals and values
 abbrev pub answerOf : Out Gljc → Answer
 answerOf = answered Good Refused
 
--- an answer taken apart, and its number
+-- an answer taken apart, and its refusal
 abbrev pub outOf : Answer → Out Gljc
 outOf (Good r) = accepted r
-outOf (Refused c) = refused c 0
+outOf (Refused c) = refusedBy c
 
-abbrev pub numberOf : Answer → ℕ
-numberOf a = codeOf (outOf a)
+abbrev pub refusalOf : Answer → Refusal
+refusalOf (Good r) = bare 0
+refusalOf (Refused c) = c

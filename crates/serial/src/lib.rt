@@ -1,22 +1,23 @@
 // A serial frame of any kind (paper 01, "Serial frames"): what reading it answers.
 ghost use mathlib.Core.Path.{_≡_};
-ghost use Rattle.serial.specs.Serial.{codeAs, codeOf};
+ghost use Rattle.serial.specs.Serial.{refusalAs, refusalOf};
+use format::Refusal;
 
-// The refusal of reading a frame as that of its letters; 0 for a good one.
-pub fn code(s: &[u8]) -> u8
-    ensures { λ r. ⌜ r ≡ codeOf (now (s .entry)) ⌝ }
+// The refusal of reading a frame as that of its letters; none for a good one.
+pub fn refusal(s: &[u8]) -> Refusal
+    ensures { λ r. ⌜ r ≡ refusalOf (now (s .entry)) ⌝ }
 {
     if s.len() < frame::LEAST {
-        return format::SIZE;
+        return Refusal::SIZE;
     }
     if bits::get(s, 0, 8) != frame::DOLLAR {
-        return format::KIND;
+        return Refusal::KIND;
     }
-    code_as(bits::get(s, 8, 32), s)
+    refusal_as(bits::get(s, 8, 32), s)
 }
 
-fn code_as(letters: u64, s: &[u8]) -> u8
-    ensures { λ r. ⌜ r ≡ codeAs letters (now (s .entry)) ⌝ }
+fn refusal_as(letters: u64, s: &[u8]) -> Refusal
+    ensures { λ r. ⌜ r ≡ refusalAs letters (now (s .entry)) ⌝ }
 {
     if letters == gljc::LETTERS {
         return gljc::read(s).refusal();
@@ -30,5 +31,5 @@ fn code_as(letters: u64, s: &[u8]) -> u8
     if letters == txhz::LETTERS {
         return txhz::read(s).refusal();
     }
-    format::KIND
+    Refusal::KIND
 }

@@ -5,11 +5,13 @@ use Prim.Native.Nat.{ℕ}
 use Rattle.bits.specs.Bits.{bit, valueOf, digits, bitsOf, bytesOf, fieldAt}
 use Rattle.bits.specs.Xor.{xorOf}
 use Rattle.frame.specs.Frame.{leads}
-use Rattle.format.specs.Fmt.{accepted, refused, readField, read, writeField, write, spot}
-use Rattle.format.specs.Message.{readMessage, writeMessage, correctMessage}
+use Rattle.format.specs.Fmt.{accepted, readField, read, writeField, write, spot}
+use Rattle.format.specs.Message.{told, readMessage, writeMessage, correctMessage}
 use Rattle.format.specs.Promises.{readRecord}
 use Rattle.format.specs.Words.{walk}
 use Rattle.txhz.specs.Txhz.{txhz, txhzs, valuesOf, recordOf}
+use Rattle.txhz.specs.Promises.{Reads}
+use Rattle.txhz.specs.declared.reading.Answer.the-variants.{Refused}
 use Rattle.txhz.specs.declared.reading.Receipt.{Receipt}
 use Rattle.txhz.specs.declared.reading.Txhz.{Txhz}
 
@@ -42,7 +44,7 @@ fourth-corrected : correctMessage txhzs frame 20 11
 unfolding correctMessage readMessage writeMessage txhzs txhz leads read readField write writeField spot walk fieldAt valueOf bit digits bitsOf bytesOf xorOf
 fourth-corrected = refl
 
--- ---- the count
+-- ---- the count: behind the own address, bits 56 to 79, the receiver is 80 to 103, the count 104 to 111, and receipts of 32 bits each begin at 112
 
 -- from 1 to 2, with the receipt 12:30, 13:00, the others zero, and a last byte
 abbrev message : ℕ → ℕ → List ℕ
@@ -51,7 +53,7 @@ message count last =
     ∷ 12 ∷ 30 ∷ 13 ∷ 0 ∷ 0 ∷ 0 ∷ 0 ∷ 0 ∷ 0 ∷ 0 ∷ 0 ∷ 0 ∷ 0 ∷ 0 ∷ 0 ∷ 0 ∷ 0 ∷ 0 ∷ 0 ∷ 0 ∷ last ∷ []
 
 -- a receipt that is not counted is fill: the count lowered over one that is not zero is 5, at its first byte
-lowered : correctMessage txhzs (message 1 0x04) 5 0 ≡ refused 5 112
+lowered : told (correctMessage txhzs (message 1 0x04) 5 0) ≡ record { code = 5; bit = 112 }
 unfolding correctMessage readMessage writeMessage txhzs txhz leads read readField write writeField spot walk fieldAt valueOf bit digits bitsOf bytesOf xorOf
 lowered = refl
 
@@ -61,15 +63,26 @@ unfolding correctMessage readMessage writeMessage txhzs txhz leads read readFiel
 raised = refl
 
 -- a byte of a receipt past the count is no field to correct; of one that is counted, it is, in its range
-uncounted : correctMessage txhzs (message 1 0x04) 10 23 ≡ refused 10 0
+uncounted : told (correctMessage txhzs (message 1 0x04) 10 23) ≡ record { code = 10; bit = 0 }
 unfolding correctMessage readMessage txhzs txhz leads read readField spot walk fieldAt valueOf bit digits bitsOf xorOf
 uncounted = refl
 
-counted : correctMessage txhzs (message 2 0x07) 10 24 ≡ refused 4 144
+counted : told (correctMessage txhzs (message 2 0x07) 10 24) ≡ record { code = 4; bit = 144 }
 unfolding correctMessage readMessage writeMessage txhzs txhz leads read readField write writeField spot walk fieldAt valueOf bit digits bitsOf xorOf
 counted = refl
 
--- a count of 6 is 4
-too-many : correctMessage txhzs (message 1 0x04) 5 6 ≡ refused 4 104
+-- a count of 6 is 4, whether it is corrected to that or read
+too-many : told (correctMessage txhzs (message 1 0x04) 5 6) ≡ record { code = 4; bit = 104 }
 unfolding correctMessage readMessage writeMessage txhzs txhz leads read readField write writeField spot walk fieldAt valueOf bit digits bitsOf xorOf
 too-many = refl
+
+too-many-read : Reads (message 6 0x03) (Refused (record { code = 4; bit = 104 }))
+unfolding readMessage txhzs txhz leads read readField walk fieldAt valueOf bit digits bitsOf xorOf
+too-many-read = refl
+
+-- one receipt is counted, and the second, which is not, is zero up to its sent minute: 5 at that byte, 144 + 8
+not-zero : Reads (
+    0x24 ∷ 0x54 ∷ 0x58 ∷ 0x48 ∷ 0x5A ∷ 0x00 ∷ 0x23 ∷ 0x00 ∷ 0x00 ∷ 0x01 ∷ 0x00 ∷ 0x00 ∷ 0x02 ∷ 0x01
+    ∷ 12 ∷ 30 ∷ 13 ∷ 0 ∷ 0 ∷ 7 ∷ 0 ∷ 0 ∷ 0 ∷ 0 ∷ 0 ∷ 0 ∷ 0 ∷ 0 ∷ 0 ∷ 0 ∷ 0 ∷ 0 ∷ 0 ∷ 0 ∷ 0x03 ∷ []) (Refused (record { code = 5; bit = 152 }))
+unfolding readMessage txhzs txhz leads read readField walk fieldAt valueOf bit digits bitsOf xorOf
+not-zero = refl

@@ -5,9 +5,11 @@ use mathlib.Core.List.{List, [], _∷_}
 use lib.Dec.{ltb}
 use lib.ListN.{getD}
 use Rattle.frame.specs.Frame.{address, lastHour, lastMinute, frame, frames}
-use Rattle.format.specs.Fmt.{Out, accepted, refused, Fmt, end, field}
-use Rattle.format.specs.Message.{Layout, codeOf}
-use Rattle.format.specs.Promises.{answered}
+use Rattle.format.specs.Fmt.{Out, accepted, Fmt, end, field}
+use Rattle.format.specs.Message.{Layout}
+use Rattle.format.specs.Promises.{answered, refusedBy}
+use Rattle.format.specs.Refusals.{bare}
+use Rattle.format.specs.declared.Refusal.{Refusal}
 use Rattle.format.specs.Words.{_‥_, _▹_, only, num, ago}
 use Rattle.txhz.specs.declared.reading.Receipt.{Receipt}
 use Rattle.txhz.specs.declared.reading.Txhz.{Txhz}
@@ -73,17 +75,18 @@ recordOf vs = record {
   fifth = receiptOf vs 22;
 }
 
--- the paper's number and values
+-- the paper's refusals and values
 abbrev pub answerOf : Out Txhz → Answer
 answerOf = answered Good Refused
 
--- an answer taken apart, and its number
+-- an answer taken apart, and its refusal
 abbrev pub outOf : Answer → Out Txhz
 outOf (Good r) = accepted r
-outOf (Refused c) = refused c 0
+outOf (Refused c) = refusedBy c
 
-abbrev pub numberOf : Answer → ℕ
-numberOf a = codeOf (outOf a)
+abbrev pub refusalOf : Answer → Refusal
+refusalOf (Good r) = bare 0
+refusalOf (Refused c) = c
 
 -- how many receipts an answer's frame counts
 abbrev pub countOf : Answer → ℕ

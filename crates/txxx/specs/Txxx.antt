@@ -6,9 +6,11 @@ use lib.Dec.{leb}
 use lib.ListN.{length, getD}
 use Rattle.bits.specs.Bits.{fieldAt}
 use Rattle.frame.specs.Frame.{frame, frames, address, hour, minute, declared, fits, contentOf}
-use Rattle.format.specs.Fmt.{Out, accepted, refused, Fmt, end, choice, pad}
-use Rattle.format.specs.Message.{Layout, codeOf}
-use Rattle.format.specs.Promises.{answered}
+use Rattle.format.specs.Fmt.{Out, accepted, Fmt, end, choice, pad}
+use Rattle.format.specs.Message.{Layout}
+use Rattle.format.specs.Promises.{answered, refusedBy}
+use Rattle.format.specs.Refusals.{bare}
+use Rattle.format.specs.declared.Refusal.{Refusal}
 use Rattle.format.specs.Words.{Test, _‥_, _▹_, num, twice, content, ago}
 use Rattle.txxx.specs.declared.reading.Txxx.{Txxx}
 use Rattle.txxx.specs.declared.reading.Answer.{Answer}
@@ -85,14 +87,15 @@ recordOf vs = (
   contentOf (getD vs 8 0) (getD vs 9 0) (getD vs 10 0),
 )
 
--- the paper's number and values; the content is shown beside them
+-- the paper's refusals and values; the content is shown beside them
 abbrev pub answerOf : Out (Txxx × List ℕ) → Answer
 answerOf = answered (λ r. Good (r .0)) Refused
 
--- an answer taken apart, and its number
+-- an answer taken apart, and its refusal
 abbrev pub outOf : Answer → Out Txxx
 outOf (Good r) = accepted r
-outOf (Refused c) = refused c 0
+outOf (Refused c) = refusedBy c
 
-abbrev pub numberOf : Answer → ℕ
-numberOf a = codeOf (outOf a)
+abbrev pub refusalOf : Answer → Refusal
+refusalOf (Good r) = bare 0
+refusalOf (Refused c) = c

@@ -11,6 +11,8 @@ use Rattle.frame.specs.laws.Head.{head-numbered}
 use Rattle.frame.specs.laws.Sound.{frame-sound}
 use Rattle.format.specs.Fmt.{accepted, read}
 use Rattle.format.specs.Settled.{Settled}
+use Rattle.format.specs.Refusals.{bare}
+use Rattle.format.specs.declared.Refusal.{Refusal}
 use Rattle.format.specs.Promises.{readRecord, Writes, Corrects}
 use Rattle.format.specs.laws.Answers.{good-read, answer-plain}
 use Rattle.format.specs.laws.Entries.{entries, legal-entries}
@@ -71,15 +73,15 @@ pub good : (s : List ℕ) (r : Gljc) → Reads s (Good r) → readRecord gljcs r
 good s r = good-read Good Refused outOf (λ q. refl) (λ c. refl) (readRecord gljcs recordOf s)
 
 -- What is written is read back as the same record.
-pub written-reads : (s : List ℕ) (r : Gljc) (t : List ℕ) → Writes gljcs s 0 t (valuesOf r) → Reads (take 12 t) (Good r)
+pub written-reads : (s : List ℕ) (r : Gljc) (t : List ℕ) → Writes gljcs s (bare 0) t (valuesOf r) → Reads (take 12 t) (Good r)
 unfolding gljcs
 written-reads s r t w = sym (ap answerOf (written-front family s r t 12 tt w (one-size gljcs 12 refl refl (valuesOf r))))
 
 -- What is read is written back as the same bytes.
-pub read-writes-back : (s : List ℕ) (r : Gljc) → Bytes s → Reads s (Good r) → (u : List ℕ) (code : ℕ) (t : List ℕ) → length s ≤ length u → Writes gljcs u code t (valuesOf r)
-    → (code ≡ 0) × (t ≡ s ++ drop (length s) u)
+pub read-writes-back : (s : List ℕ) (r : Gljc) → Bytes s → Reads s (Good r) → (u : List ℕ) (code : Refusal) (t : List ℕ) → length s ≤ length u → Writes gljcs u code t (valuesOf r)
+    → (code ≡ bare 0) × (t ≡ s ++ drop (length s) u)
 read-writes-back s r fine a = read-written family s r fine (good s r a)
 
 -- Demand 3: every correction of a frame GLJC, by any number and any value.
-pub corrected : (s : List ℕ) (a : Answer) → Bytes s → Reads s a → (i v code : ℕ) (t : List ℕ) → Corrects gljcs s i v code t → Settled gljcs (λ r. spotOf) valuesOf changed s (outOf a) i v code t
+pub corrected : (s : List ℕ) (a : Answer) → Bytes s → Reads s a → (i v : ℕ) (code : Refusal) (t : List ℕ) → Corrects gljcs s i v code t → Settled gljcs (λ r. spotOf) valuesOf changed s (outOf a) i v code t
 corrected s a fine reads i v code t c = settled family (λ r. spotOf) spotted s fine i v code t c (outOf a) (answer-plain Good Refused outOf (λ q. refl) (λ c. refl) (readRecord gljcs recordOf s) reads)

@@ -11,6 +11,8 @@ use Rattle.frame.specs.laws.Head.{head-numbered}
 use Rattle.frame.specs.laws.Sound.{frame-sound}
 use Rattle.format.specs.Fmt.{accepted, end, read}
 use Rattle.format.specs.Settled.{Settled}
+use Rattle.format.specs.Refusals.{bare}
+use Rattle.format.specs.declared.Refusal.{Refusal}
 use Rattle.format.specs.Promises.{readRecord, Writes, Corrects}
 use Rattle.format.specs.laws.Answers.{good-read, answer-plain}
 use Rattle.format.specs.laws.Entries.{entries, legal-entries}
@@ -80,15 +82,15 @@ pub good : (s : List ℕ) (r : Txhz) → Reads s (Good r) → readRecord txhzs r
 good s r = good-read Good Refused outOf (λ q. refl) (λ c. refl) (readRecord txhzs recordOf s)
 
 -- What is written is read back as the same record.
-pub written-reads : (s : List ℕ) (r : Txhz) (t : List ℕ) → Writes txhzs s 0 t (valuesOf r) → Reads (take 35 t) (Good r)
+pub written-reads : (s : List ℕ) (r : Txhz) (t : List ℕ) → Writes txhzs s (bare 0) t (valuesOf r) → Reads (take 35 t) (Good r)
 unfolding txhzs
 written-reads s r t w = sym (ap answerOf (written-front family s r t 35 tt w (one-size txhzs 35 refl refl (valuesOf r))))
 
 -- What is read is written back as the same bytes.
-pub read-writes-back : (s : List ℕ) (r : Txhz) → Bytes s → Reads s (Good r) → (u : List ℕ) (code : ℕ) (t : List ℕ) → length s ≤ length u → Writes txhzs u code t (valuesOf r)
-    → (code ≡ 0) × (t ≡ s ++ drop (length s) u)
+pub read-writes-back : (s : List ℕ) (r : Txhz) → Bytes s → Reads s (Good r) → (u : List ℕ) (code : Refusal) (t : List ℕ) → length s ≤ length u → Writes txhzs u code t (valuesOf r)
+    → (code ≡ bare 0) × (t ≡ s ++ drop (length s) u)
 read-writes-back s r fine a = read-written family s r fine (good s r a)
 
 -- Demand 3: every correction of a frame TXHZ, by any number and any value.
-pub corrected : (s : List ℕ) (a : Answer) → Bytes s → Reads s a → (i v code : ℕ) (t : List ℕ) → Corrects txhzs s i v code t → Settled txhzs spotOf valuesOf changed s (outOf a) i v code t
+pub corrected : (s : List ℕ) (a : Answer) → Bytes s → Reads s a → (i v : ℕ) (code : Refusal) (t : List ℕ) → Corrects txhzs s i v code t → Settled txhzs spotOf valuesOf changed s (outOf a) i v code t
 corrected s a fine reads i v code t c = settled family spotOf spotted s fine i v code t c (outOf a) (answer-plain Good Refused outOf (λ q. refl) (λ c. refl) (readRecord txhzs recordOf s) reads)

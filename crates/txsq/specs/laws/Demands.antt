@@ -23,6 +23,8 @@ use Rattle.format.specs.laws.Round.{read-write}
 use Rattle.format.specs.laws.Settled.{settled}
 use Rattle.format.specs.laws.Zero.{Judged, only-numbered, twice-numbered}
 use Rattle.format.specs.Settled.{Settled}
+use Rattle.format.specs.Refusals.{bare}
+use Rattle.format.specs.declared.Refusal.{Refusal}
 use Rattle.format.specs.Promises.{answered, readRecord, Writes, Corrects}
 use Rattle.format.specs.Message.{writeMessage}
 use Rattle.format.specs.laws.Whole.{was, write-read-message}
@@ -144,18 +146,18 @@ written-long r m e =
     omega (arith, long b vs walked .0, fit vs h, content-size r h, n)
 
 -- What is written is read back as the same record, and the same content is shown.
-pub written-reads : (s : List ℕ) (r : Txsq) (c t : List ℕ) → Bytes c → Writes txsqs s 0 t (valuesOf (r, c)) → let m = take (18 + length c) t in Reads m (Good r) × Shows m c
+pub written-reads : (s : List ℕ) (r : Txsq) (c t : List ℕ) → Bytes c → Writes txsqs s (bare 0) t (valuesOf (r, c)) → let m = take (18 + length c) t in Reads m (Good r) × Shows m c
 written-reads s r c t fine w =
     let e = written-front family s (r, c) t (18 + length c) fine w (written-long (r, c)) in
     (sym (ap answerOf e), sym (ap (answered (λ r. r .1) (λ n. [])) e))
 
 -- What is read and shown is written back as the same bytes.
-pub read-writes-back : (s : List ℕ) (r : Txsq) (c : List ℕ) → Bytes s → Reads s (Good r) → Shows s c → (u : List ℕ) (code : ℕ) (t : List ℕ) → length s ≤ length u → Writes txsqs u code t (valuesOf (r, c))
-    → (code ≡ 0) × (t ≡ s ++ drop (length s) u)
+pub read-writes-back : (s : List ℕ) (r : Txsq) (c : List ℕ) → Bytes s → Reads s (Good r) → Shows s c → (u : List ℕ) (code : Refusal) (t : List ℕ) → length s ≤ length u → Writes txsqs u code t (valuesOf (r, c))
+    → (code ≡ bare 0) × (t ≡ s ++ drop (length s) u)
 read-writes-back s r c fine a b = read-written family s (r, c) fine (good s r c a b)
 
 -- Demand 3: every correction of a frame TXSQ, by any number and any value; the content c that it shows stays.
-pub corrected : (s : List ℕ) (a : Answer) (c : List ℕ) → Bytes s → Reads s a → Shows s c → (i v code : ℕ) (t : List ℕ) → Corrects txsqs s i v code t
+pub corrected : (s : List ℕ) (a : Answer) (c : List ℕ) → Bytes s → Reads s a → Shows s c → (i v : ℕ) (code : Refusal) (t : List ℕ) → Corrects txsqs s i v code t
     → Settled txsqs (λ r. spotOf) valuesOf changed s (also (λ r. (r, c)) (outOf a)) i v code t
 corrected s a c fine reads shows i v code t x =
     settled family (λ r. spotOf) spotted s fine i v code t x (also (λ r. (r, c)) (outOf a)) (shown-plain Good Refused outOf (λ q. refl) (λ c. refl) (readRecord txsqs recordOf s) reads shows)

@@ -16,24 +16,25 @@ use Rattle.format.specs.laws.Entries.{entries}
 use Rattle.format.specs.laws.Legal.{legal}
 use Rattle.format.specs.laws.Round.{read-write}
 use Rattle.format.specs.Words.{any, _‥_, only, kept, fill}
+use Rattle.format.specs.declared.Refusal.{Refusal}
 use Rattle.format.specs.laws.Showing.{shows-none, shows-values}
 use Rattle.format.specs.laws.Whole.{was}
 use Rattle.txsq.specs.Promises.{Reads, Shows}
-use Rattle.txsq.specs.Txsq.{txsq, txsqs, recordOf, numberOf}
+use Rattle.txsq.specs.Txsq.{txsq, txsqs, recordOf, refusalOf}
 use Rattle.txsq.specs.declared.reading.Answer.{Answer}
 use Rattle.txsq.specs.declared.reading.Answer.the-variants.{Good, Refused}
 use Rattle.txsq.specs.laws.Demands.{family, listed, long, fit}
 
-module _ (s : List ℕ) {a : Answer} {n : ℕ} (reads : Reads s a) (number : n ≡ numberOf a) where
+module _ (s : List ℕ) {a : Answer} {n : Refusal} (reads : Reads s a) (number : n ≡ refusalOf a) where
   -- a refused frame shows nothing
-  pub hidden : (n ≡ 0 → ⊥) → Shows s []
-  hidden = shows-none txsqs (family .judged) (λ r. Good (r .0)) Refused recordOf numberOf (λ r. refl) (λ c. refl) (λ r. r .1) [] s reads number
+  pub hidden : (n .code ≡ 0 → ⊥) → Shows s []
+  hidden = shows-none txsqs (family .judged) (λ r. Good (r .0)) Refused recordOf refusalOf (λ r. refl) (λ c. refl) (λ r. r .1) [] s reads number
 
   -- A good frame is long enough, and shows its content.
-  pub shown : Bytes s → n ≡ 0 → (18 ≤ length s) × Shows s (take (length s - 1 - 17) (drop 17 s))
+  pub shown : Bytes s → n .code ≡ 0 → (18 ≤ length s) × Shows s (take (length s - 1 - 17) (drop 17 s))
   unfolding txsqs txsq recordOf entries
   shown fine z =
-      let (vs, e, is-shown) = shows-values txsqs (family .judged) (λ r. Good (r .0)) Refused recordOf numberOf (λ r. refl) (λ c. refl) (λ r. r .1) [] s reads number z in
+      let (vs, e, is-shown) = shows-values txsqs (family .judged) (λ r. Good (r .0)) Refused recordOf refusalOf (λ r. refl) (λ c. refl) (λ r. r .1) [] s reads number z in
       let b = bitsOf (take (length s - 1) s) in
       let walked : read txsq [] 0 b ≡ accepted vs = was txsqs s vs e .walked in
       let h = legal txsq [] 0 vs b (read-write txsq [] 0 vs b walked) in

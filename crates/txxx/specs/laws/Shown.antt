@@ -18,25 +18,26 @@ use Rattle.format.specs.laws.Entries.{entries}
 use Rattle.format.specs.laws.Legal.{legal}
 use Rattle.format.specs.laws.Round.{also-inv, read-write}
 use Rattle.format.specs.Words.{any, _‥_, only, kept, num, fill}
+use Rattle.format.specs.declared.Refusal.{Refusal}
 use Rattle.format.specs.laws.Showing.{shows-none, shows-values}
 use Rattle.format.specs.laws.Whole.{was}
 use Rattle.txxx.specs.Promises.{Reads, Shows}
-use Rattle.txxx.specs.Txxx.{txxx, txxxs, recordOf, numberOf}
+use Rattle.txxx.specs.Txxx.{txxx, txxxs, recordOf, refusalOf}
 use Rattle.txxx.specs.declared.reading.Txxx.{Txxx}
 use Rattle.txxx.specs.declared.reading.Answer.{Answer}
 use Rattle.txxx.specs.declared.reading.Answer.the-variants.{Good, Refused}
 use Rattle.txxx.specs.laws.Demands.{family, listed, read-long}
 
-module _ (s : List ℕ) {a : Answer} {n : ℕ} (reads : Reads s a) (number : n ≡ numberOf a) where
+module _ (s : List ℕ) {a : Answer} {n : Refusal} (reads : Reads s a) (number : n ≡ refusalOf a) where
   -- a refused frame shows nothing
-  pub hidden : (n ≡ 0 → ⊥) → Shows s []
-  hidden = shows-none txxxs (family .judged) (λ r. Good (r .0)) Refused recordOf numberOf (λ r. refl) (λ c. refl) (λ r. r .1) [] s reads number
+  pub hidden : (n .code ≡ 0 → ⊥) → Shows s []
+  hidden = shows-none txxxs (family .judged) (λ r. Good (r .0)) Refused recordOf refusalOf (λ r. refl) (λ c. refl) (λ r. r .1) [] s reads number
 
   -- A good frame is long enough, and shows its content.
-  pub shown : Bytes s → n ≡ 0 → (20 ≤ length s) × Shows s (take (length s - 2 - 18) (drop 18 s))
+  pub shown : Bytes s → n .code ≡ 0 → (20 ≤ length s) × Shows s (take (length s - 2 - 18) (drop 18 s))
   unfolding txxxs txxx recordOf entries
   shown fine z =
-      let (vs, e, is-shown) = shows-values txxxs (family .judged) (λ r. Good (r .0)) Refused recordOf numberOf (λ r. refl) (λ c. refl) (λ r. r .1) [] s reads number z in
+      let (vs, e, is-shown) = shows-values txxxs (family .judged) (λ r. Good (r .0)) Refused recordOf refusalOf (λ r. refl) (λ c. refl) (λ r. r .1) [] s reads number z in
       let b = bitsOf (take (length s - 1) s) in
       let walked : read txxx [] 0 b ≡ accepted vs = was txxxs s vs e .walked in
       let l = getD vs 8 0 in

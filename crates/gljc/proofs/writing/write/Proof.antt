@@ -9,7 +9,7 @@ use Rattle.gljc.proofs.writing.write.Tie as tie
 returns : tie.Need-returns
 unfolding gljcs
 returns c =
-    let closes = c .before in
+    let closes = c .before .before in
     let j = closes .before .before in
     let a = j .before .before .args in
     write-refused gljcs (valuesOf (a .r)) (a .buf .now) (j .judged .ensures) (closes .closes .ensures) (c .if1 .taken)
@@ -20,7 +20,7 @@ returns-2 c =
     let stamp = c .before .before in
     let p = stamp .before .before .before .before in
     let test = p .before .before in
-    let closes = test .before in
+    let closes = test .before .before in
     let n = closes .before in
     let j = n .before in
     let a = j .before .before .args in

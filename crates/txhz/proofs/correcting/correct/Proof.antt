@@ -1,7 +1,7 @@
 -- `correct` is the correction in place of every family, with the frame's fields read before and behind the change and where its fields stand by its count.
 use mathlib.Core.Path.{refl}
 use Rattle.format.specs.laws.Corrections.{family-sized}
-use Rattle.txhz.specs.Txhz.{txhzs, numberOf}
+use Rattle.txhz.specs.Txhz.{txhzs, refusalOf}
 use Rattle.txhz.specs.laws.Correction.{looked-stands}
 use Rattle.txhz.specs.laws.Demands.{family}
 use Rattle.txhz.specs.declared.reading.Answer.the-variants.{Good, Refused}
@@ -25,7 +25,7 @@ returns c =
     let a = known .before .args in
     let s = a .buf .now in
     let (there, slim) = look .stands .ensures in
-    family-sized family Good Refused numberOf (λ r. refl) (λ c. refl) s (a .field) (a .value) _ _ (was .read .ensures) (number .refusal .ensures)
+    family-sized family Good Refused refusalOf (λ r. refl) (λ c. refl) s (a .field) (a .value) _ _ (was .read .ensures) (number .refusal .ensures)
     (looked-stands s (a .field) (look .stands .result .at) (look .stands .result .width) (was .read .ensures) (count .count .ensures) there) slim
     (λ i. known .slice-known .given i .fits) (begin .begin .ensures) (inner .inner .ensures) (f .fields .ensures) (again .refusal2 .ensures) (finish .finish-sealed .ensures)
 

@@ -4,6 +4,8 @@ use mathlib.Core.Bool.{cond}
 use lib.Dec.{lit<, lit≤}
 use Rattle.format.specs.Fmt.{also}
 use Rattle.frame.specs.laws.Head.{head-read}
+use Rattle.format.specs.Refusals.{bare}
+use Rattle.format.specs.laws.Refusals.{shown-bare}
 use Rattle.format.specs.laws.Answers.{told-so}
 use Rattle.walk.specs.laws.Reading.{step-num}
 use Rattle.walk.specs.laws.Walked.{finish}
@@ -18,15 +20,16 @@ use Rattle.txhz.proofs.reading.fields.Tie as tie
 
 returns : tie.Need-returns
 returns c =
-    let test = c .before .before in
+    let choose = c .before in
+    let test = choose .before .before in
     let a = test .before .before .args in
-    ap Refused (c .choose-code .ensures ∙ ap (λ x. cond x 1 (a .code)) (c .before .no-refusal .ensures))
+    ap Refused (c .bare .ensures ∙ ap bare (choose .choose-code .ensures ∙ ap (λ x. cond x 1 (a .code)) (choose .before .no-refusal .ensures)) ∙ sym (shown-bare _))
     ∙ sym (ap (λ o. answerOf (also recordOf o)) (other-size txhz 34 34 (a .code) (a .s .now) (λ l u. test .if1 .taken (omega (arith, l, u)))))
 
 returns-2 : tie.Need-returns-2
 unfolding txhz recordOf
 returns-2 c =
-    let ended = c .before in
+    let ended = c .before .before in
     let c7 = ended .before .before in
     let c6 = c7 .before .before in
     let c5 = c6 .before .before in
@@ -47,14 +50,14 @@ returns-2 c =
     let r6 = receipt-read 3 _ (lit< tt) refl refl r5 (c6 .read-receipt4 .ensures) in
     let r7 = receipt-read 4 _ (lit< tt) refl refl r6 (c7 .read-receipt5 .ensures) in
     let w = finish (lit< tt) r7 (ended .end .ensures) in
-    c .told .ensures ∙ told-so Good Refused recordOf _ _ (ended .end .result .code) (ended .end .result .offset) (w .so)
+    c .told .ensures ∙ told-so Good Refused recordOf _ _ (ended .end .result .code) (ended .end .result .offset) (c .before .refusal .ensures) (w .so)
     ∙ sym (ap (λ o. answerOf (also recordOf o)) (exact-fields txhz 34 (a .code) s (λ z. test .if1 .left)))
 
 pub fields-spec : {M : Type 1} → statement M
 fields-spec =
     tie.close
     (tie.spec
-    (λ c κs. search needs) (λ c κs. search needs)
+    (λ c κs. search needs) (λ c κs. search needs) (λ c κs. search needs)
     returns
-    (λ c κs. search needs) (λ c. search needs) (λ c κs. search needs) (λ c. search needs) (λ c κs. search needs) (λ c. search needs) (λ c κs. search needs) (λ c κs. search needs) (λ c κs. search needs) (λ c κs. search needs) (λ c κs. search needs) (λ c κs. search needs) (λ c κs. search needs)
+    (λ c κs. search needs) (λ c. search needs) (λ c κs. search needs) (λ c. search needs) (λ c κs. search needs) (λ c. search needs) (λ c κs. search needs) (λ c κs. search needs) (λ c κs. search needs) (λ c κs. search needs) (λ c κs. search needs) (λ c κs. search needs) (λ c κs. search needs) (λ c κs. search needs)
     returns-2)

@@ -1,7 +1,7 @@
 -- `correct` is the correction in place of every family, with the frame's fields read before and behind the change and where `stands` found the field.
 use mathlib.Core.Path.{refl, _∙_}
 use Rattle.format.specs.laws.Corrections.{family-corrected}
-use Rattle.txsq.specs.Txsq.{txsqs, numberOf}
+use Rattle.txsq.specs.Txsq.{txsqs, refusalOf}
 use Rattle.txsq.specs.laws.Correction.{spotted}
 use Rattle.txsq.specs.laws.Demands.{family}
 use Rattle.txsq.specs.declared.reading.Answer.the-variants.{Good, Refused}
@@ -23,7 +23,7 @@ returns c =
     let known = was .before .before in
     let a = known .before .args in
     let (there, slim) = look .stands .ensures in
-    family-corrected family (λ r. Good (r .0)) Refused numberOf (λ r. refl) (λ c. refl) (a .buf .now) (a .field) (a .value) _ _ (was .read .ensures) (number .refusal .ensures)
+    family-corrected family (λ r. Good (r .0)) Refused refusalOf (λ r. refl) (λ c. refl) (a .buf .now) (a .field) (a .value) _ _ (was .read .ensures) (number .refusal .ensures)
     (λ r e. spotted r (a .field) ∙ there) slim
     (λ i. known .slice-known .given i .fits) (begin .begin .ensures) (inner .inner .ensures) (f .fields .ensures) (again .refusal2 .ensures) (finish .finish-sealed .ensures)
 

@@ -2,7 +2,7 @@
 use mathlib.Core.Path.{refl, sym, ap, _∙_}
 use Rattle.format.specs.laws.Corrections.{family-corrected}
 use Rattle.txxx.specs.Changed.{spotBy}
-use Rattle.txxx.specs.Txxx.{txxxs, numberOf}
+use Rattle.txxx.specs.Txxx.{txxxs, refusalOf}
 use Rattle.txxx.specs.laws.Correction.{spotted}
 use Rattle.txxx.specs.laws.Demands.{family}
 use Rattle.txxx.specs.laws.Shown.{mark-stands}
@@ -26,7 +26,7 @@ returns c =
     let known = was .before .before in
     let a = known .before .args in
     let (there, slim) = look .stands .ensures in
-    family-corrected family (λ r. Good (r .0)) Refused numberOf (λ r. refl) (λ c. refl) (a .buf .now) (a .field) (a .value) _ _ (was .read .ensures) (number .refusal .ensures)
+    family-corrected family (λ r. Good (r .0)) Refused refusalOf (λ r. refl) (λ c. refl) (a .buf .now) (a .field) (a .value) _ _ (was .read .ensures) (number .refusal .ensures)
     (λ r e. spotted r (a .field) ∙ ap (λ m. spotBy m (a .field)) (sym (mark .mark .ensures ∙ mark-stands (a .buf .now) r e)) ∙ there) slim
     (λ i. known .slice-known .given i .fits) (begin .begin .ensures) (inner .inner .ensures) (f .fields .ensures) (again .refusal2 .ensures) (finish .finish-sealed .ensures)
 

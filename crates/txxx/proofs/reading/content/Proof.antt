@@ -10,13 +10,13 @@ use Rattle.txxx.proofs.reading.content.Tie as tie
 
 returns : tie.Need-returns
 returns c =
-    let number = c .before .before in
+    let number = c .before .before .before in
     hidden (number .before .before .before .args .frame .now) (number .before .read .ensures) (number .refusal .ensures) (c .before .if1 .taken)
 
 -- a frame that was not refused
-good : (c : tie.Else1) → let s = c .before .before .before .before .args .frame .now in (20 ≤ length s) × Shows s (take (length s - 2 - 18) (drop 18 s))
+good : (c : tie.Else1) → let s = c .before .before .before .before .before .args .frame .now in (20 ≤ length s) × Shows s (take (length s - 2 - 18) (drop 18 s))
 good c =
-    let number = c .before in
+    let number = c .before .before in
     let known = number .before .before in
     shown (known .before .args .frame .now) (number .before .read .ensures) (number .refusal .ensures) (λ i. known .shared-slice-known .given i .fits) (c .if1 .left)
 

@@ -20,7 +20,7 @@ use Rattle.txxx.proofs.reading.fields.Tie as tie
 returns : tie.Need-returns
 unfolding txxx recordOf
 returns c =
-    let ended = c .before in
+    let ended = c .before .before in
     let mark = ended .before .before in
     let fill = mark .before in
     let spare = fill .before in
@@ -49,11 +49,11 @@ returns c =
     let r7 = step-fill (pad l) (omega arith) (omega (arith, small)) r6 (fill .fill .ensures ∙ ap (λ p. ranged s p false 0 0 5 (carried .content .result)) (spare .unused-bits .ensures)) in
     let r8 = step-num 8 (lit< tt) (lit≤ tt) (omega (arith, small)) 0 255 r7 (mark .num5 .ensures .0) in
     let w = finish (omega (arith, small)) r8 (ended .end .ensures) in
-    c .told .ensures ∙ told-so (λ r. Good (r .0)) Refused recordOf _ _ (ended .end .result .code) (ended .end .result .offset) (w .so)
+    c .told .ensures ∙ told-so (λ r. Good (r .0)) Refused recordOf _ _ (ended .end .result .code) (ended .end .result .offset) (c .before .refusal .ensures) (w .so)
 
 pub fields-spec : {M : Type 1} → statement M
 fields-spec =
     tie.close
     (tie.spec
-    (λ c κs. search needs) (λ c. search needs) (λ c κs. search needs) (λ c. search needs) (λ c κs. search needs) (λ c. search needs) (λ c κs. search needs) (λ c. search needs) (λ c κs. search needs) (λ c. search needs) (λ c κs. search needs) (λ c κs. search needs) (λ c κs. search needs) (λ c κs. search needs) (λ c. search needs) (λ c. search needs) (λ c κs. search needs) (λ c κs. search needs) (λ c κs. search needs) (λ c κs. search needs) (λ c. search needs) (λ c κs. search needs) (λ c κs. search needs)
+    (λ c κs. search needs) (λ c. search needs) (λ c κs. search needs) (λ c. search needs) (λ c κs. search needs) (λ c. search needs) (λ c κs. search needs) (λ c. search needs) (λ c κs. search needs) (λ c. search needs) (λ c κs. search needs) (λ c κs. search needs) (λ c κs. search needs) (λ c κs. search needs) (λ c. search needs) (λ c. search needs) (λ c κs. search needs) (λ c κs. search needs) (λ c κs. search needs) (λ c κs. search needs) (λ c. search needs) (λ c κs. search needs) (λ c κs. search needs) (λ c κs. search needs)
     returns)

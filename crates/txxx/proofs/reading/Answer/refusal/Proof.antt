@@ -1,0 +1,15 @@
+-- `refusal` goes by the answer: a good one has none.
+use mathlib.Core.Path.{sym, ap}
+use Rattle.txxx.specs.Txxx.{refusalOf}
+use borrow.Author.Needs.{needs}
+use Rattle.txxx.proofs.reading.Answer.refusal.Statement.{statement}
+use Rattle.txxx.proofs.reading.Answer.refusal.Tie as tie
+
+returns : tie.Need-returns
+returns c = ap refusalOf (sym (c .enum-told .given .1))
+
+returns-2 : tie.Need-returns-2
+returns-2 c = search needs
+
+pub refusal-spec : {M : Type 1} → statement M
+refusal-spec = tie.close (tie.spec (λ c. search needs) (λ c. search needs) returns returns-2)
