@@ -6,8 +6,9 @@ use Prim.Native.Nat.{ℕ}
 use lib.Dec.{ltb}
 use lib.ListN.{length, set, getD}
 use Rattle.format.specs.Promises.{answered, readRecord}
+use Rattle.format.specs.declared.Refusal.{Refusal}
 use Rattle.packet.specs.Packet.{packets, recordOf as packetOf}
-use Rattle.places.specs.Desk.{numberOf, applied, accepting, asking, dropping, laidWithin}
+use Rattle.places.specs.Desk.{refusalOf, applied, accepting, asking, dropping, laidWithin}
 use Rattle.places.specs.declared.Place.{Place}
 use Rattle.places.specs.declared.Reply.{Reply}
 use Rattle.desk_bytes.specs.Promises.{againOf, countOf, languageOf}
@@ -24,16 +25,16 @@ noted a xs = set (set (set xs 0 (againOf a (getD xs 0 0))) 1 (countOf a (getD xs
 abbrev pub notedWithin : Reply → List ℕ → List ℕ
 notedWithin a xs = cond (ltb (length xs) 3) xs (noted a xs)
 
-abbrev pub AcceptsRow : List ℕ → List Place → List ℕ → List ℕ → ℕ → List ℕ → List Place → List ℕ → Type 0
-AcceptsRow xs ps s m code ys qs t = let o = accepting ps s m in (code ≡ numberOf (o .reply)) × (ys ≡ notedWithin (o .reply) xs) × (qs ≡ applied ps (o .change)) × (t ≡ o .store)
+abbrev pub AcceptsRow : List ℕ → List Place → List ℕ → List ℕ → Refusal → List ℕ → List Place → List ℕ → Type 0
+AcceptsRow xs ps s m refusal ys qs t = let o = accepting ps s m in (refusal ≡ refusalOf (o .reply)) × (ys ≡ notedWithin (o .reply) xs) × (qs ≡ applied ps (o .change)) × (t ≡ o .store)
 
-abbrev pub AsksRow : List ℕ → List Place → List ℕ → ℕ → List ℕ → List ℕ → ℕ → List ℕ → List Place → List ℕ → List ℕ → Type 0
-AsksRow xs ps s n b w code ys qs c v =
+abbrev pub AsksRow : List ℕ → List Place → List ℕ → ℕ → List ℕ → List ℕ → Refusal → List ℕ → List Place → List ℕ → List ℕ → Type 0
+AsksRow xs ps s n b w refusal ys qs c v =
     let o = asking ps s n b w in
-    (code ≡ numberOf (o .reply)) × (ys ≡ notedWithin (o .reply) xs) × (qs ≡ applied ps (o .change)) × (c ≡ o .notice) × (v ≡ o .missing)
+    (refusal ≡ refusalOf (o .reply)) × (ys ≡ notedWithin (o .reply) xs) × (qs ≡ applied ps (o .change)) × (c ≡ o .notice) × (v ≡ o .missing)
 
-abbrev pub DropsRow : List ℕ → List Place → List ℕ → ℕ → ℕ → List ℕ → List Place → Type 0
-DropsRow xs ps s n code ys qs = let o = dropping ps s n in (code ≡ numberOf (o .reply)) × (ys ≡ notedWithin (o .reply) xs) × (qs ≡ applied ps (o .change))
+abbrev pub DropsRow : List ℕ → List Place → List ℕ → ℕ → Refusal → List ℕ → List Place → Type 0
+DropsRow xs ps s n refusal ys qs = let o = dropping ps s n in (refusal ≡ refusalOf (o .reply)) × (ys ≡ notedWithin (o .reply) xs) × (qs ≡ applied ps (o .change))
 
 -- ---- the content of a message s; none where it is refused
 

@@ -1,12 +1,14 @@
 // Calls that no box links, for rust/trial alone: functions that the calls for C do not go through, so that these too are compiled and run. The desk is over a lent row of places, and a message's content is the slice that `content` returns.
 ghost use mathlib.Core.Path.{_≡_};
-ghost use Rattle.places.specs.Desk.{numberOf};
+ghost use Rattle.format.specs.Promises.{Packs};
+ghost use Rattle.format.specs.Refusals.{packed};
+ghost use Rattle.places.specs.Desk.{refusalOf};
 ghost use Rattle.desk_bytes.specs.Promises.{againOf, countOf, languageOf};
 ghost use Rattle.c_trial.specs.Promises.{notedWithin, AcceptsRow, AsksRow, DropsRow, txsqContent, txxxContent, packetContent, Copies};
 use places::Place;
 use places::Reply;
 
-// ---- the desk: what a reply says besides its number goes to three numbers: whether the packet came again, how many bytes are handed out or how many numbers are missing, the language
+// ---- the desk: what a reply says besides its refusal goes to three numbers: whether the packet came again, how many bytes are handed out or how many numbers are missing, the language
 
 const SAID: usize = 3;
 
@@ -17,8 +19,8 @@ pub extern "C" fn trial_desk_accept(
     places: &mut [Place],
     store: &mut [u8],
     packet: &[u8],
-) -> u8
-    ensures { λ code. ⌜ AcceptsRow (now (said .entry)) (now (places .entry)) (now (store .entry)) (now (packet .entry)) code (now (said .exit)) (now (places .exit)) (now (store .exit)) ⌝ }
+) -> u32
+    ensures { λ n. ⌜ Packs (λ refusal. AcceptsRow (now (said .entry)) (now (places .entry)) (now (store .entry)) (now (packet .entry)) refusal (now (said .exit)) (now (places .exit)) (now (store .exit))) n ⌝ }
 {
     let accepted = desk::accept(places, store, packet);
     tell(said, accepted)
@@ -33,8 +35,8 @@ pub extern "C" fn trial_desk_ask(
     number: u8,
     notice: &mut [u8],
     missing: &mut [u16],
-) -> u8
-    ensures { λ code. ⌜ AsksRow (now (said .entry)) (now (places .entry)) (now (store .entry)) number (now (notice .entry)) (now (missing .entry)) code (now (said .exit)) (now (places .exit)) (now (notice .exit)) (now (missing .exit)) ⌝ }
+) -> u32
+    ensures { λ n. ⌜ Packs (λ refusal. AsksRow (now (said .entry)) (now (places .entry)) (now (store .entry)) number (now (notice .entry)) (now (missing .entry)) refusal (now (said .exit)) (now (places .exit)) (now (notice .exit)) (now (missing .exit))) n ⌝ }
 {
     let asked = desk::ask(places, store, number, notice, missing);
     tell(said, asked)
@@ -47,19 +49,19 @@ pub extern "C" fn trial_desk_drop(
     places: &mut [Place],
     store: &[u8],
     number: u8,
-) -> u8
-    ensures { λ code. ⌜ DropsRow (now (said .entry)) (now (places .entry)) (now (store .entry)) number code (now (said .exit)) (now (places .exit)) ⌝ }
+) -> u32
+    ensures { λ n. ⌜ Packs (λ refusal. DropsRow (now (said .entry)) (now (places .entry)) (now (store .entry)) number refusal (now (said .exit)) (now (places .exit))) n ⌝ }
 {
     let dropped = desk::drop(places, store, number);
     tell(said, dropped)
 }
 
-// The reply's number. What else it says goes to the numbers, where there are three.
-fn tell(said: &mut [usize], reply: Reply) -> u8
-    ensures { λ code. ⌜ (code ≡ numberOf reply) × (now (said .exit) ≡ notedWithin reply (now (said .entry))) ⌝ }
+// The reply's refusal, packed into one number. What else it says goes to the numbers, where there are three.
+fn tell(said: &mut [usize], reply: Reply) -> u32
+    ensures { λ n. ⌜ (n ≡ packed (refusalOf reply)) × (now (said .exit) ≡ notedWithin reply (now (said .entry))) ⌝ }
 {
     if said.len() < SAID {
-        return reply.refusal();
+        return reply.refusal().packed();
     }
     let again = again_of(reply, said[0]);
     let count = count_of(reply, said[1]);
@@ -67,7 +69,7 @@ fn tell(said: &mut [usize], reply: Reply) -> u8
     said[0] = again;
     said[1] = count;
     said[2] = language;
-    reply.refusal()
+    reply.refusal().packed()
 }
 
 fn again_of(reply: Reply, before: usize) -> usize

@@ -7,6 +7,7 @@ use native.Mathlib.Omega.{arith}
 use lib.Dec.{leb}
 use lib.ListN.{length, drop}
 use borrow.Author.Tests.{le-leb, lt-leb}
+use Rattle.format.specs.Refusals.{bare}
 use Rattle.places.specs.Desk.{storeBytes, Asking, notAnswered, lists, handsOut, joinedBelow, stays, turns}
 use Rattle.places.specs.Places.{freed, fourPlaces}
 use Rattle.places.specs.Promises.{Hands}
@@ -21,7 +22,7 @@ answered q o o₀ r c v e h = rw e h
 
 -- numbers are missing: the row is too short for them, or they stand in it
 module _ (ns w : List ℕ) (k : ℕ) (e : k ≡ length ns) where
-  pub row-short : length w < k → lists ns [] w ≡ notAnswered [] w 6
+  pub row-short : length w < k → lists ns [] w ≡ notAnswered [] w (bare 6)
   row-short l = rw (lt-leb (length ns) (length w) (omega (arith, e, l))) refl
 
   pub listed : k ≤ length w → lists ns [] w ≡ record { reply = Missing k; change = stays; notice = []; missing = ns ++ drop (length ns) w }
@@ -35,7 +36,7 @@ module _ (s : List ℕ) (i : ℕ) (p : Place) (b : List ℕ) (z : Sized p) (with
   long : k ≡ length bytes
   long = e ∙ sym (joined-length z i s within deep (p .total) (z .few))
 
-  pub buffer-short : length b < k → handsOut bytes i p b [] ≡ notAnswered b [] 6
+  pub buffer-short : length b < k → handsOut bytes i p b [] ≡ notAnswered b [] (bare 6)
   buffer-short l = rw (lt-leb (length bytes) (length b) (omega (arith, long, l))) refl
 
   pub handed : k ≤ length b → handsOut bytes i p b [] ≡ record { reply = Joined k (p .language); change = turns i (freed p); notice = bytes ++ drop (length bytes) b; missing = [] }
@@ -46,15 +47,15 @@ module _ (q : Place) (r : Turn) where
   pub buffer-stays : (ns b w v : List ℕ) → Hands q (lists ns [] w) r [] v → Hands q (lists ns b w) r b v
   buffer-stays ns b w v = go (leb (length ns) (length w))
     where
-      go : (t : Bool) → Hands q (cond t (record { reply = Missing (length ns); change = stays; notice = []; missing = ns ++ drop (length ns) w }) (notAnswered [] w 6)) r [] v
-          → Hands q (cond t (record { reply = Missing (length ns); change = stays; notice = b; missing = ns ++ drop (length ns) w }) (notAnswered b w 6)) r b v
+      go : (t : Bool) → Hands q (cond t (record { reply = Missing (length ns); change = stays; notice = []; missing = ns ++ drop (length ns) w }) (notAnswered [] w (bare 6))) r [] v
+          → Hands q (cond t (record { reply = Missing (length ns); change = stays; notice = b; missing = ns ++ drop (length ns) w }) (notAnswered b w (bare 6))) r b v
       go true h = (h .0, h .1, refl, h .3)
       go false h = (h .0, h .1, refl, h .3)
 
   pub row-stays : (c : List ℕ) (i : ℕ) (p : Place) (b w d : List ℕ) → Hands q (handsOut c i p b []) r d [] → Hands q (handsOut c i p b w) r d w
   row-stays c i p b w d = go (leb (length c) (length b))
     where
-      go : (t : Bool) → Hands q (cond t (record { reply = Joined (length c) (p .language); change = turns i (freed p); notice = c ++ drop (length c) b; missing = [] }) (notAnswered b [] 6)) r d []
-          → Hands q (cond t (record { reply = Joined (length c) (p .language); change = turns i (freed p); notice = c ++ drop (length c) b; missing = w }) (notAnswered b w 6)) r d w
+      go : (t : Bool) → Hands q (cond t (record { reply = Joined (length c) (p .language); change = turns i (freed p); notice = c ++ drop (length c) b; missing = [] }) (notAnswered b [] (bare 6))) r d []
+          → Hands q (cond t (record { reply = Joined (length c) (p .language); change = turns i (freed p); notice = c ++ drop (length c) b; missing = w }) (notAnswered b w (bare 6))) r d w
       go true h = (h .0, h .1, h .2, refl)
       go false h = (h .0, h .1, h .2, refl)

@@ -8,6 +8,7 @@ use lib.Dec.{eqb}
 use lib.ListN.{length, drop, getD, drop-of-length-le}
 use lib.Seq.{drop-cons}
 use borrow.Author.Tests.{eq-eqb, ne-eqb}
+use Rattle.format.specs.Refusals.{bare}
 use Rattle.packet.specs.declared.reading.Packet.{Packet}
 use Rattle.places.specs.Places.{held, holding, lacks}
 use Rattle.places.specs.Desk.{stays, turnedAway, taken, inCell, alike, contradicts, joins}
@@ -23,7 +24,7 @@ module _ (s : List ℕ) (i : ℕ) (p : Place) (r : Packet) (c : List ℕ) where
   apart : {x : Bool} → agree ≡ x → contradicts s i p r c ≡ not (x && (lacks p (r .own) || alike (inCell s i p (r .own)) c))
   apart e = ap not (sym (and-assoc (eqb (r .language) (p .language)) (eqb (r .total) (p .total)) _) ∙ ap (λ x. x && (lacks p (r .own) || alike (inCell s i p (r .own)) c)) e)
 
-  pub other-head : agree ≡ false → joins s i p r c ≡ turnedAway s 7
+  pub other-head : agree ≡ false → joins s i p r c ≡ turnedAway s (bare 7)
   unfolding joins
   other-head e = rw (apart e) refl
 
@@ -36,7 +37,7 @@ module _ (s : List ℕ) (i : ℕ) (p : Place) (r : Packet) (c : List ℕ) where
     unfolding joins
     held-again n e = rw (apart agreed, ne-eqb (held p (r .own)) 0 n, e) refl
 
-    pub other-content : (held p (r .own) ≡ 0 → ⊥) → alike (inCell s i p (r .own)) c ≡ false → joins s i p r c ≡ turnedAway s 7
+    pub other-content : (held p (r .own) ≡ 0 → ⊥) → alike (inCell s i p (r .own)) c ≡ false → joins s i p r c ≡ turnedAway s (bare 7)
     unfolding joins
     other-content n e = rw (apart agreed, ne-eqb (held p (r .own)) 0 n, e) refl
 

@@ -52,6 +52,9 @@ pub use denote.Exit.{yes}
 pub use denote.Signature.{plain, shrSliceOf}
 use denote.Struct.Laws as LL
 use denote.Enum.Laws as EL
+pub use Rattle.format.specs.Refusals.{bare}
+use Rattle.format.proofs.Refusal as F
+use Rattle.format.proofs.Refusal.Laws as F′
 pub use Rattle.places.specs.declared.Place.{Place}
 use Rattle.places.specs.declared.Turn.{Turn}
 pub use Rattle.places.specs.declared.Reply.{Reply}
@@ -76,6 +79,9 @@ turn-ty = pointee (S.the-row .written)
 abbrev pub reply-ty : Ty
 reply-ty = pointee (Q.the-row .written)
 
+abbrev pub refusal-ty : Ty
+refusal-ty = pointee (F.the-row .written)
+
 -- ---- a reply
 
 abbrev pub IsReply : Reply → Type 0
@@ -87,8 +93,8 @@ replied a vs g = subst (Is Q.the-row a) (Q′.lowers .val-is a vs g) g
 pub reply-told : (a : Reply) (w : Val) → Is Q.the-row a (w ∷ []) → w ≡ Q′.lowered a
 reply-told a w g = ap only (Q′.lowers .val-is a _ g)
 
-pub refused-is : IsReply (Refused 6)
-refused-is = replied (Refused 6) _ (EL.owes Q.the-type Q′.the-laws (Refused 6) ((refl, lit< tt), tt))
+pub refused-is : IsReply (Refused (bare 6))
+refused-is = replied (Refused (bare 6)) _ (EL.owes Q.the-type Q′.the-laws (Refused (bare 6)) (LL.owes F.the-type F′.the-laws (bare 6) ((refl, lit< tt), ((refl, lit< tt), tt)), tt))
 
 abbrev pub reply-row : RattleType
 reply-row = Q.the-row

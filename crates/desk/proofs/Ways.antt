@@ -8,6 +8,8 @@ use lib.Dec.{eqb}
 use borrow.Author.Tests.{eq-eqb, ne-eqb, lt-ltb, le-ltb}
 use Rattle.format.specs.Fmt.{Out, accepted, refused}
 use Rattle.format.specs.Promises.{answered, readRecord}
+use Rattle.format.specs.Refusals.{shown, bare}
+use Rattle.format.specs.declared.Refusal.{Refusal}
 use Rattle.packet.specs.Packet.{packets, recordOf, answerOf}
 use Rattle.packet.specs.Promises.{Reads}
 use Rattle.packet.specs.declared.reading.Packet.{Packet}
@@ -32,16 +34,16 @@ module _ (a b c d : Place) (s m : List ℕ) where
   abbrev ps : List Place
   ps = a ∷ b ∷ c ∷ d ∷ []
 
-  pub refused-packet : (code : ℕ) → Reads m (Refused′ code) → accepting ps s m ≡ turnedAway s code
+  pub refused-packet : (x : Refusal) → Reads m (Refused′ x) → accepting ps s m ≡ turnedAway s x
   unfolding accepting
-  refused-packet code e = go (readRecord packets recordOf m) e
+  refused-packet x e = go (readRecord packets recordOf m) e
     where
-      go : (o : Out (Packet × List ℕ)) → Refused′ code ≡ answerOf o → answered (λ x. let n = firstTests ps s in cond (eqb n 0) (received ps s (x .0) (x .1)) (turnedAway s n)) (turnedAway s) o ≡ turnedAway s code
+      go : (o : Out (Packet × List ℕ)) → Refused′ x ≡ answerOf o → answered (λ y. let n = firstTests ps s in cond (eqb n 0) (received ps s (y .0) (y .1)) (turnedAway s (bare n))) (turnedAway s) o ≡ turnedAway s x
       go (accepted q) e = let z : _≡_ {A = ℕ} 0 1 = cc in absurd (omega arith)
-      go (refused n p) e = let k : n ≡ code = cc in ap (turnedAway s) k
+      go (refused n p) e = let k : shown n p ≡ x = cc in ap (turnedAway s) k
 
   module _ (r : Packet) (k : List ℕ) (reads : readRecord packets recordOf m ≡ accepted (r, k)) where
-    pub refused-tests : (firstTests ps s ≡ 0 → ⊥) → accepting ps s m ≡ turnedAway s (firstTests ps s)
+    pub refused-tests : (firstTests ps s ≡ 0 → ⊥) → accepting ps s m ≡ turnedAway s (bare (firstTests ps s))
     unfolding accepting
     refused-tests n = rw (reads, ne-eqb (firstTests ps s) 0 n) refl
 
@@ -55,16 +57,16 @@ module _ (a b c d : Place) (s m : List ℕ) where
 
 -- where the row of places is too short
 
-pub too-few-good : (m : List ℕ) (r : Packet) → Reads m (Good r) → Refused 6 ≡ Refused (unplaced m)
+pub too-few-good : (m : List ℕ) (r : Packet) → Reads m (Good r) → Refused (bare 6) ≡ Refused (unplaced m)
 too-few-good m r e = go (readRecord packets recordOf m) e
   where
-    go : (o : Out (Packet × List ℕ)) → Good r ≡ answerOf o → Refused 6 ≡ Refused (answered (λ x. 6) (λ code. code) o)
+    go : (o : Out (Packet × List ℕ)) → Good r ≡ answerOf o → Refused (bare 6) ≡ Refused (answered (λ x. bare 6) (λ refusal. refusal) o)
     go (accepted q) e = refl
     go (refused n p) e = let z : _≡_ {A = ℕ} 0 1 = cc in absurd (omega arith)
 
-pub too-few-refused : (m : List ℕ) (code : ℕ) → Reads m (Refused′ code) → Refused code ≡ Refused (unplaced m)
-too-few-refused m code e = go (readRecord packets recordOf m) e
+pub too-few-refused : (m : List ℕ) (x : Refusal) → Reads m (Refused′ x) → Refused x ≡ Refused (unplaced m)
+too-few-refused m x e = go (readRecord packets recordOf m) e
   where
-    go : (o : Out (Packet × List ℕ)) → Refused′ code ≡ answerOf o → Refused code ≡ Refused (answered (λ x. 6) (λ code. code) o)
+    go : (o : Out (Packet × List ℕ)) → Refused′ x ≡ answerOf o → Refused x ≡ Refused (answered (λ x. bare 6) (λ refusal. refusal) o)
     go (accepted q) e = let z : _≡_ {A = ℕ} 0 1 = cc in absurd (omega arith)
-    go (refused n p) e = let k : code ≡ n = cc in ap Refused k
+    go (refused n p) e = let k : x ≡ shown n p = cc in ap Refused k

@@ -4,6 +4,7 @@ ghost use mathlib.Core.List.{[], _∷_};
 ghost use Rattle.places.specs.Desk.{unplaced};
 ghost use Rattle.places.specs.Promises.{AcceptTurn};
 ghost use Rattle.places.specs.declared.Reply.the-variants.{Refused};
+use format::Refusal;
 use packet::Answer;
 use packet::Packet;
 use places::PLACES;
@@ -22,7 +23,7 @@ pub fn accept(a: Place, b: Place, c: Place, d: Place, store: &mut [u8], packet: 
         Answer::Good(r) => {
             let code = places::first_tests(a, b, c, d, store);
             if code != 0 {
-                return Turn::staying(a, Reply::Refused(code));
+                return Turn::staying(a, Reply::Refused(Refusal::bare(code)));
             }
             let content = &packet[Packet::CONTENT..];
             let i = places::open_at(a, b, c, d, r.number);
@@ -32,7 +33,7 @@ pub fn accept(a: Place, b: Place, c: Place, d: Place, store: &mut [u8], packet: 
             }
             placing::begin(a, free, store, r, content)
         },
-        Answer::Refused(code) => Turn::staying(a, Reply::Refused(code)),
+        Answer::Refused(refusal) => Turn::staying(a, Reply::Refused(refusal)),
     }
 }
 
@@ -42,7 +43,7 @@ pub fn unplaced(packet: &[u8]) -> Reply
 {
     let answer = packet::read(packet);
     match answer {
-        Answer::Good(_) => Reply::Refused(format::ROOM),
-        Answer::Refused(code) => Reply::Refused(code),
+        Answer::Good(_) => Reply::Refused(Refusal::ROOM),
+        Answer::Refused(refusal) => Reply::Refused(refusal),
     }
 }

@@ -1,6 +1,7 @@
 // Asking for a notice at the desk, and dropping one (paper 01, "The desk"): the four places by value, over the lent store.
 ghost use mathlib.Core.List.{[], _∷_};
 ghost use Rattle.places.specs.Promises.{AskTurn, DropTurn};
+use format::Refusal;
 use places::PLACES;
 use places::Place;
 use places::Reply;
@@ -24,11 +25,11 @@ pub fn ask(
 {
     let code = places::first_tests(a, b, c, d, store);
     if code != 0 {
-        return Turn::staying(a, Reply::Refused(code));
+        return Turn::staying(a, Reply::Refused(Refusal::bare(code)));
     }
     let at = places::open_at(a, b, c, d, number);
     if at >= PLACES {
-        return Turn::staying(a, Reply::Refused(format::UNKNOWN));
+        return Turn::staying(a, Reply::Refused(Refusal::UNKNOWN));
     }
     let p = places::place_at(a, b, c, d, at);
     answering::answer(a, at, p, store, notice, missing)
@@ -40,11 +41,11 @@ pub fn drop(a: Place, b: Place, c: Place, d: Place, store: &[u8], number: u8) ->
 {
     let code = places::first_tests(a, b, c, d, store);
     if code != 0 {
-        return Turn::staying(a, Reply::Refused(code));
+        return Turn::staying(a, Reply::Refused(Refusal::bare(code)));
     }
     let at = places::open_at(a, b, c, d, number);
     if at >= PLACES {
-        return Turn::staying(a, Reply::Refused(format::UNKNOWN));
+        return Turn::staying(a, Reply::Refused(Refusal::UNKNOWN));
     }
     let dropped = places::place_at(a, b, c, d, at);
     let place = dropped.freed();

@@ -2,7 +2,8 @@
 use mathlib.Core.Path.{_≡_}
 use mathlib.Core.List.{List}
 use Prim.Native.Nat.{ℕ}
-use Rattle.places.specs.Desk.{numberOf, accepting, asking, dropping}
+use Rattle.format.specs.declared.Refusal.{Refusal}
+use Rattle.places.specs.Desk.{refusalOf, accepting, asking, dropping}
 use Rattle.places.specs.declared.Reply.{Reply}
 use Rattle.places.specs.declared.Reply.the-variants.{Done, Again, Joined, Missing, Refused}
 use Rattle.desk_bytes.specs.Bytes.{rowIn, changedBytes}
@@ -34,13 +35,13 @@ languageOf (Refused c) x = x
 
 -- ---- the calls
 
-abbrev pub AcceptsIn : List ℕ → List ℕ → List ℕ → ℕ → ℕ → List ℕ → List ℕ → ℕ → Type 0
-AcceptsIn bs s m again code cs t again′ = let o = accepting (rowIn bs) s m in (code ≡ numberOf (o .reply)) × (cs ≡ changedBytes bs (o .change)) × (t ≡ o .store) × (again′ ≡ againOf (o .reply) again)
+abbrev pub AcceptsIn : List ℕ → List ℕ → List ℕ → ℕ → Refusal → List ℕ → List ℕ → ℕ → Type 0
+AcceptsIn bs s m again refusal cs t again′ = let o = accepting (rowIn bs) s m in (refusal ≡ refusalOf (o .reply)) × (cs ≡ changedBytes bs (o .change)) × (t ≡ o .store) × (again′ ≡ againOf (o .reply) again)
 
-abbrev pub AsksIn : List ℕ → List ℕ → ℕ → List ℕ → List ℕ → ℕ → ℕ → ℕ → List ℕ → List ℕ → List ℕ → ℕ → ℕ → Type 0
-AsksIn bs s n b w count language code cs c v count′ language′ =
+abbrev pub AsksIn : List ℕ → List ℕ → ℕ → List ℕ → List ℕ → ℕ → ℕ → Refusal → List ℕ → List ℕ → List ℕ → ℕ → ℕ → Type 0
+AsksIn bs s n b w count language refusal cs c v count′ language′ =
     let o = asking (rowIn bs) s n b w in
-    (code ≡ numberOf (o .reply)) × (cs ≡ changedBytes bs (o .change)) × (c ≡ o .notice) × (v ≡ o .missing) × (count′ ≡ countOf (o .reply) count) × (language′ ≡ languageOf (o .reply) language)
+    (refusal ≡ refusalOf (o .reply)) × (cs ≡ changedBytes bs (o .change)) × (c ≡ o .notice) × (v ≡ o .missing) × (count′ ≡ countOf (o .reply) count) × (language′ ≡ languageOf (o .reply) language)
 
-abbrev pub DropsIn : List ℕ → List ℕ → ℕ → ℕ → List ℕ → Type 0
-DropsIn bs s n code cs = let o = dropping (rowIn bs) s n in (code ≡ numberOf (o .reply)) × (cs ≡ changedBytes bs (o .change))
+abbrev pub DropsIn : List ℕ → List ℕ → ℕ → Refusal → List ℕ → Type 0
+DropsIn bs s n refusal cs = let o = dropping (rowIn bs) s n in (refusal ≡ refusalOf (o .reply)) × (cs ≡ changedBytes bs (o .change))

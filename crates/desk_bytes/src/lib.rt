@@ -8,6 +8,7 @@ ghost use Rattle.places.specs.Places.{fourPlaces};
 ghost use Rattle.desk_bytes.specs.Bytes.{begins, totalBehind, placeIn, bytesOf};
 ghost use Rattle.desk_bytes.specs.Promises.{againOf, countOf, languageOf, AcceptsIn, AsksIn, DropsIn};
 ghost use Rattle.desk_bytes.specs.laws.Fits.{moves};
+use format::Refusal;
 use packet::MOST;
 use places::PLACES;
 use places::Place;
@@ -20,8 +21,8 @@ const SIZES: usize = 4;
 const PLACE: usize = SIZES + MOST;
 
 // A packet comes in; `again` is 1 where it came before, 0 where it is new.
-pub fn accept(places: &mut [u8], store: &mut [u8], packet: &[u8], again: &mut u8) -> u8
-    ensures { λ code. ⌜ AcceptsIn (now (places .entry)) (now (store .entry)) (now (packet .entry)) (now (again .entry)) code (now (places .exit)) (now (store .exit)) (now (again .exit)) ⌝ }
+pub fn accept(places: &mut [u8], store: &mut [u8], packet: &[u8], again: &mut u8) -> Refusal
+    ensures { λ refusal. ⌜ AcceptsIn (now (places .entry)) (now (store .entry)) (now (packet .entry)) (now (again .entry)) refusal (now (places .exit)) (now (store .exit)) (now (again .exit)) ⌝ }
 {
     if places.len() < PLACES * PLACE {
         return desk::accepting::unplaced(packet).refusal();
@@ -49,11 +50,11 @@ pub fn ask(
     missing: &mut [u16],
     count: &mut usize,
     language: &mut u8,
-) -> u8
-    ensures { λ code. ⌜ AsksIn (now (places .entry)) (now (store .entry)) number (now (notice .entry)) (now (missing .entry)) (now (count .entry)) (now (language .entry)) code (now (places .exit)) (now (notice .exit)) (now (missing .exit)) (now (count .exit)) (now (language .exit)) ⌝ }
+) -> Refusal
+    ensures { λ refusal. ⌜ AsksIn (now (places .entry)) (now (store .entry)) number (now (notice .entry)) (now (missing .entry)) (now (count .entry)) (now (language .entry)) refusal (now (places .exit)) (now (notice .exit)) (now (missing .exit)) (now (count .exit)) (now (language .exit)) ⌝ }
 {
     if places.len() < PLACES * PLACE {
-        return format::ROOM;
+        return Refusal::ROOM;
     }
     let turn = desk::asking::ask(
         place(places, 0),
@@ -72,11 +73,11 @@ pub fn ask(
     reply.refusal()
 }
 
-pub fn drop(places: &mut [u8], store: &[u8], number: u8) -> u8
-    ensures { λ code. ⌜ DropsIn (now (places .entry)) (now (store .entry)) number code (now (places .exit)) ⌝ }
+pub fn drop(places: &mut [u8], store: &[u8], number: u8) -> Refusal
+    ensures { λ refusal. ⌜ DropsIn (now (places .entry)) (now (store .entry)) number refusal (now (places .exit)) ⌝ }
 {
     if places.len() < PLACES * PLACE {
-        return format::ROOM;
+        return Refusal::ROOM;
     }
     let turn = desk::asking::drop(
         place(places, 0),

@@ -7,10 +7,11 @@ use lib.Dec.{leb, eqb}
 use lib.ListN.{length, replicate}
 use Rattle.format.specs.Message.{ahead}
 use Rattle.format.specs.Promises.{answered, readRecord}
+use Rattle.format.specs.Refusals.{bare}
 use Rattle.packet.specs.Packet.{packets, recordOf}
 use Rattle.packet.specs.declared.reading.Packet.{Packet}
 use Rattle.places.specs.Places.{blank, fourPlaces, placeAt}
-use Rattle.places.specs.Desk.{storeBytes, numberOf, applied, accepting, Asking, asking, dropping}
+use Rattle.places.specs.Desk.{storeBytes, refusalOf, applied, accepting, Asking, asking, dropping}
 use Rattle.places.specs.declared.Place.{Place}
 use Rattle.places.specs.declared.Reply.{Reply}
 use Rattle.places.specs.declared.Reply.the-variants.{Joined, Missing, Refused}
@@ -45,6 +46,10 @@ replyTo (comes m) d = accepting (d .places) (d .store) m .reply
 replyTo (asks n b w) d = asking (d .places) (d .store) n b w .reply
 replyTo (drops n) d = dropping (d .places) (d .store) n .reply
 
+-- the number alone of a reply's refusal
+abbrev pub numberOf : Reply → ℕ
+numberOf a = refusalOf a .code
+
 abbrev pub after : Call → Desk → Desk
 after (comes m) d = let o = accepting (d .places) (d .store) m in record { places = applied (d .places) (o .change); store = o .store }
 after (asks n b w) d = record { places = applied (d .places) (asking (d .places) (d .store) n b w .change); store = d .store }
@@ -68,7 +73,7 @@ Part = Packet × List ℕ
 
 -- the packet of message number n in a call, if there is one
 abbrev pub brings : ℕ → Call → List Part
-brings n (comes m) = answered (λ x. cond (eqb (x .0 .number) n) (x ∷ []) []) (λ code. []) (readRecord packets recordOf m)
+brings n (comes m) = answered (λ x. cond (eqb (x .0 .number) n) (x ∷ []) []) (λ refusal. []) (readRecord packets recordOf m)
 brings n (asks k b w) = []
 brings n (drops k) = []
 
@@ -128,8 +133,9 @@ given o = record { reply = o .reply; notice = o .notice; missing = o .missing }
 abbrev pub asked : ℕ → List ℕ → List ℕ → Desk → Given
 asked n b w d = given (asking (d .places) (d .store) n b w)
 
+-- the desk's own refusals tell no bit
 abbrev pub refusal : List ℕ → List ℕ → ℕ → Given
-refusal b w code = record { reply = Refused code; notice = b; missing = w }
+refusal b w code = record { reply = Refused (bare code); notice = b; missing = w }
 
 -- Demand 2: what is due for the packets xs that have come. 11 where there is none; the missing numbers where one has not come; else their contents in number order, with their language; 6 where there is no room.
 abbrev pub due : List Part → List ℕ → List ℕ → Given

@@ -4,6 +4,7 @@ use mathlib.Core.List.{List, [], _∷_}
 use Prim.Native.Nat.{ℕ, zero, suc, _+_}
 use lib.Dec.{ltb, eqb}
 use Rattle.format.specs.Promises.{answered, readRecord}
+use Rattle.format.specs.Refusals.{bare}
 use Rattle.packet.specs.Packet.{packets, recordOf}
 use Rattle.places.specs.Places.{fourPlaces}
 use Rattle.places.specs.Desk.{alike}
@@ -40,9 +41,9 @@ agrees x y ys =
 
 -- Where n notices are open and xs of its own have come: 8 where none has come and four others are open; 7 where it contradicts them; else it is taken in, as new or as again.
 abbrev pub welcome : Part → List Part → ℕ → Reply
-welcome x [] n = cond (ltb n fourPlaces) Done (Refused 8)
-welcome x (y ∷ ys) n = cond (agrees x y ys) (cond (came (y ∷ ys) (x .0 .own)) Again Done) (Refused 7)
+welcome x [] n = cond (ltb n fourPlaces) Done (Refused (bare 8))
+welcome x (y ∷ ys) n = cond (agrees x y ys) (cond (came (y ∷ ys) (x .0 .own)) Again Done) (Refused (bare 7))
 
--- what the message m is answered: the packet's own refusal comes first
+-- what the message m is answered: the packet's own refusal comes first, with its bit
 abbrev pub dueFor : List (Call × ℕ) → List ℕ → Reply
 dueFor h m = answered (λ x. welcome x (since (x .0 .number) h) (openNotices h)) Refused (readRecord packets recordOf m)

@@ -6,6 +6,8 @@ use lib.Dec.{leb, ltb, eqb}
 use lib.ListN.{length, take, drop, set}
 use Rattle.format.specs.Message.{ahead}
 use Rattle.format.specs.Promises.{answered, readRecord}
+use Rattle.format.specs.Refusals.{bare}
+use Rattle.format.specs.declared.Refusal.{Refusal}
 use Rattle.packet.specs.Packet.{partBytes, joined, packets, recordOf}
 use Rattle.packet.specs.declared.reading.Packet.{Packet}
 use Rattle.places.specs.Places.{held, lacks, opened, holding, freed, fourPlaces, placeAt, front, goodPlaces, openAt, freeAt}
@@ -44,13 +46,13 @@ alike (x ∷ xs) (y ∷ ys) = eqb x y && alike xs ys
 
 -- ---- answers
 
--- the paper's number for each
-abbrev pub numberOf : Reply → ℕ
-numberOf Done = 0
-numberOf Again = 0
-numberOf (Joined n l) = 0
-numberOf (Missing n) = 9
-numberOf (Refused c) = c
+-- the refusal of each: none for success, 9 for a list of missing numbers
+abbrev pub refusalOf : Reply → Refusal
+refusalOf Done = bare 0
+refusalOf Again = bare 0
+refusalOf (Joined n l) = bare 0
+refusalOf (Missing n) = bare 9
+refusalOf (Refused r) = r
 
 -- what a call does to the row of places: nothing, or one place becomes another
 pub data Change : Type 0 where
@@ -77,8 +79,8 @@ pub record Accepting : Type 0 where
   pub change : Change
   pub store : List ℕ
 
-abbrev pub turnedAway : List ℕ → ℕ → Accepting
-turnedAway s code = record { reply = Refused code; change = stays; store = s }
+abbrev pub turnedAway : List ℕ → Refusal → Accepting
+turnedAway s refusal = record { reply = Refused refusal; change = stays; store = s }
 
 -- packet r with content c is put into place i, which becomes p: only its bytes change
 abbrev pub taken : List ℕ → ℕ → Place → Packet → List ℕ → Accepting
@@ -91,25 +93,25 @@ contradicts s i p r c = not (eqb (r .language) (p .language) && (eqb (r .total) 
 -- its notice is open in place i, which is p
 unfoldable pub joins : List ℕ → ℕ → Place → Packet → List ℕ → Accepting
 joins s i p r c =
-    cond (contradicts s i p r c) (turnedAway s 7)
+    cond (contradicts s i p r c) (turnedAway s (bare 7))
     (cond (lacks p (r .own)) (taken s i (holding p (r .own) (length c)) r c) (record { reply = Again; change = stays; store = s }))
 
 -- its notice is not open, and the lowest free place is i
 abbrev pub opens : List ℕ → ℕ → Packet → List ℕ → Accepting
-opens s i r c = cond (ltb i fourPlaces) (taken s i (opened r (length c)) r c) (turnedAway s 8)
+opens s i r c = cond (ltb i fourPlaces) (taken s i (opened r (length c)) r c) (turnedAway s (bare 8))
 
 unfoldable pub received : List Place → List ℕ → Packet → List ℕ → Accepting
 received ps s r c = let i = openAt ps (r .number) in cond (ltb i fourPlaces) (joins s i (placeAt ps i) r c) (opens s (freeAt ps) r c)
 
--- the packet's own refusals, the first tests, then the places
+-- the packet's own refusals, with their bits; the first tests; then the places. What the desk itself refuses has no bit.
 unfoldable pub accepting : List Place → List ℕ → List ℕ → Accepting
 accepting ps s m =
-    answered (λ x. let code = firstTests ps s in cond (eqb code 0) (received (front ps) s (x .0) (x .1)) (turnedAway s code)) (turnedAway s)
+    answered (λ x. let code = firstTests ps s in cond (eqb code 0) (received (front ps) s (x .0) (x .1)) (turnedAway s (bare code))) (turnedAway s)
     (readRecord packets recordOf m)
 
 -- what a packet is refused by where the row of places is too short: its own refusal comes first
-abbrev pub unplaced : List ℕ → ℕ
-unplaced m = answered (λ x. 6) (λ code. code) (readRecord packets recordOf m)
+abbrev pub unplaced : List ℕ → Refusal
+unplaced m = answered (λ x. bare 6) (λ refusal. refusal) (readRecord packets recordOf m)
 
 -- ---- a notice is asked for, with a buffer b for its bytes and a row w for missing numbers
 
@@ -129,20 +131,20 @@ pub record Asking : Type 0 where
   pub notice : List ℕ
   pub missing : List ℕ
 
-abbrev pub notAnswered : List ℕ → List ℕ → ℕ → Asking
-notAnswered b w code = record { reply = Refused code; change = stays; notice = b; missing = w }
+abbrev pub notAnswered : List ℕ → List ℕ → Refusal → Asking
+notAnswered b w refusal = record { reply = Refused refusal; change = stays; notice = b; missing = w }
 
 -- the missing numbers ns in front of the row
 abbrev pub lists : List ℕ → List ℕ → List ℕ → Asking
 lists ns b w =
     cond (leb (length ns) (length w)) (record { reply = Missing (length ns); change = stays; notice = b; missing = ahead ns w })
-    (notAnswered b w 6)
+    (notAnswered b w (bare 6))
 
 -- the joined bytes c in front of the buffer, and place i, which is p, is free
 abbrev pub handsOut : List ℕ → ℕ → Place → List ℕ → List ℕ → Asking
 handsOut c i p b w =
     cond (leb (length c) (length b)) (record { reply = Joined (length c) (p .language); change = turns i (freed p); notice = ahead c b; missing = w })
-    (notAnswered b w 6)
+    (notAnswered b w (bare 6))
 
 unfoldable pub answers : List ℕ → ℕ → Place → List ℕ → List ℕ → Asking
 answers s i p b w =
@@ -153,7 +155,7 @@ unfoldable pub asking : List Place → List ℕ → ℕ → List ℕ → List �
 asking ps s n b w =
     let code = firstTests ps s in
     let i = openAt (front ps) n in
-    cond (eqb code 0) (cond (ltb i fourPlaces) (answers s i (placeAt (front ps) i) b w) (notAnswered b w 11)) (notAnswered b w code)
+    cond (eqb code 0) (cond (ltb i fourPlaces) (answers s i (placeAt (front ps) i) b w) (notAnswered b w (bare 11))) (notAnswered b w (bare code))
 
 -- ---- a notice is dropped
 
@@ -165,5 +167,5 @@ unfoldable pub dropping : List Place → List ℕ → ℕ → Dropping
 dropping ps s n =
     let code = firstTests ps s in
     let i = openAt (front ps) n in
-    cond (eqb code 0) (cond (ltb i fourPlaces) (record { reply = Done; change = turns i (freed (placeAt (front ps) i)) }) (record { reply = Refused 11; change = stays }))
-    (record { reply = Refused code; change = stays })
+    cond (eqb code 0) (cond (ltb i fourPlaces) (record { reply = Done; change = turns i (freed (placeAt (front ps) i)) }) (record { reply = Refused (bare 11); change = stays }))
+    (record { reply = Refused (bare code); change = stays })

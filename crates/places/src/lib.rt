@@ -5,11 +5,12 @@ ghost use mathlib.Core.List.{[], _∷_};
 ghost use lib.Dec.{leb, ltb};
 ghost use Rattle.packet.specs.Packet.{mostPackets, partBytes};
 ghost use Rattle.places.specs.Places.{everyBelow, lacks, entryGood, goodPlace, passes, serves, clash, freed};
-ghost use Rattle.places.specs.Desk.{laidWithin, numberOf, stays, turnOf};
+ghost use Rattle.places.specs.Desk.{laidWithin, refusalOf, stays, turnOf};
 pub use crate::four::first_tests;
 pub use crate::four::free_at;
 pub use crate::four::open_at;
 pub use crate::four::place_at;
+use format::Refusal;
 use packet::JOINED;
 use packet::MOST;
 use packet::PART;
@@ -39,7 +40,7 @@ pub enum Reply {
     Joined(usize, u8),
     // It is not complete: how many numbers are missing.
     Missing(usize),
-    Refused(u8),
+    Refused(Refusal),
 }
 
 // What a call makes of the places: place `at` becomes `place`, and no other changes.
@@ -54,16 +55,16 @@ pub const PLACES: usize = 4;
 pub const STORE: usize = PLACES * JOINED;
 
 impl Reply {
-    // The paper's number: 0 for success, 9 for a list of missing numbers.
-    pub fn refusal(self) -> u8
-        ensures { λ r. ⌜ r ≡ numberOf self ⌝ }
+    // Its refusal: none for success, 9 for a list of missing numbers.
+    pub fn refusal(self) -> Refusal
+        ensures { λ r. ⌜ r ≡ refusalOf self ⌝ }
     {
         match self {
-            Reply::Done => 0,
-            Reply::Again => 0,
-            Reply::Joined(_, _) => 0,
-            Reply::Missing(_) => format::INCOMPLETE,
-            Reply::Refused(code) => code,
+            Reply::Done => Refusal::NONE,
+            Reply::Again => Refusal::NONE,
+            Reply::Joined(_, _) => Refusal::NONE,
+            Reply::Missing(_) => Refusal::INCOMPLETE,
+            Reply::Refused(refusal) => refusal,
         }
     }
 }

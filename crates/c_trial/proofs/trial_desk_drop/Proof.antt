@@ -3,9 +3,12 @@
 use mathlib.Core.Path.{_∙_, ap}
 use Rattle.desk.proofs.Walk.{_≡_, refl, ℕ, _<_, _^_, List, [], _∷_, length, URA, named, w8, Val, vint, SProp, ent, sep, emp, via, fst∗, id⊢, Fml, flft, Memory, Routine, Heap, Calls, Loops, WpFn, Tables, Atoms, sem, Fun, Lfts, Shares, toks, givenOf, tables, tablesOf, Given, Item, ‵, raw, _⊛_, ⋆, _$_, _∵_, !, qed, by, move, keep, drop, use1, use2, split, join, fsplit, fjoin, feqL, suffices, frame, done, look, init, stop, hop, fld, from, addr, and-then, no-more, returns, enter, alloc1, alloc0, params1, pass1, pass0, free0, agg, whole, sub, look-in, local, field-of, sets, lands-as, frees-cell, returned, R, FmC, fmOf, WpFn-mono, owns, Is, shows, uint-vals, uint-tells, u8, sliceVal, MutSlice, Room, slice-vals, mut-slice-tells, finally, ShrSlice, shr-slice-tells, owned, peeks, heard, nothing, Args, Vals, onEntry, Meets, tripleOf, Contract, Triple, calls-at, entered, cited, says, Stays, gave-slice, stay-dropped, walkOf, goes-gave-slice, goes-dropped, ends-at, walked, walk-meets, yes, plain, shrSliceOf, Place, Reply, Drops, IsReply, replied, reply-told, reply-row, reply-val, reply-typed, reply-made}
 use denote.Plain.{uint-makes, uint-lawful}
-use denote.Builtin.{usize}
+use denote.Builtin.{usize, u32}
+use mir.Syntax.{w32}
 use denote.Steps.{only}
-use Rattle.places.specs.Desk.{numberOf}
+use Rattle.format.specs.Promises.{Packs}
+use Rattle.format.specs.Refusals.{packed}
+use Rattle.places.specs.Desk.{refusalOf}
 use Rattle.c_trial.specs.Promises.{notedWithin, DropsRow}
 use Rattle.desk.proofs.drop as desk
 use Rattle.desk.proofs.drop.Symbol as desk-def
@@ -70,11 +73,11 @@ module _ {M : Type 1} (𝓤 : URA M) (H : Heap 𝓤) (A : Atoms 𝓤) (W : Given
       qed W (‵ (flft (κs .0) (qs .0)) ∷ ‵ (MutSlice (named 0) (κs .0) usize .own (a .0) (vals .0)) ∷ []) ∵ nothing ! $ move ! (1 ∷ 0 ∷ []) $ join ! $ nothing ! $ owned ! reply-row (Is reply-row) (reply-made 𝓤 H A W) r _ is $ fjoin ! $
       move ! (2 ∷ 0 ∷ []) $ fjoin ! $ move ! (1 ∷ 0 ∷ []) $ join ! $ frame ! $ done !
 
-  exits : (code : ℕ) (xs′ : List ℕ) (ps′ : List Place) → DropsRow xs ps s n code xs′ ps′ → length xs′ ≡ length xs → length ps′ ≡ length ps → code < 2 ^ 8 → ent 𝓤 (⋆ 𝓤 H A (‵ (flft (κs .0) (qs .0)) ∷ others ∷ ‵ (finally R (a .1 .0 .name) ps′) ∷ ‵ (finally usize (a .0 .name) xs′) ∷ [])) (Post (vint w8 code))
-  exits code xs′ ps′ e same₀ same₁ fits =
+  exits : (told : ℕ) (xs′ : List ℕ) (ps′ : List Place) → Packs (λ refusal. DropsRow xs ps s n refusal xs′ ps′) told → length xs′ ≡ length xs → length ps′ ≡ length ps → told < 2 ^ 32 → ent 𝓤 (⋆ 𝓤 H A (‵ (flft (κs .0) (qs .0)) ∷ others ∷ ‵ (finally R (a .1 .0 .name) ps′) ∷ ‵ (finally usize (a .0 .name) xs′) ∷ [])) (Post (vint w32 told))
+  exits told xs′ ps′ e same₀ same₁ fits =
       qed W (‵ (flft (κs .0) (qs .0)) ∷ others ∷ ‵ (finally R (a .1 .0 .name) ps′) ∷ ‵ (finally usize (a .0 .name) xs′) ∷ []) ∵
-      suffices ! _ (ends-at 𝓤 H A this.ended stayed (this.clauses 𝓤 H A mem run) W ((κs, qs, tt, a, vals), tt) (vint w8 code) code (xs′, (ps′, (tt, (tt, tt)))) (same₀, (same₁, (tt, (tt, tt))))) $ says ! e $
-      join ! $ frame ! $ nothing ! $ nothing ! $ fjoin ! $ nothing ! $ fjoin ! $ move ! (1 ∷ 0 ∷ []) $ fjoin ! $ move ! (1 ∷ 0 ∷ []) $ fjoin ! $ owned ! u8 (Is u8) (uint-makes 𝓤 H A W w8) code _ (refl, fits) $ keep ! (1 ∷ 0 ∷ []) $ done !
+      suffices ! _ (ends-at 𝓤 H A this.ended stayed (this.clauses 𝓤 H A mem run) W ((κs, qs, tt, a, vals), tt) (vint w32 told) told (xs′, (ps′, (tt, (tt, tt)))) (same₀, (same₁, (tt, (tt, tt))))) $ says ! e $
+      join ! $ frame ! $ nothing ! $ nothing ! $ fjoin ! $ nothing ! $ fjoin ! $ move ! (1 ∷ 0 ∷ []) $ fjoin ! $ move ! (1 ∷ 0 ∷ []) $ fjoin ! $ owned ! u32 (Is u32) (uint-makes 𝓤 H A W w32) told _ (refl, fits) $ keep ! (1 ∷ 0 ∷ []) $ done !
 
   module _ (given₀ : Room usize (length (a .0 .now))) (given₁ : Room R (length (a .1 .0 .now))) (given₂ : Room u8 (length (a .1 .1 .0 .now))) (given₃ : a .1 .1 .1 .0 < 2 ^ 8) (C : Calls 𝓤 H) (Λ : Loops 𝓤 H) (fm : FmC 𝓤 H (W .laws) C) (desk-known : Triple 𝓤 (C #desk) (Desk 𝓤 H A mem run)) (tell-known : Triple 𝓤 (C #tell) (Tell 𝓤 H A mem run)) where
     walk : ent 𝓤 (onEntry 𝓤 H A this.signature κs qs a vals) (WpFn 𝓤 H C Λ code.function (sliceVal (a .0 .ptr) (length xs) ∷ sliceVal (a .1 .0 .ptr) (length ps) ∷ sliceVal (a .1 .1 .0 .ptr) (length s) ∷ vint w8 n ∷ []) Post)
@@ -95,13 +98,13 @@ module _ {M : Type 1} (𝓤 : URA M) (H : Heap 𝓤) (A : Atoms 𝓤) (W : Given
         sets ! 6 refl (addr ! (from ! (fld ! refl (hop ! (look-in ! 20 (sub ! 0 refl (whole !))) (stop !))))) refl (tt, tt) $ sets ! 4 refl (agg ! (and-then ! (local ! 6 refl) (and-then ! (field-of ! 20 1 refl refl refl) (no-more !)))) refl (tt, (tt, (record { fits = given₀ .0 }, tt))) $
         move ! (3 ∷ 2 ∷ []) $ use2 W (raw (Tell 𝓤 H A mem run .pre (to-tell r))) (tell-goes r (replied r _ is)) $
         -- [what `tell` asks; the last lists; the desk's tokens; the locals from 3]
-        calls-at ! fm (Tell 𝓤 H A mem run) tell-known (to-tell r) (and-then ! (local ! 3 refl) (and-then ! (local ! 11 refl) (no-more !))) (λ w. returned ! tt tell.ended (tell.clauses 𝓤 H A mem run) (to-tell r) w (λ code ys. heard ! ((code ≡ numberOf r) × (ys .0 ≡ notedWithin r xs)) (λ f.
-        fsplit ! $ fsplit ! $ move ! (1 ∷ []) $ feqL ! (λ same₀. move ! (1 ∷ []) $ drop ! $ move ! (1 ∷ []) $ peeks ! u8 (Is u8) (shows 𝓤 H A u8) code (w ∷ []) (λ is′.
-        lands-as ! 23 refl (ap only (uint-tells w8 code _ is′)) refl (uint-lawful 𝓤 H A W w8 .typed code _ is′ .0) $ drop ! $
+        calls-at ! fm (Tell 𝓤 H A mem run) tell-known (to-tell r) (and-then ! (local ! 3 refl) (and-then ! (local ! 11 refl) (no-more !))) (λ w. returned ! tt tell.ended (tell.clauses 𝓤 H A mem run) (to-tell r) w (λ told ys. heard ! ((told ≡ packed (refusalOf r)) × (ys .0 ≡ notedWithin r xs)) (λ f.
+        fsplit ! $ fsplit ! $ move ! (1 ∷ []) $ feqL ! (λ same₀. move ! (1 ∷ []) $ drop ! $ move ! (1 ∷ []) $ peeks ! u32 (Is u32) (shows 𝓤 H A u32) told (w ∷ []) (λ is′.
+        lands-as ! 23 refl (ap only (uint-tells w32 told _ is′)) refl (uint-lawful 𝓤 H A W w32 .typed told _ is′ .0) $ drop ! $
         -- [the last numbers; their token; the last lists; the desk's tokens; the locals from 4]
         returns ! (look ! 22 refl) $ frees-cell ! 22 refl refl $ frees-cell ! 20 refl refl $ frees-cell ! 18 refl refl $ frees-cell ! 16 refl refl $ frees-cell ! 14 refl refl $ frees-cell ! 12 refl refl $ frees-cell ! 10 refl refl $ frees-cell ! 8 refl refl $ frees-cell ! 6 refl refl $ frees-cell ! 4 refl refl $ free0 ! $
         move ! (1 ∷ []) $ use1 W (‵ (flft (κs .0) (qs .0)) ⊛ raw (emp 𝓤)) (id⊢ 𝓤 _) $ split ! $ keep ! (0 ∷ 4 ∷ 3 ∷ 2 ∷ []) $
-        by ! (exits code (ys .0) (zs .0) (f .0 ∙ ap numberOf (e .0), f .1 ∙ ap (λ (x : Reply). notedWithin x xs) (e .0), e .1) same₀ same₁ (is′ .1))))))))))))))))))))))
+        by ! (exits told (ys .0) (zs .0) (refusalOf r, f .0, (ap refusalOf (e .0), f .1 ∙ ap (λ (x : Reply). notedWithin x xs) (e .0), e .1)) same₀ same₁ (is′ .1))))))))))))))))))))))
 
 meets : {M : Type 1} (𝓤 : URA M) (H : Heap 𝓤) (A : Atoms 𝓤) → Given 𝓤 H A → (mem : Memory → SProp 𝓤) (run : Routine → Fun 𝓤) (𝓣 : Tables 𝓤 H) → Triple 𝓤 (𝓣 .C #desk) (Desk 𝓤 H A mem run) → Triple 𝓤 (𝓣 .C #tell) (Tell 𝓤 H A mem run) → Meets 𝓤 H A this.signature (WpFn 𝓤 H (𝓣 .C) (𝓣 .Λ) code.function) (this.spec 𝓤 H A mem run)
 meets 𝓤 H A W mem run 𝓣 desk-known tell-known =

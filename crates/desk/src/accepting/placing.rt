@@ -8,6 +8,7 @@ ghost use Rattle.packet.specs.Packet.{mostPackets, partBytes};
 ghost use Rattle.places.specs.Places.{held, opened, holding, fourPlaces};
 ghost use Rattle.places.specs.Desk.{storeBytes, alike, joins, opens};
 ghost use Rattle.places.specs.Promises.{Gives};
+use format::Refusal;
 use packet::JOINED;
 use packet::MOST;
 use packet::PART;
@@ -30,7 +31,7 @@ pub(crate) fn join(
     ensures { λ t. ⌜ Gives first (joins (now (store .entry)) i p r (now (content .entry))) t (now (store .exit)) ⌝ }
 {
     if !agrees(r, p) {
-        return Turn::staying(first, Reply::Refused(format::CONTRADICTS));
+        return Turn::staying(first, Reply::Refused(Refusal::CONTRADICTS));
     }
     let own = r.own as usize;
     let sizes = p.sizes;
@@ -47,7 +48,7 @@ pub(crate) fn join(
     if same(&store[at..at + size], content) {
         return Turn::staying(first, Reply::Again);
     }
-    Turn::staying(first, Reply::Refused(format::CONTRADICTS))
+    Turn::staying(first, Reply::Refused(Refusal::CONTRADICTS))
 }
 
 // Whether the packet has the language and the total of its notice.
@@ -66,7 +67,7 @@ pub(crate) fn begin(first: Place, i: usize, store: &mut [u8], r: Packet, content
     ensures { λ t. ⌜ Gives first (opens (now (store .entry)) i r (now (content .entry))) t (now (store .exit)) ⌝ }
 {
     if i >= PLACES {
-        return Turn::staying(first, Reply::Refused(format::TAKEN));
+        return Turn::staying(first, Reply::Refused(Refusal::TAKEN));
     }
     places::lay(store, i * JOINED + r.own as usize * PART, content);
     Turn {

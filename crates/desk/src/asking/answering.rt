@@ -12,6 +12,7 @@ use crate::asking::joining::count_bytes;
 use crate::asking::joining::count_missing;
 use crate::asking::joining::join;
 use crate::asking::joining::list_missing;
+use format::Refusal;
 use places::Place;
 use places::Reply;
 use places::Turn;
@@ -41,7 +42,7 @@ fn tell_missing(first: Place, p: Place, count: usize, missing: &mut [u16]) -> Tu
     ensures { λ r. ⌜ Hands first (lists (missingBelow (p .total) p) [] (now (missing .entry))) r [] (now (missing .exit)) ⌝ }
 {
     if count > missing.len() {
-        return Turn::staying(first, Reply::Refused(format::ROOM));
+        return Turn::staying(first, Reply::Refused(Refusal::ROOM));
     }
     list_missing(p, missing);
     Turn::staying(first, Reply::Missing(count))
@@ -54,7 +55,7 @@ fn hand_out(first: Place, i: usize, p: Place, store: &[u8], notice: &mut [u8]) -
 {
     let bytes = count_bytes(p);
     if bytes > notice.len() {
-        return Turn::staying(first, Reply::Refused(format::ROOM));
+        return Turn::staying(first, Reply::Refused(Refusal::ROOM));
     }
     join(p, i, store, notice);
     handed(i, p, bytes)

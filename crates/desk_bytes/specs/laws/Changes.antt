@@ -8,8 +8,9 @@ use lib.Dec.{lit<}
 use lib.ListN.{length, take, drop, length-drop}
 use lib.Seq.{length-take-le}
 use borrow.Author.Tests.{le-leb, lt-leb}
+use Rattle.format.specs.Refusals.{bare}
 use Rattle.packet.specs.Packet.{mostPackets}
-use Rattle.places.specs.Desk.{numberOf, Change, stays, turnOf, laid, unplaced, accepting, asking, dropping}
+use Rattle.places.specs.Desk.{refusalOf, Change, stays, turnOf, laid, unplaced, accepting, asking, dropping}
 use Rattle.places.specs.Places.{fourPlaces, placeAt, front}
 use Rattle.places.specs.laws.Row.{turned, accepting-short, asking-short, dropping-short}
 use Rattle.places.specs.Promises.{AcceptTurn, AskTurn, DropTurn}
@@ -55,24 +56,24 @@ module _ (bs : List ℕ) (long : begins fourPlaces ≤ length bs) where
   pub sized : (i : ℕ) → i < fourPlaces → length (placeAt (front (rowIn bs)) i .sizes) ≡ mostPackets
   sized = subst (λ ps. (i : ℕ) → i < fourPlaces → length (placeAt (front ps) i .sizes) ≡ mostPackets) row-long sized-four
 
-  pub accepts-in : (s m : List ℕ) (again : ℕ) (r : Turn) (t : List ℕ) → AcceptTurn (rowIn bs) s m r t → AcceptsIn bs s m again (numberOf (r .reply)) (putBack bs r) t (againOf (r .reply) again)
+  pub accepts-in : (s m : List ℕ) (again : ℕ) (r : Turn) (t : List ℕ) → AcceptTurn (rowIn bs) s m r t → AcceptsIn bs s m again (refusalOf (r .reply)) (putBack bs r) t (againOf (r .reply) again)
   accepts-in s m again r t (is, low, e) =
       let o = accepting (rowIn bs) s m in
       let (x, y) = turned (putBack bs) (rowIn bs) (o .reply) (o .change) r is (put-back bs (rowIn bs) (o .reply) (accepting-fits (rowIn bs) sized s m .is)) in
-      (ap numberOf x, y, e, ap (λ a. againOf a again) x)
+      (ap refusalOf x, y, e, ap (λ a. againOf a again) x)
 
   pub asks-in : (s : List ℕ) (n : ℕ) (b w : List ℕ) (count language : ℕ) (r : Turn) (c v : List ℕ) → AskTurn (rowIn bs) s n b w r c v
-      → AsksIn bs s n b w count language (numberOf (r .reply)) (putBack bs r) c v (countOf (r .reply) count) (languageOf (r .reply) language)
+      → AsksIn bs s n b w count language (refusalOf (r .reply)) (putBack bs r) c v (countOf (r .reply) count) (languageOf (r .reply) language)
   asks-in s n b w count language r c v (is, low, e, d) =
       let o = asking (rowIn bs) s n b w in
       let (x, y) = turned (putBack bs) (rowIn bs) (o .reply) (o .change) r is (put-back bs (rowIn bs) (o .reply) (asking-fits (rowIn bs) sized s n b w .is)) in
-      (ap numberOf x, y, e, d, ap (λ a. countOf a count) x, ap (λ a. languageOf a language) x)
+      (ap refusalOf x, y, e, d, ap (λ a. countOf a count) x, ap (λ a. languageOf a language) x)
 
-  pub drops-in : (s : List ℕ) (n : ℕ) (r : Turn) → DropTurn (rowIn bs) s n r → DropsIn bs s n (numberOf (r .reply)) (putBack bs r)
+  pub drops-in : (s : List ℕ) (n : ℕ) (r : Turn) → DropTurn (rowIn bs) s n r → DropsIn bs s n (refusalOf (r .reply)) (putBack bs r)
   drops-in s n r (is, low) =
       let o = dropping (rowIn bs) s n in
       let (x, y) = turned (putBack bs) (rowIn bs) (o .reply) (o .change) r is (put-back bs (rowIn bs) (o .reply) (dropping-fits (rowIn bs) sized s n .is)) in
-      (ap numberOf x, y)
+      (ap refusalOf x, y)
 
 -- ---- and where there are too few
 
@@ -80,11 +81,11 @@ module _ (bs : List ℕ) (few : length bs < begins fourPlaces) where
   row-short : length (rowIn bs) < fourPlaces
   row-short = rw (lt-leb (begins fourPlaces) (length bs) few) (lit< tt)
 
-  pub accepts-few : (s m : List ℕ) (again : ℕ) (a : Reply) → a ≡ Refused (unplaced m) → AcceptsIn bs s m again (numberOf a) bs s again
-  accepts-few s m again a e = rw (accepting-short (rowIn bs) s m row-short) (ap numberOf e, refl, refl, refl)
+  pub accepts-few : (s m : List ℕ) (again : ℕ) (a : Reply) → a ≡ Refused (unplaced m) → AcceptsIn bs s m again (refusalOf a) bs s again
+  accepts-few s m again a e = rw (accepting-short (rowIn bs) s m row-short) (ap refusalOf e, refl, refl, refl)
 
-  pub asks-few : (s : List ℕ) (n : ℕ) (b w : List ℕ) (count language : ℕ) → AsksIn bs s n b w count language 6 bs b w count language
+  pub asks-few : (s : List ℕ) (n : ℕ) (b w : List ℕ) (count language : ℕ) → AsksIn bs s n b w count language (bare 6) bs b w count language
   asks-few s n b w count language = rw (asking-short (rowIn bs) s n b w row-short) (refl, refl, refl, refl, refl, refl)
 
-  pub drops-few : (s : List ℕ) (n : ℕ) → DropsIn bs s n 6 bs
+  pub drops-few : (s : List ℕ) (n : ℕ) → DropsIn bs s n (bare 6) bs
   drops-few s n = rw (dropping-short (rowIn bs) s n row-short) (refl, refl)

@@ -10,16 +10,17 @@ use borrow.Author.Tests.{eqb-true, eq-eqb}
 use Rattle.bits.specs.Bits.{Bytes}
 use Rattle.format.specs.Fmt.{Out, accepted, refused}
 use Rattle.format.specs.Promises.{readRecord}
+use Rattle.format.specs.Refusals.{bare}
+use Rattle.format.specs.declared.Refusal.{Refusal}
 use Rattle.packet.specs.Packet.{packets, recordOf}
 use Rattle.packet.specs.SplittingPromises.{Splits}
 use Rattle.packet.specs.Splitter.{packetOf}
 use Rattle.packet.specs.laws.Demands.{good}
 use Rattle.packet.specs.laws.Packets.{split-reads}
 use Rattle.places.specs.Places.{fourPlaces}
-use Rattle.places.specs.Desk.{numberOf}
 use Rattle.desk_bytes.specs.Promises.{AsksIn}
 use Rattle.desk_runs.specs.Lent.{Lent, deskIn, EmptyIn, Run, accepts, answers, gives-up, callsOf}
-use Rattle.desk_runs.specs.Runs.{Desk, Empty, Call, comes, asks, drops, replyTo, run, log, Part, brings, grown, since, asked}
+use Rattle.desk_runs.specs.Runs.{Desk, Empty, Call, comes, asks, drops, replyTo, numberOf, run, log, Part, brings, grown, since, asked}
 use Rattle.desk_runs.specs.Taking.{openNotices}
 use Rattle.desk_runs.specs.Sending.{brought, Ours, AllCame, Sent, Fair, handed}
 use Rattle.desk_runs.specs.laws.Split.{split-handed-out, split-over-bytes}
@@ -28,11 +29,11 @@ use Rattle.desk_runs.specs.laws.Follows.{follows}
 use Rattle.desk_runs.specs.laws.Takes.{joins-its-notice, opens-its-notice}
 
 -- What `split` leaves in front of its buffer is read as that packet of the content.
-pub split-sends : (s c : List ℕ) (english : Bool) (number k : ℕ) (t : List ℕ) → Bytes c → Splits s c english number k 0 t
+pub split-sends : (s c : List ℕ) (english : Bool) (number k : ℕ) (t : List ℕ) → Bytes c → Splits s c english number k (bare 0) t
     → let p = packetOf english number c k in readRecord packets recordOf (take (4 + length (p .1)) t) ≡ accepted p
 split-sends s c english number k t fine e =
     let p = packetOf english number c k in
-    let (reads, shows) = split-reads english number c s k 0 t e fine refl in
+    let (reads, shows) = split-reads english number c s k (bare 0) t e fine refl in
     good (take (4 + length (p .1)) t) (p .0) (p .1) reads shows
 
 brings-it : (n : ℕ) (m : List ℕ) (x : Part) → readRecord packets recordOf m ≡ accepted x → x .0 .number ≡ n → brings n (comes m) ≡ x ∷ []
@@ -92,8 +93,9 @@ module _ (english : Bool) (number : ℕ) (c : List ℕ) where
             let mine = f .ours x (subst (List·Memᴰ x) (sym (brings-it number m x e (eqb-true (x .0 .number) number q))) (List·Memᴰ·head refl)) in
             let first = ours y (List·Memᴰ·head refl) in
             let zero : code ≡ 0 =
-            joins-its-notice d empty cs m x e y ys (ap (λ n. since n (log d cs)) (eqb-true (x .0 .number) number q) ∙ have) (ap (λ (z : Part). z .0 .language) (mine .is) ∙ sym (ap (λ (z : Part). z .0 .language) (first .is)))
-            (ap (λ (z : Part). z .0 .total) (mine .is) ∙ sym (ap (λ (z : Part). z .0 .total) (first .is))) (λ z k. same-ours z x (ours z k) mine) in
+            ap (λ (r : Refusal). r .code)
+            (joins-its-notice d empty cs m x e y ys (ap (λ n. since n (log d cs)) (eqb-true (x .0 .number) number q) ∙ have) (ap (λ (z : Part). z .0 .language) (mine .is) ∙ sym (ap (λ (z : Part). z .0 .language) (first .is)))
+            (ap (λ (z : Part). z .0 .total) (mine .is) ∙ sym (ap (λ (z : Part). z .0 .total) (first .is))) (λ z k. same-ours z x (ours z k) mine)) in
             rw zero refl
 
         go : (o : Out Part) → readRecord packets recordOf m ≡ o → grown number (comes m, code) xs ≡ brings number (comes m) ++ xs
@@ -153,7 +155,7 @@ module _ (english : Bool) (number : ℕ) (c : List ℕ) (d : Lent) (empty : Empt
 
   -- and when each packet of the content has been sent, asking with room hands it out.
   pub arrives-over-bytes : 1 ≤ length c → Sent english number c (callsOf new ++ (comes m ∷ [])) → (b w : List ℕ) → length c ≤ length b
-      → (count language code : ℕ) (bs t v : List ℕ) (count′ language′ : ℕ) → AsksIn (e .places) (e .store) number b w count language code bs t v count′ language′
-      → (code ≡ 0) × (t ≡ c ++ drop (length c) b) × (v ≡ w) × (count′ ≡ length c) × (language′ ≡ cond english 1 0)
-      × (since number ((asks number b w, code) ∷ (new ++ ((comes m, code₀) ∷ old))) ≡ [])
+      → (count language : ℕ) (code : Refusal) (bs t v : List ℕ) (count′ language′ : ℕ) → AsksIn (e .places) (e .store) number b w count language code bs t v count′ language′
+      → (code ≡ bare 0) × (t ≡ c ++ drop (length c) b) × (v ≡ w) × (count′ ≡ length c) × (language′ ≡ cond english 1 0)
+      × (since number ((asks number b w, code .code) ∷ (new ++ ((comes m, code₀) ∷ old))) ≡ [])
   arrives-over-bytes some sent = split-over-bytes english number c some d empty (new ++ ((comes m, code₀) ∷ old)) e r (all-came english number c taken-over-bytes sent)

@@ -1,14 +1,15 @@
--- Demand 2 of every run of calls over lent bytes from an empty desk: what asking answers is due for the packets that have come, and what a packet is answered is due for it, by the calls and their codes alone. It is desk_runs' theorem, since the run is one of places. Assumes nothing.
+-- Demand 2 of every run of calls over lent bytes from an empty desk: what asking answers is due for the packets that have come, and what a packet is answered is due for it, by the calls and the numbers of their refusals alone. It is desk_runs' theorem, since the run is one of places. Assumes nothing.
 use mathlib.Core.Path.{_≡_, sym, ap, _∙_, subst}
 use mathlib.Core.Bool.{false, not}
 use mathlib.Core.List.{List, _∷_}
-use mathlib.Core.Logic.{_↔_}
 use Prim.Native.Nat.{ℕ, zero, suc, _+_, _≤_, _<_}
 use native.Mathlib.Omega.{arith}
 use lib.Dec.{eqb, lit≤}
 use lib.ListN.{length, drop, getD}
 use lib.Seq.{getD-take, getD-drop}
-use Rattle.places.specs.Desk.{numberOf}
+use Rattle.format.specs.Refusals.{bare}
+use Rattle.format.specs.declared.Refusal.{Refusal}
+use Rattle.places.specs.Desk.{refusalOf}
 use Rattle.places.specs.Places.{fourPlaces, placeAt}
 use Rattle.desk_runs.specs.Runs.{Desk, Empty, Call, comes, replyTo, Part, since, Complete, Given, asked, due}
 use Rattle.desk_runs.specs.Taking.{dueFor}
@@ -43,13 +44,13 @@ empty-in {d} x =
 -- ---- a packet comes in
 
 module _ (d : Lent) (empty : EmptyIn d) (h : List (Call × ℕ)) (e : Lent) (r : Run d h e) (m : List ℕ) where
-  -- Demand 2: the code and the mark are what is due for the packet.
-  pub accepted-over-bytes : (again code : ℕ) (bs t : List ℕ) (again′ : ℕ) → AcceptsIn (e .places) (e .store) m again code bs t again′
-      → (code ≡ numberOf (dueFor h m)) × (again′ ≡ againOf (dueFor h m) again)
+  -- Demand 2: the refusal and the mark are what is due for the packet.
+  pub accepted-over-bytes : (again : ℕ) (code : Refusal) (bs t : List ℕ) (again′ : ℕ) → AcceptsIn (e .places) (e .store) m again code bs t again′
+      → (code ≡ refusalOf (dueFor h m)) × (again′ ≡ againOf (dueFor h m) again)
   accepted-over-bytes again code bs t again′ (x, _, _, y) =
       let f = follows d (empty .wide) h e r in
       let is = ap (replyTo (comes m)) (f .left) ∙ accepted-is-due (deskIn d) (empty-in empty) (callsOf h) m ∙ ap (λ h. dueFor h m) (sym (f .logged)) in
-      (x ∙ ap numberOf is, y ∙ ap (λ a. againOf a again) is)
+      (x ∙ ap refusalOf is, y ∙ ap (λ a. againOf a again) is)
 
 -- ---- asking
 
@@ -60,12 +61,12 @@ module _ (d : Lent) (empty : EmptyIn d) (h : List (Call × ℕ)) (e : Lent) (r :
       let f = follows d (empty .wide) h e r in
       ap (asked n b w) (f .left) ∙ asked-is-due (deskIn d) (empty-in empty) (callsOf h) n b w ∙ ap (λ h. due (since n h) b w) (sym (f .logged))
 
-  module _ (count language code : ℕ) (bs c v : List ℕ) (count′ language′ : ℕ) (answer : AsksIn (e .places) (e .store) n b w count language code bs c v count′ language′) where
-    -- Demand 2: the code, the buffer, the row, the count and the language are what is due.
-    pub asked-over-bytes : let g = due (since n h) b w in (code ≡ numberOf (g .reply)) × (c ≡ g .notice) × (v ≡ g .missing) × (count′ ≡ countOf (g .reply) count) × (language′ ≡ languageOf (g .reply) language)
+  module _ (count language : ℕ) (code : Refusal) (bs c v : List ℕ) (count′ language′ : ℕ) (answer : AsksIn (e .places) (e .store) n b w count language code bs c v count′ language′) where
+    -- Demand 2: the refusal, the buffer, the row, the count and the language are what is due.
+    pub asked-over-bytes : let g = due (since n h) b w in (code ≡ refusalOf (g .reply)) × (c ≡ g .notice) × (v ≡ g .missing) × (count′ ≡ countOf (g .reply) count) × (language′ ≡ languageOf (g .reply) language)
     asked-over-bytes =
         let (x, _, y, z, s, t) = answer in (
-          x ∙ ap (λ (g : Given). numberOf (g .reply)) is-due,
+          x ∙ ap (λ (g : Given). refusalOf (g .reply)) is-due,
           y ∙ ap (λ (g : Given). g .notice) is-due,
           z ∙ ap (λ (g : Given). g .missing) is-due,
           s ∙ ap (λ (g : Given). countOf (g .reply) count) is-due,
@@ -73,9 +74,9 @@ module _ (d : Lent) (empty : EmptyIn d) (h : List (Call × ℕ)) (e : Lent) (r :
         )
 
     -- With room enough, the notice is handed out exactly when all its packets have come.
-    pub handed-out-over-bytes : (x : Part) (xs : List Part) → since n h ≡ x ∷ xs → length (whole x xs) ≤ length b → (code ≡ 0) ↔ Complete (x ∷ xs)
+    pub handed-out-over-bytes : (x : Part) (xs : List Part) → since n h ≡ x ∷ xs → length (whole x xs) ≤ length b → (code .code ≡ 0 → Complete (x ∷ xs)) × (Complete (x ∷ xs) → code ≡ bare 0)
     handed-out-over-bytes x xs have room =
         let f = follows d (empty .wide) h e r in
         let (there, back) = handed-out-exactly (deskIn d) (empty-in empty) (callsOf h) n x xs (ap (since n) (sym (f .logged)) ∙ have) b w room in
-        let same : code ≡ numberOf (asked n b w _ .reply) = answer .0 ∙ ap (λ (x : Desk). numberOf (asked n b w x .reply)) (f .left) in
-        (λ z. there (sym same ∙ z), λ k. same ∙ back k)
+        let same : code ≡ refusalOf (asked n b w _ .reply) = answer .0 ∙ ap (λ (x : Desk). refusalOf (asked n b w x .reply)) (f .left) in
+        (λ z. there (ap (λ (r : Refusal). r .code) (sym same) ∙ z), λ k. same ∙ back k)

@@ -2,16 +2,17 @@
 use mathlib.Core.Path.{_≡_, refl, sym, ap, _∙_}
 use mathlib.Core.Bool.{Bool, true, false, cond, false≢true}
 use mathlib.Core.List.{List, [], _∷_, _++_, List·Memᴰ, List·Memᴰ·head, List·Memᴰ·not-nil}
-use mathlib.Core.Logic.{_↔_}
 use Prim.Native.Nat.{ℕ, _≤_, _<_}
 use native.Mathlib.Omega.{arith}
 use lib.Dec.{leb, eqb}
 use lib.ListN.{length, drop}
 use borrow.Author.Tests.{eqb-true, ne-eqb, le-leb, lt-leb}
+use Rattle.format.specs.Refusals.{bare}
+use Rattle.format.specs.declared.Refusal.{Refusal}
 use Rattle.places.specs.Places.{goodPlaces}
-use Rattle.places.specs.Desk.{numberOf, firstTests}
+use Rattle.places.specs.Desk.{refusalOf, firstTests}
 use Rattle.places.specs.declared.Reply.the-variants.{Joined, Missing}
-use Rattle.desk_runs.specs.Runs.{Desk, Empty, Call, comes, asks, drops, run, log, Part, since, came, contentOf, notCome, inOrder, Complete, Given, asked, refusal, due}
+use Rattle.desk_runs.specs.Runs.{Desk, Empty, Call, comes, asks, drops, numberOf, run, log, Part, since, came, contentOf, notCome, inOrder, Complete, Given, asked, refusal, due}
 use Rattle.desk_runs.specs.laws.Parts.{each-answer, Member, member-of, all-and-only}
 use Rattle.desk_runs.specs.laws.Told.{Told, good-places, tests-pass, its-place}
 use Rattle.desk_runs.specs.laws.Steps.{accepts-told, asks-told, drops-told, asked-due}
@@ -57,13 +58,17 @@ module _ (x : Part) (xs : List Part) where
     pub incomplete-cramped : (Complete (x ∷ xs) → ⊥) → length w < length lacking → due (x ∷ xs) b w ≡ refusal b w 6
     incomplete-cramped h room = rw (ne-eqb (length lacking) 0 (λ e. h (all-came e)), lt-leb (length lacking) (length w) room) refl
 
-    -- the paper's number
-    pub number-due : numberOf (due (x ∷ xs) b w .reply) ≡ cond (eqb (length lacking) 0) (cond (leb (length whole) (length b)) 0 6) (cond (leb (length lacking) (length w)) 9 6)
-    number-due = each-answer (λ (g : Given). numberOf (g .reply)) (eqb (length lacking) 0) (leb (length whole) (length b)) (leb (length lacking) (length w)) _ _ _ _
+    -- the refusal: it tells no bit
+    pub number-due : refusalOf (due (x ∷ xs) b w .reply) ≡ bare (cond (eqb (length lacking) 0) (cond (leb (length whole) (length b)) 0 6) (cond (leb (length lacking) (length w)) 9 6))
+    number-due =
+        let u = eqb (length lacking) 0 in
+        let v = leb (length whole) (length b) in
+        let y = leb (length lacking) (length w) in
+        each-answer (λ (g : Given). refusalOf (g .reply)) u v y _ _ _ _ ∙ sym (each-answer bare u v y 0 6 9 6)
 
     -- what is handed out is complete
     pub joined-complete : numberOf (due (x ∷ xs) b w .reply) ≡ 0 → Complete (x ∷ xs)
-    joined-complete z = go (eqb (length lacking) 0) (leb (length lacking) (length w)) refl (sym number-due ∙ z)
+    joined-complete z = go (eqb (length lacking) 0) (leb (length lacking) (length w)) refl (ap (λ (r : Refusal). r .code) (sym number-due) ∙ z)
       where
         go : (u v : Bool) → eqb (length lacking) 0 ≡ u → _≡_ {A = ℕ} (cond u (cond (leb (length whole) (length b)) 0 6) (cond v 9 6)) 0 → Complete (x ∷ xs)
         go true v e q = all-came (eqb-true (length lacking) 0 e)
@@ -72,7 +77,7 @@ module _ (x : Part) (xs : List Part) where
 
     -- it is never 11
     pub known : numberOf (due (x ∷ xs) b w .reply) ≡ 11 → ⊥
-    known z = go (eqb (length lacking) 0) (leb (length whole) (length b)) (leb (length lacking) (length w)) (sym number-due ∙ z)
+    known z = go (eqb (length lacking) 0) (leb (length whole) (length b)) (leb (length lacking) (length w)) (ap (λ (r : Refusal). r .code) (sym number-due) ∙ z)
       where
         go : (u v y : Bool) → _≡_ {A = ℕ} (cond u (cond v 0 6) (cond y 9 6)) 11 → ⊥
         go true true y q = omega (arith, q)
@@ -113,10 +118,10 @@ module _ (d : Desk) (empty : Empty d) where
   asked-is-due cs n b w = asked-due (told cs) n b w
 
   -- It is 11 exactly where none has come.
-  pub asked-unknown : (cs : List Call) (n : ℕ) (b w : List ℕ) → (numberOf (asked n b w (run d cs) .reply) ≡ 11) ↔ (since n (log d cs) ≡ [])
+  pub asked-unknown : (cs : List Call) (n : ℕ) (b w : List ℕ) → (numberOf (asked n b w (run d cs) .reply) ≡ 11 → since n (log d cs) ≡ []) × (since n (log d cs) ≡ [] → refusalOf (asked n b w (run d cs) .reply) ≡ bare 11)
   asked-unknown cs n b w =
       let is : asked n b w (run d cs) .reply ≡ due (since n (log d cs)) b w .reply = ap (λ g. g .reply) (asked-is-due cs n b w) in
-      (λ e. go (since n (log d cs)) (ap numberOf (sym is) ∙ e), λ e. ap numberOf is ∙ ap (λ xs. numberOf (due xs b w .reply)) e)
+      (λ e. go (since n (log d cs)) (ap numberOf (sym is) ∙ e), λ e. ap refusalOf is ∙ ap (λ xs. refusalOf (due xs b w .reply)) e)
     where
       go : (xs : List Part) → numberOf (due xs b w .reply) ≡ 11 → xs ≡ []
       go [] e = refl
@@ -127,10 +132,10 @@ module _ (d : Desk) (empty : Empty d) where
     is-due = asked-is-due cs n b w ∙ ap (λ xs. due xs b w) have
 
     -- With room enough, the notice is handed out exactly when all its packets have come,
-    pub handed-out-exactly : length (whole x xs) ≤ length b → (numberOf (asked n b w (run d cs) .reply) ≡ 0) ↔ Complete (x ∷ xs)
+    pub handed-out-exactly : length (whole x xs) ≤ length b → (numberOf (asked n b w (run d cs) .reply) ≡ 0 → Complete (x ∷ xs)) × (Complete (x ∷ xs) → refusalOf (asked n b w (run d cs) .reply) ≡ bare 0)
     handed-out-exactly room =
-        let is = ap (λ g. numberOf (g .reply)) is-due in
-        (λ e. joined-complete x xs b w (sym is ∙ e), λ h. is ∙ ap (λ g. numberOf (g .reply)) (complete-due x xs b w h room))
+        let is = ap (λ g. refusalOf (g .reply)) is-due in
+        (λ e. joined-complete x xs b w (ap (λ (r : Refusal). r .code) (sym is) ∙ e), λ h. is ∙ ap (λ g. refusalOf (g .reply)) (complete-due x xs b w h room))
 
     -- in number order, with its language;
     pub asked-complete : Complete (x ∷ xs) → length (whole x xs) ≤ length b

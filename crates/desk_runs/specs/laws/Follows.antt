@@ -1,10 +1,11 @@
--- A run over lent bytes is, read as rows of places, the run of its calls (desk_runs), and its codes are the numbers of that run's log: by induction, since each call leaves the row that it says. Assumes nothing.
+-- A run over lent bytes is, read as rows of places, the run of its calls (desk_runs), and its numbers are those of that run's log: by induction, since each call leaves the row that it says. Assumes nothing.
 use mathlib.Core.Path.{_≡_, refl, ap, _∙_}
 use mathlib.Core.List.{List, _∷_}
 use Prim.Native.Nat.{ℕ, _≤_}
 use native.Mathlib.Omega.{arith}
 use lib.ListN.{length}
-use Rattle.places.specs.Desk.{numberOf}
+use Rattle.format.specs.declared.Refusal.{Refusal}
+use Rattle.places.specs.Desk.{refusalOf}
 use Rattle.places.specs.Places.{fourPlaces}
 use Rattle.desk_runs.specs.Runs.{Call, comes, asks, drops, replyTo, after, run, log}
 use Rattle.desk_bytes.specs.Bytes.{begins, rowIn}
@@ -17,13 +18,13 @@ pub record Follows (d : Lent) (h : List (Call × ℕ)) (e : Lent) : Type 0 where
   pub logged : h ≡ log (deskIn d) (callsOf h)
 
 -- one call more
-step : {d : Lent} {h : List (Call × ℕ)} {e : Lent} → Follows d h e → (c : Call) (code : ℕ) (e′ : Lent) → code ≡ numberOf (replyTo c (deskIn e)) → deskIn e′ ≡ after c (deskIn e) → length (e′ .places) ≡ length (e .places)
-    → Follows d ((c, code) ∷ h) e′
+step : {d : Lent} {h : List (Call × ℕ)} {e : Lent} → Follows d h e → (c : Call) (code : Refusal) (e′ : Lent) → code ≡ refusalOf (replyTo c (deskIn e)) → deskIn e′ ≡ after c (deskIn e) → length (e′ .places) ≡ length (e .places)
+    → Follows d ((c, code .code) ∷ h) e′
 unfolding run log callsOf
 step f c code e′ is left long = record {
   wide = omega (arith, f .wide, long);
   left = left ∙ ap (after c) (f .left);
-  logged = let number = is ∙ ap (λ x. numberOf (replyTo c x)) (f .left) in λ i. (c, number i) ∷ f .logged i;
+  logged = let same = is ∙ ap (λ x. refusalOf (replyTo c x)) (f .left) in λ i. (c, same i .code) ∷ f .logged i;
 }
 
 pub follows : (d : Lent) → begins fourPlaces ≤ length (d .places) → (h : List (Call × ℕ)) (e : Lent) → Run d h e → Follows d h e

@@ -3,8 +3,7 @@ use mathlib.Core.Path.{_≡_, refl, sym, ap, _∙_}
 use mathlib.Core.Bool.{true}
 use mathlib.Core.List.{List, [], _∷_, _++_}
 use Prim.Native.Nat.{ℕ}
-use Rattle.places.specs.Desk.{numberOf}
-use Rattle.desk_runs.specs.Runs.{Desk, Empty, Call, replyTo, after, run, log, frees, grown, since, asked, due}
+use Rattle.desk_runs.specs.Runs.{Desk, Empty, Call, replyTo, numberOf, after, run, log, frees, grown, since, asked, due}
 use Rattle.desk_runs.specs.laws.Demand.{asked-is-due}
 
 -- ---- runs in two parts, the newer in front

@@ -11,12 +11,14 @@ use lib.Seq.{take-all, take-add}
 use borrow.Author.Tests.{eq-eqb}
 use Rattle.packet.specs.Packet.{partBytes}
 use Rattle.packet.specs.Splitter.{packetCount, partOf, packetOf}
-use Rattle.places.specs.Desk.{numberOf}
+use Rattle.format.specs.Refusals.{bare}
+use Rattle.format.specs.declared.Refusal.{Refusal}
+use Rattle.places.specs.Desk.{refusalOf}
 use Rattle.places.specs.declared.Reply.the-variants.{Joined}
 use Rattle.places.specs.laws.Front.{Unopened}
 use Rattle.desk_bytes.specs.Promises.{countOf, languageOf, AsksIn}
 use Rattle.desk_runs.specs.Lent.{Lent, deskIn, EmptyIn, Run, callsOf}
-use Rattle.desk_runs.specs.Runs.{Desk, Empty, Call, asks, run, log, Part, since, came, contentOf, inOrder, Given, asked, due}
+use Rattle.desk_runs.specs.Runs.{Desk, Empty, Call, asks, numberOf, run, log, Part, since, came, contentOf, inOrder, Given, asked, due}
 use Rattle.desk_runs.specs.Sending.{AllCame, handed}
 use Rattle.desk_runs.specs.laws.BytesDemand.{empty-in, asked-over-bytes}
 use Rattle.desk_runs.specs.laws.Demand.{told, whole, complete-due, asked-is-due, one-notice}
@@ -79,17 +81,17 @@ module _ (english : Bool) (number : ℕ) (c : List ℕ) where
           let e = freed-forgets d (asks number b w) cs number (eq-eqb number number refl) (ap (λ (g : Given). numberOf (g .reply)) split-handed-out) in
           (e, none-open d empty (asks number b w ∷ cs) number e)
 
-    -- Over lent bytes the same: the code, the buffer, the row, the count and the language; and the place is free.
+    -- Over lent bytes the same: the refusal, the buffer, the row, the count and the language; and the place is free.
     module _ (d : Lent) (empty : EmptyIn d) (h : List (Call × ℕ)) (e : Lent) (r : Run d h e) (all : AllCame english number c (since number h)) (b w : List ℕ) (room : length c ≤ length b) where
-      pub split-over-bytes : (count language code : ℕ) (bs t v : List ℕ) (count′ language′ : ℕ) → AsksIn (e .places) (e .store) number b w count language code bs t v count′ language′
-          → (code ≡ 0) × (t ≡ c ++ drop (length c) b) × (v ≡ w) × (count′ ≡ length c) × (language′ ≡ cond english 1 0) × (since number ((asks number b w, code) ∷ h) ≡ [])
+      pub split-over-bytes : (count language : ℕ) (code : Refusal) (bs t v : List ℕ) (count′ language′ : ℕ) → AsksIn (e .places) (e .store) number b w count language code bs t v count′ language′
+          → (code ≡ bare 0) × (t ≡ c ++ drop (length c) b) × (v ≡ w) × (count′ ≡ length c) × (language′ ≡ cond english 1 0) × (since number ((asks number b w, code .code) ∷ h) ≡ [])
       unfolding since
       split-over-bytes count language code bs t v count′ language′ answer =
           let f = follows d (empty .wide) h e r in
           let is : due (since number h) b w ≡ handed english number c b w =
           ap (λ h. due (since number h) b w) (f .logged) ∙ split-due (deskIn d) (empty-in empty) (callsOf h) (subst (λ h. AllCame english number c (since number h)) (f .logged) all) b w room in
           let (x, y, z, p, q) = asked-over-bytes d empty h e r number b w count language code bs t v count′ language′ answer in
-          let code-is : code ≡ 0 = x ∙ ap (λ (g : Given). numberOf (g .reply)) is in (
+          let code-is : code ≡ bare 0 = x ∙ ap (λ (g : Given). refusalOf (g .reply)) is in (
             code-is,
             y ∙ ap (λ (g : Given). g .notice) is,
             z ∙ ap (λ (g : Given). g .missing) is,

@@ -10,11 +10,12 @@ use lib.Seq.{set-getD}
 use borrow.Author.Tests.{ltb-true, ltb-false, eqb-true, eq-eqb, ne-eqb}
 use Rattle.format.specs.Fmt.{Out, accepted, refused}
 use Rattle.format.specs.Promises.{answered, readRecord}
+use Rattle.format.specs.Refusals.{bare}
 use Rattle.packet.specs.Packet.{mostPackets, partBytes, packets, recordOf}
 use Rattle.packet.specs.declared.reading.Packet.{Packet}
 use Rattle.packet.specs.laws.Accepted.{Fit, read-fit}
 use Rattle.places.specs.Places.{blank, held, lacks, opened, holding, freed, fourPlaces, placeAt, front, openAt, freeAt}
-use Rattle.places.specs.Desk.{cell, inCell, laid, alike, numberOf, applied, firstTests, stays, Accepting, turnedAway, taken, contradicts, joins, opens, received, accepting, turns, Asking, notAnswered, answers, asking, Dropping, dropping, missingBelow, joinedBelow}
+use Rattle.places.specs.Desk.{cell, inCell, laid, alike, applied, firstTests, stays, Accepting, turnedAway, taken, contradicts, joins, opens, received, accepting, turns, Asking, notAnswered, answers, asking, Dropping, dropping, missingBelow, joinedBelow}
 use Rattle.places.specs.declared.Place.{Place}
 use Rattle.places.specs.declared.Reply.the-variants.{Done, Again, Joined, Missing, Refused}
 use Rattle.places.specs.laws.Alike.{alike-same}
@@ -22,7 +23,7 @@ use Rattle.places.specs.laws.Ends.{agreeing}
 use Rattle.places.specs.laws.Front.{front-open, front-free, front-at, Unopened, open-found, open-none, free-found}
 use Rattle.places.specs.laws.Joined.{cell-within}
 use Rattle.places.specs.laws.Laid.{length-laid, other-cell}
-use Rattle.desk_runs.specs.Runs.{comes, asks, drops, Part, grown, notCome, inOrder, contentOf, given, due}
+use Rattle.desk_runs.specs.Runs.{comes, asks, drops, numberOf, Part, grown, notCome, inOrder, contentOf, given, due}
 use Rattle.desk_runs.specs.laws.Parts.{Member, each-answer}
 use Rattle.desk_runs.specs.laws.Stands.{Stands, in-cell, missing-is, joined-is, put-in, again}
 use Rattle.desk_runs.specs.laws.Told.{Told, tests-pass, retold, filled, emptied}
@@ -80,7 +81,7 @@ module _ {ps : List Place} {s : List ℕ} {f : ℕ → List Part} (x : Told ps s
         st = x .stands i l o
 
         go : (u v : Bool) → contradicts s i p r c ≡ u → lacks p (r .own) ≡ v
-            → Accepted m (cond u (turnedAway s 7) (cond v (taken s i (holding p (r .own) (length c)) r c) (record { reply = Again; change = stays; store = s })))
+            → Accepted m (cond u (turnedAway s (bare 7)) (cond v (taken s i (holding p (r .own) (length c)) r c) (record { reply = Again; change = stays; store = s })))
         go true v eu ev = retold x (λ n. grown n (comes m, 7) (f n)) (λ n. refl)
         go false true eu ev =
             let (language, total, h) = agreeing s i p r c eu in
@@ -105,7 +106,7 @@ module _ {ps : List Place} {s : List ℕ} {f : ℕ → List Part} (x : Told ps s
         i : ℕ
         i = freeAt ps
 
-        go : (u : Bool) → ltb i fourPlaces ≡ u → Accepted m (cond u (taken s i (opened r (length c)) r c) (turnedAway s 8))
+        go : (u : Bool) → ltb i fourPlaces ≡ u → Accepted m (cond u (taken s i (opened r (length c)) r c) (turnedAway s (bare 8)))
         go true e =
             let l = ltb-true i fourPlaces e in
             let shut = free-found ps l in
@@ -131,7 +132,7 @@ module _ {ps : List Place} {s : List ℕ} {f : ℕ → List Part} (x : Told ps s
   unfolding accepting
   accepts-told m = go (readRecord packets recordOf m) refl
     where
-      go : (o : Out Part) → readRecord packets recordOf m ≡ o → Accepted m (answered (λ x. let code = firstTests ps s in cond (eqb code 0) (received (front ps) s (x .0) (x .1)) (turnedAway s code)) (turnedAway s) o)
+      go : (o : Out Part) → readRecord packets recordOf m ≡ o → Accepted m (answered (λ x. let code = firstTests ps s in cond (eqb code 0) (received (front ps) s (x .0) (x .1)) (turnedAway s (bare code))) (turnedAway s) o)
       go (accepted y) e = rw (tests-pass x) (received-told m y e)
       go (refused n at) e = retold x (λ k. grown k (comes m, n) (f k)) (λ k. rw e (either (eqb n 0) (f k)))
         where
@@ -164,7 +165,7 @@ module _ {ps : List Place} {s : List ℕ} {f : ℕ → List Part} (x : Told ps s
       c = joinedBelow (p .total) s i p
 
       go : (u v y : Bool)
-          → Asked n b w (cond u (cond v (record { reply = Joined (length c) (p .language); change = turns i (freed p); notice = c ++ drop (length c) b; missing = w }) (notAnswered b w 6)) (cond y (record { reply = Missing (length ns); change = stays; notice = b; missing = ns ++ drop (length ns) w }) (notAnswered b w 6)))
+          → Asked n b w (cond u (cond v (record { reply = Joined (length c) (p .language); change = turns i (freed p); notice = c ++ drop (length c) b; missing = w }) (notAnswered b w (bare 6))) (cond y (record { reply = Missing (length ns); change = stays; notice = b; missing = ns ++ drop (length ns) w }) (notAnswered b w (bare 6))))
       go true true y = freed-told n i l o q
       go true false y = retold x (λ k. grown k (asks n b w, 6) (f k)) (λ k. refl)
       go false v true = retold x (λ k. grown k (asks n b w, 9) (f k)) (λ k. refl)
@@ -177,7 +178,7 @@ module _ {ps : List Place} {s : List ℕ} {f : ℕ → List Part} (x : Told ps s
       i : ℕ
       i = openAt ps n
 
-      go : (u : Bool) → ltb i fourPlaces ≡ u → Asked n b w (cond u (answers s i (placeAt (front ps) i) b w) (notAnswered b w 11))
+      go : (u : Bool) → ltb i fourPlaces ≡ u → Asked n b w (cond u (answers s i (placeAt (front ps) i) b w) (notAnswered b w (bare 11)))
       go true e = let l = ltb-true i fourPlaces e in let (o, q) = open-found ps n l in rw (front-at ps i l) (answers-told n b w i l o q)
       go false e = retold x (λ k. grown k (asks n b w, 11) (f k)) (λ k. refl)
 
@@ -191,7 +192,7 @@ module _ {ps : List Place} {s : List ℕ} {f : ℕ → List Part} (x : Told ps s
       i : ℕ
       i = openAt ps n
 
-      go : (u : Bool) → ltb i fourPlaces ≡ u → Dropped n (cond u (record { reply = Done; change = turns i (freed (placeAt (front ps) i)) }) (record { reply = Refused 11; change = stays }))
+      go : (u : Bool) → ltb i fourPlaces ≡ u → Dropped n (cond u (record { reply = Done; change = turns i (freed (placeAt (front ps) i)) }) (record { reply = Refused (bare 11); change = stays }))
       go true e = let l = ltb-true i fourPlaces e in let (o, q) = open-found ps n l in rw (front-at ps i l) (freed-told n i l o q)
       go false e = retold x (λ k. grown k (drops n, 11) (f k)) (λ k. refl)
 
@@ -216,7 +217,7 @@ module _ {ps : List Place} {s : List ℕ} {f : ℕ → List Part} (x : Told ps s
       i : ℕ
       i = openAt ps n
 
-      go : (u : Bool) → ltb i fourPlaces ≡ u → given (cond u (answers s i (placeAt (front ps) i) b w) (notAnswered b w 11)) ≡ due (f n) b w
+      go : (u : Bool) → ltb i fourPlaces ≡ u → given (cond u (answers s i (placeAt (front ps) i) b w) (notAnswered b w (bare 11))) ≡ due (f n) b w
       go true e =
           let l = ltb-true i fourPlaces e in
           let (o, q) = open-found ps n l in

@@ -10,9 +10,10 @@ use lib.ListN.{length}
 use borrow.Author.Tests.{ltb-true, ltb-false, lt-ltb, eqb-true, eq-eqb}
 use Rattle.format.specs.Fmt.{Out, accepted, refused}
 use Rattle.format.specs.Promises.{answered, readRecord}
+use Rattle.format.specs.Refusals.{bare}
 use Rattle.packet.specs.Packet.{packets, recordOf}
 use Rattle.places.specs.Places.{fourPlaces, placeAt, front, openAt, freeAt}
-use Rattle.places.specs.Desk.{alike, numberOf, Accepting, turnedAway, joins, opens, received, accepting}
+use Rattle.places.specs.Desk.{alike, refusalOf, Accepting, turnedAway, joins, opens, received, accepting}
 use Rattle.places.specs.declared.Place.{Place}
 use Rattle.places.specs.declared.Reply.the-variants.{Done, Again, Refused}
 use Rattle.places.specs.laws.Alike.{same-alike}
@@ -36,7 +37,7 @@ module _ {ps : List Place} {s : List ℕ} {f : ℕ → List Part} (x : Told ps s
       let language = st .members .0 .language in
       rw (lacks-came st (y .0 .own), in-cell st (y .0 .own), sym total, sym language) (go (agrees y z zs) (came (z ∷ zs) (y .0 .own)) _ _ refl refl)
     where
-      go : (u v : Bool) (new old : Accepting) → new .reply ≡ Done → old .reply ≡ Again → cond (not u) (turnedAway s 7) (cond (not v) new old) .reply ≡ cond u (cond v Again Done) (Refused 7)
+      go : (u v : Bool) (new old : Accepting) → new .reply ≡ Done → old .reply ≡ Again → cond (not u) (turnedAway s (bare 7)) (cond (not v) new old) .reply ≡ cond u (cond v Again Done) (Refused (bare 7))
       go true true new old a b = b
       go true false new old a b = a
       go false v new old a b = refl
@@ -48,7 +49,7 @@ module _ {ps : List Place} {s : List ℕ} {f : ℕ → List Part} (x : Told ps s
       i : ℕ
       i = openAt ps (y .0 .number)
 
-      free : (u : Bool) (a : Accepting) → a .reply ≡ Done → cond u a (turnedAway s 8) .reply ≡ cond u Done (Refused 8)
+      free : (u : Bool) (a : Accepting) → a .reply ≡ Done → cond u a (turnedAway s (bare 8)) .reply ≡ cond u Done (Refused (bare 8))
       free true a e = e
       free false a e = refl
 
@@ -59,7 +60,7 @@ module _ {ps : List Place} {s : List ℕ} {f : ℕ → List Part} (x : Told ps s
           rw (front-at ps i l) (joins-due y i (placeAt ps i) (f (y .0 .number)) (subst (λ k. Stands s i (placeAt ps i) (f k)) q (x .stands i l o)))
       go false e =
           let none = open-none ps (y .0 .number) (ltb-false i fourPlaces e) in
-          free (ltb (freeAt ps) fourPlaces) _ refl ∙ ap (λ u. cond u Done (Refused 8)) (sym room) ∙ ap (λ xs. welcome y xs n) (sym (x .away (y .0 .number) none))
+          free (ltb (freeAt ps) fourPlaces) _ refl ∙ ap (λ u. cond u Done (Refused (bare 8))) (sym room) ∙ ap (λ xs. welcome y xs n) (sym (x .away (y .0 .number) none))
 
   accepting-due : (m : List ℕ) → accepting ps s m .reply ≡ answered (λ y. welcome y (f (y .0 .number)) n) Refused (readRecord packets recordOf m)
   unfolding accepting
@@ -78,7 +79,7 @@ brings-number n (comes m) y h = go (readRecord packets recordOf m) h
     one x true e k = ap (λ (z : Part). z .0 .number) (List·Memᴰ·eq-of-singleton k) ∙ eqb-true (x .0 .number) n e
     one x false e k = absurd (List·Memᴰ·not-nil k)
 
-    go : (o : Out Part) → List·Memᴰ y (answered (λ x. cond (eqb (x .0 .number) n) (x ∷ []) []) (λ code. []) o) → y .0 .number ≡ n
+    go : (o : Out Part) → List·Memᴰ y (answered (λ x. cond (eqb (x .0 .number) n) (x ∷ []) []) (λ refusal. []) o) → y .0 .number ≡ n
     go (accepted x) k = one x (eqb (x .0 .number) n) refl k
     go (refused c p) k = absurd (List·Memᴰ·not-nil k)
 brings-number n (asks k b w) y h = absurd (List·Memᴰ·not-nil h)
@@ -132,12 +133,12 @@ module _ (d : Desk) (empty : Empty d) (cs : List Call) where
 
     -- A packet is taken in where packets of its number have come, with its language and total, and none of its own number with another content;
     pub joins-its-notice : (y : Part) (ys : List Part) → since (x .0 .number) (log d cs) ≡ y ∷ ys → x .0 .language ≡ y .0 .language → x .0 .total ≡ y .0 .total
-        → ((z : Part) → List·Memᴰ z (y ∷ ys) → z .0 .own ≡ x .0 .own → z .1 ≡ x .1) → numberOf (replyTo (comes m) (run d cs)) ≡ 0
+        → ((z : Part) → List·Memᴰ z (y ∷ ys) → z .0 .own ≡ x .0 .own → z .1 ≡ x .1) → refusalOf (replyTo (comes m) (run d cs)) ≡ bare 0
     joins-its-notice y ys have language total same =
-        ap numberOf (is-welcome ∙ ap (λ xs. welcome x xs (openNotices (log d cs))) have)
+        ap refusalOf (is-welcome ∙ ap (λ xs. welcome x xs (openNotices (log d cs))) have)
         ∙ rw (eq-eqb (x .0 .language) (y .0 .language) language, eq-eqb (x .0 .total) (y .0 .total) total) (go (came (y ∷ ys) (x .0 .own)) refl)
       where
-        go : (u : Bool) → came (y ∷ ys) (x .0 .own) ≡ u → numberOf (cond (not u || alike (contentOf (y ∷ ys) (x .0 .own)) (x .1)) (cond u Again Done) (Refused 7)) ≡ 0
+        go : (u : Bool) → came (y ∷ ys) (x .0 .own) ≡ u → refusalOf (cond (not u || alike (contentOf (y ∷ ys) (x .0 .own)) (x .1)) (cond u Again Done) (Refused (bare 7))) ≡ bare 0
         go true e = rw (content-is (x .0 .own) (x .1) (y ∷ ys) same e, same-alike (x .1)) refl
         go false e = refl
 

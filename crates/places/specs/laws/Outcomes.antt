@@ -4,6 +4,7 @@ use mathlib.Core.List.{List}
 use mathlib.Core.Path.{_≡_, refl}
 use lib.ListN.{length}
 use borrow.Author.Tests.{eq-eqb, ne-eqb, lt-ltb, le-ltb}
+use Rattle.format.specs.Refusals.{bare}
 use Rattle.places.specs.Desk.{firstTests, stays, turns, notAnswered, lists, handsOut, missingBelow, joinedBelow, answers, asking, dropping}
 use Rattle.places.specs.Places.{freed, fourPlaces, placeAt, front, openAt}
 use Rattle.places.specs.declared.Place.{Place}
@@ -12,11 +13,11 @@ use Rattle.places.specs.declared.Reply.the-variants.{Done, Refused}
 -- the first tests refuse, no place has that number, or one has
 module _ (ps : List Place) (s : List ℕ) (n : ℕ) where
   module _ (b w : List ℕ) where
-    pub asking-refused : (firstTests ps s ≡ 0 → ⊥) → asking ps s n b w ≡ notAnswered b w (firstTests ps s)
+    pub asking-refused : (firstTests ps s ≡ 0 → ⊥) → asking ps s n b w ≡ notAnswered b w (bare (firstTests ps s))
     unfolding asking
     asking-refused d = rw (ne-eqb (firstTests ps s) 0 d) refl
 
-    pub asking-unknown : firstTests ps s ≡ 0 → fourPlaces ≤ openAt (front ps) n → asking ps s n b w ≡ notAnswered b w 11
+    pub asking-unknown : firstTests ps s ≡ 0 → fourPlaces ≤ openAt (front ps) n → asking ps s n b w ≡ notAnswered b w (bare 11)
     unfolding asking
     asking-unknown z l = rw (eq-eqb (firstTests ps s) 0 z, le-ltb (openAt (front ps) n) fourPlaces l) refl
 
@@ -24,11 +25,11 @@ module _ (ps : List Place) (s : List ℕ) (n : ℕ) where
     unfolding asking
     asking-found z l = rw (eq-eqb (firstTests ps s) 0 z, lt-ltb (openAt (front ps) n) fourPlaces l) refl
 
-  pub dropping-refused : (firstTests ps s ≡ 0 → ⊥) → dropping ps s n ≡ record { reply = Refused (firstTests ps s); change = stays }
+  pub dropping-refused : (firstTests ps s ≡ 0 → ⊥) → dropping ps s n ≡ record { reply = Refused (bare (firstTests ps s)); change = stays }
   unfolding dropping
   dropping-refused d = rw (ne-eqb (firstTests ps s) 0 d) refl
 
-  pub dropping-unknown : firstTests ps s ≡ 0 → fourPlaces ≤ openAt (front ps) n → dropping ps s n ≡ record { reply = Refused 11; change = stays }
+  pub dropping-unknown : firstTests ps s ≡ 0 → fourPlaces ≤ openAt (front ps) n → dropping ps s n ≡ record { reply = Refused (bare 11); change = stays }
   unfolding dropping
   dropping-unknown z l = rw (eq-eqb (firstTests ps s) 0 z, le-ltb (openAt (front ps) n) fourPlaces l) refl
 

@@ -9,6 +9,7 @@ use lib.Seq.{set-getD}
 use borrow.Author.Tests.{le-leb, lt-leb}
 use Rattle.format.specs.Fmt.{Out, accepted, refused}
 use Rattle.format.specs.Promises.{answered, readRecord}
+use Rattle.format.specs.Refusals.{bare}
 use Rattle.packet.specs.Packet.{packets, recordOf}
 use Rattle.packet.specs.declared.reading.Packet.{Packet}
 use Rattle.places.specs.Places.{everyBelow, allApart, fourPlaces, blank, front, goodPlaces}
@@ -74,23 +75,23 @@ pub accepting-short : (ps : List Place) (s m : List ℕ) → length ps < fourPla
 unfolding accepting
 accepting-short ps s m h = rw (short-tests ps s h) (away (readRecord packets recordOf m))
   where
-    away : (o : Out (Packet × List ℕ)) → answered (λ x. turnedAway s 6) (turnedAway s) o ≡ turnedAway s (answered (λ x. 6) (λ code. code) o)
+    away : (o : Out (Packet × List ℕ)) → answered (λ x. turnedAway s (bare 6)) (turnedAway s) o ≡ turnedAway s (answered (λ x. bare 6) (λ refusal. refusal) o)
     away (accepted x) = refl
     away (refused c p) = refl
 
-pub asking-short : (ps : List Place) (s : List ℕ) (n : ℕ) (b w : List ℕ) → length ps < fourPlaces → asking ps s n b w ≡ notAnswered b w 6
+pub asking-short : (ps : List Place) (s : List ℕ) (n : ℕ) (b w : List ℕ) → length ps < fourPlaces → asking ps s n b w ≡ notAnswered b w (bare 6)
 unfolding asking
 asking-short ps s n b w h = rw (short-tests ps s h) refl
 
-pub dropping-short : (ps : List Place) (s : List ℕ) (n : ℕ) → length ps < fourPlaces → dropping ps s n ≡ record { reply = Refused 6; change = stays }
+pub dropping-short : (ps : List Place) (s : List ℕ) (n : ℕ) → length ps < fourPlaces → dropping ps s n ≡ record { reply = Refused (bare 6); change = stays }
 unfolding dropping
 dropping-short ps s n h = rw (short-tests ps s h) refl
 
 pub accepts-short : (ps : List Place) (s m : List ℕ) (a : Reply) → length ps < fourPlaces → a ≡ Refused (unplaced m) → Accepts ps s m a ps s
 accepts-short ps s m a h e = rw (accepting-short ps s m h) (e, refl, refl)
 
-pub asks-short : (ps : List Place) (s : List ℕ) (n : ℕ) (b w : List ℕ) → length ps < fourPlaces → Asks ps s n b w (Refused 6) ps b w
+pub asks-short : (ps : List Place) (s : List ℕ) (n : ℕ) (b w : List ℕ) → length ps < fourPlaces → Asks ps s n b w (Refused (bare 6)) ps b w
 asks-short ps s n b w h = rw (asking-short ps s n b w h) (refl, refl, refl, refl)
 
-pub drops-short : (ps : List Place) (s : List ℕ) (n : ℕ) → length ps < fourPlaces → Drops ps s n (Refused 6) ps
+pub drops-short : (ps : List Place) (s : List ℕ) (n : ℕ) → length ps < fourPlaces → Drops ps s n (Refused (bare 6)) ps
 drops-short ps s n h = rw (dropping-short ps s n h) (refl, refl)

@@ -9,10 +9,11 @@ use lib.ListN.{length}
 use borrow.Author.Tests.{ltb-true, ltb-false, eq-eqb, ne-eqb, lt-ltb, le-ltb}
 use Rattle.format.specs.Fmt.{accepted}
 use Rattle.format.specs.Promises.{readRecord}
+use Rattle.format.specs.Refusals.{bare}
 use Rattle.packet.specs.Packet.{packets, recordOf}
 use Rattle.packet.specs.declared.reading.Packet.{Packet}
 use Rattle.places.specs.Places.{everyBelow, held, opened, holding, passes, serves, clash, fourPlaces, placeAt, front, allApart, goodPlaces, openAt, freeAt}
-use Rattle.places.specs.Desk.{inCell, numberOf, stays, applied, turnOf, firstTests, Accepting, taken, joins, received, accepting}
+use Rattle.places.specs.Desk.{inCell, refusalOf, stays, applied, turnOf, firstTests, Accepting, taken, joins, received, accepting}
 use Rattle.places.specs.Promises.{Accepts, AcceptTurn}
 use Rattle.places.specs.declared.Place.{Place}
 use Rattle.places.specs.declared.Reply.{Reply}
@@ -87,7 +88,7 @@ pub data Takes (ps : List Place) (s : List ℕ) (r : Packet) (c : List ℕ) : Ac
   -- its notice is not open, and place i is free: it opens the lowest that is
   new : (i : ℕ) → Unopened ps (r .number) → i < fourPlaces → placeAt ps i .«open» ≡ false → Takes ps s r c (taken s (freeAt ps) (opened r (length c)) r c)
 
-pub takes-zero : {ps : List Place} {s : List ℕ} {r : Packet} {c : List ℕ} {o : Accepting} → Takes ps s r c o → numberOf (o .reply) ≡ 0
+pub takes-zero : {ps : List Place} {s : List ℕ} {r : Packet} {c : List ℕ} {o : Accepting} → Takes ps s r c o → refusalOf (o .reply) ≡ bare 0
 takes-zero (lacking i a z) = refl
 takes-zero (holding-it i a n e) = refl
 takes-zero (new i h l e) = refl
@@ -115,16 +116,16 @@ module _ (ps : List Place) (s m : List ℕ) (r : Packet) (c : List ℕ) (tests :
   taking x = rw (reads, tests) (becomes x)
 
   module _ {o : Accepting} (x : Takes ps s r c o) where
-    -- Over a lent row: the reply's number is 0, and row and store are what becomes of the packet.
-    pub takes-in : (a : Reply) (qs : List Place) (t : List ℕ) → Accepts ps s m a qs t → (numberOf a ≡ 0) × (a ≡ o .reply) × (qs ≡ applied ps (o .change)) × (t ≡ o .store)
+    -- Over a lent row: the reply is no refusal, and row and store are what becomes of the packet.
+    pub takes-in : (a : Reply) (qs : List Place) (t : List ℕ) → Accepts ps s m a qs t → (refusalOf a ≡ bare 0) × (a ≡ o .reply) × (qs ≡ applied ps (o .change)) × (t ≡ o .store)
     takes-in a qs t (e, f, g) =
         let is = taking x in
         let reply = e ∙ ap (λ (o : Accepting). o .reply) is in
-        (ap numberOf reply ∙ takes-zero x, reply, f ∙ ap (λ (o : Accepting). applied ps (o .change)) is, g ∙ ap (λ (o : Accepting). o .store) is)
+        (ap refusalOf reply ∙ takes-zero x, reply, f ∙ ap (λ (o : Accepting). applied ps (o .change)) is, g ∙ ap (λ (o : Accepting). o .store) is)
 
     -- By value: the same of the turn.
-    pub takes-turn : (q : Turn) (t : List ℕ) → AcceptTurn ps s m q t → (numberOf (q .reply) ≡ 0) × (q ≡ turnOf ps (o .reply) (o .change)) × (t ≡ o .store)
+    pub takes-turn : (q : Turn) (t : List ℕ) → AcceptTurn ps s m q t → (refusalOf (q .reply) ≡ bare 0) × (q ≡ turnOf ps (o .reply) (o .change)) × (t ≡ o .store)
     takes-turn q t (e, _, g) =
         let is = taking x in
         let turn = e ∙ ap (λ (o : Accepting). turnOf ps (o .reply) (o .change)) is in
-        (ap numberOf (turned (λ (q : Turn). q) ps (o .reply) (o .change) q turn refl .0) ∙ takes-zero x, turn, g ∙ ap (λ (o : Accepting). o .store) is)
+        (ap refusalOf (turned (λ (q : Turn). q) ps (o .reply) (o .change) q turn refl .0) ∙ takes-zero x, turn, g ∙ ap (λ (o : Accepting). o .store) is)

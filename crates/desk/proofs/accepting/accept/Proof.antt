@@ -8,6 +8,7 @@ use lib.ListN.{length, take, drop}
 use borrow.Author.Needs.{needs}
 use Rattle.format.specs.Fmt.{accepted}
 use Rattle.format.specs.Promises.{readRecord}
+use Rattle.format.specs.Refusals.{bare}
 use Rattle.packet.specs.Packet.{partBytes, packets, recordOf}
 use Rattle.places.specs.Places.{placeAt, held, fourPlaces}
 use Rattle.places.specs.Desk.{firstTests, joins, opens, turnedAway, taken}
@@ -40,11 +41,15 @@ passed k = sym (k .before .before .first-tests .ensures) ∙ k .before .if1 .lef
 
 returns : tie.Need-returns
 returns c =
-    let m = c .before .before .before .before .before in
+    let k = c .before .before in
+    let tests = k .before .first-tests .ensures in
+    let m = k .before .before .before .before in
     let a = m .before .before .before .before .before .args in
     let r = m .answer .given .0 .0 in
     let (long, is, fit) = good m in
-    of-four (a .a) (a .b) (a .c) (a .d) (a .store .now) (a .packet .now) _ _ _ (refused-tests (a .a) (a .b) (a .c) (a .d) (a .store .now) (a .packet .now) r (content m) is (λ z. c .before .if1 .taken (c .before .before .first-tests .ensures ∙ z))) (settled (a .a) (turnedAway (a .store .now) (firstTests (a .a ∷ a .b ∷ a .c ∷ a .d ∷ []) (a .store .now))) (turnedAway (a .store .now) (c .before .before .first-tests .result)) _ _ (ap (turnedAway (a .store .now)) (sym (c .before .before .first-tests .ensures))) (c .staying .ensures) (lit< tt) refl)
+    of-four (a .a) (a .b) (a .c) (a .d) (a .store .now) (a .packet .now) _ _ _ (refused-tests (a .a) (a .b) (a .c) (a .d) (a .store .now) (a .packet .now) r (content m) is (λ z. k .if1 .taken (tests ∙ z)))
+    (settled (a .a) (turnedAway (a .store .now) (bare (firstTests (a .a ∷ a .b ∷ a .c ∷ a .d ∷ []) (a .store .now)))) (turnedAway (a .store .now) (c .before .bare .result)) _ _
+    (ap (turnedAway (a .store .now)) (sym (c .before .bare .ensures ∙ ap bare tests))) (c .staying .ensures) (lit< tt) refl)
 
 sub-content : tie.Need-sub-content
 sub-content c = omega (arith, good (c .before .before .before .before) .0)
@@ -115,7 +120,7 @@ pub accept-spec : {M : Type 1} → statement M
 accept-spec =
     tie.close
     (tie.spec
-    (λ c κs. search needs) (λ c. search needs) (λ c κs. search needs) (λ c κs. search needs) (λ c. search needs)
+    (λ c κs. search needs) (λ c. search needs) (λ c κs. search needs) (λ c κs. search needs) (λ c κs. search needs) (λ c. search needs)
     returns
     sub-content
     part-content-start

@@ -4,6 +4,7 @@ use mathlib.Core.List.{[], _∷_}
 use mathlib.Core.Path.{refl, sym, ap, _∙_}
 use native.Mathlib.Omega.{arith}
 use borrow.Author.Needs.{needs}
+use Rattle.format.specs.Refusals.{bare}
 use Rattle.places.specs.Desk.{turnOf, stays}
 use Rattle.places.specs.Places.{fourPlaces, openAt}
 use Rattle.places.specs.declared.Reply.the-variants.{Refused}
@@ -24,15 +25,15 @@ here k =
 
 returns : tie.Need-returns
 returns c =
-    let t = c .before .before in
+    let t = c .before .before .before in
     let a = t .before .before .before .before .args in
     let ps = a .a ∷ a .b ∷ a .c ∷ a .d ∷ [] in
     let s = a .store .now in
     let b = a .notice .now in
     let w = a .missing .now in
     let e = t .first-tests .ensures in
-    let again = c .staying .ensures ∙ ap (λ k. turnOf (a .a ∷ []) (Refused k) stays) e in
-    asked (a .a) (a .b) (a .c) (a .d) s (a .number) b w b w _ (c .staying .result) (asking-refused ps s (a .number) b w (λ z. c .before .if1 .taken (e ∙ z)))
+    let again = c .staying .ensures ∙ ap (λ r. turnOf (a .a ∷ []) (Refused r) stays) (c .before .bare .ensures ∙ ap bare e) in
+    asked (a .a) (a .b) (a .c) (a .d) s (a .number) b w b w _ (c .staying .result) (asking-refused ps s (a .number) b w (λ z. c .before .before .if1 .taken (e ∙ z)))
     (again, first-again (c .staying .result) (a .a) _ again, refl, refl)
 
 returns-2 : tie.Need-returns-2
@@ -67,7 +68,7 @@ pub ask-spec : {M : Type 1} → statement M
 ask-spec =
     tie.close
     (tie.spec
-    (λ c κs. search needs) (λ c κs. search needs)
+    (λ c κs. search needs) (λ c κs. search needs) (λ c κs. search needs)
     returns
     (λ c κs. search needs) (λ c κs. search needs)
     returns-2

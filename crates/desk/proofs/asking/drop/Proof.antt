@@ -4,6 +4,7 @@ use mathlib.Core.List.{[], _∷_}
 use mathlib.Core.Path.{_≡_, sym, ap, _∙_}
 use native.Mathlib.Omega.{arith}
 use borrow.Author.Needs.{needs}
+use Rattle.format.specs.Refusals.{bare}
 use Rattle.places.specs.Desk.{turnOf, stays}
 use Rattle.places.specs.Places.{fourPlaces, freed, openAt}
 use Rattle.places.specs.declared.Reply.the-variants.{Done, Refused}
@@ -16,13 +17,13 @@ use Rattle.desk.proofs.asking.drop.Tie as tie
 
 returns : tie.Need-returns
 returns c =
-    let t = c .before .before in
+    let t = c .before .before .before in
     let a = t .before .before .args in
     let ps = a .a ∷ a .b ∷ a .c ∷ a .d ∷ [] in
     let s = a .store .now in
     let e = t .first-tests .ensures in
-    let again = c .staying .ensures ∙ ap (λ k. turnOf ps (Refused k) stays) e in
-    dropped ps s (a .number) (c .staying .result) _ (dropping-refused ps s (a .number) (λ z. c .before .if1 .taken (e ∙ z))) again
+    let again = c .staying .ensures ∙ ap (λ r. turnOf ps (Refused r) stays) (c .before .bare .ensures ∙ ap bare e) in
+    dropped ps s (a .number) (c .staying .result) _ (dropping-refused ps s (a .number) (λ z. c .before .before .if1 .taken (e ∙ z))) again
     (first-again (c .staying .result) (a .a) _ again)
 
 returns-2 : tie.Need-returns-2
@@ -57,7 +58,7 @@ pub drop-spec : {M : Type 1} → statement M
 drop-spec =
     tie.close
     (tie.spec
-    (λ c κs. search needs) (λ c κs. search needs)
+    (λ c κs. search needs) (λ c κs. search needs) (λ c κs. search needs)
     returns
     (λ c κs. search needs) (λ c κs. search needs)
     returns-2

@@ -6,6 +6,7 @@ use lib.Dec.{lit<}
 use lib.ListN.{length}
 use borrow.Author.Needs.{needs}
 use borrow.Author.Tests.{lt-ltb, le-ltb}
+use Rattle.format.specs.Refusals.{bare}
 use Rattle.places.specs.Places.{fourPlaces, opened}
 use Rattle.places.specs.Desk.{cell, opens, turnedAway, taken}
 use Rattle.places.specs.declared.Reply.the-variants.{Done}
@@ -15,7 +16,7 @@ use Rattle.desk.proofs.accepting.placing.begin.Statement.{statement}
 use Rattle.desk.proofs.accepting.placing.begin.Tie as tie
 
 returns : tie.Need-returns
-returns c = let a = c .before .before .before .before .args in settled (a .first) (opens (a .store .now) (a .i) (a .r) (a .content .now)) (turnedAway (a .store .now) 8) _ _ (rw (le-ltb (a .i) fourPlaces (c .before .if1 .taken)) refl) (c .staying .ensures) (lit< tt) refl
+returns c = let a = c .before .before .before .before .args in settled (a .first) (opens (a .store .now) (a .i) (a .r) (a .content .now)) (turnedAway (a .store .now) (bare 8)) _ _ (rw (le-ltb (a .i) fourPlaces (c .before .if1 .taken)) refl) (c .staying .ensures) (lit< tt) refl
 
 returns-2 : tie.Need-returns-2
 returns-2 c =

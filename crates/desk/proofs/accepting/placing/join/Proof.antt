@@ -7,6 +7,7 @@ use lib.Dec.{lit<}
 use lib.ListN.{length, take, drop}
 use borrow.Author.Needs.{needs}
 use borrow.Author.Tests.{not-true, not-false}
+use Rattle.format.specs.Refusals.{bare}
 use Rattle.places.specs.Places.{held, holding}
 use Rattle.places.specs.Desk.{alike, turnedAway, taken, stays, cell}
 use Rattle.places.specs.declared.Reply.the-variants.{Done, Again}
@@ -20,7 +21,7 @@ returns : tie.Need-returns
 returns c =
     let g = c .before .before in
     let a = g .before .before .before .args in
-    settled (a .first) _ (turnedAway (a .store .now) 7) _ _ (other-head (a .store .now) (a .i) (a .p) (a .r) (a .content .now) (sym (g .agrees .ensures) ∙ not-true (g .agrees .result) (c .before .if1 .taken))) (c .staying .ensures) (lit< tt) refl
+    settled (a .first) _ (turnedAway (a .store .now) (bare 7)) _ _ (other-head (a .store .now) (a .i) (a .p) (a .r) (a .content .now) (sym (g .agrees .ensures) ∙ not-true (g .agrees .result) (c .before .if1 .taken))) (c .staying .ensures) (lit< tt) refl
 
 -- behind the first test language and total are the same
 agreed : (g : tie.After-agrees) → not (g .agrees .result) ≡ false → let a = g .before .before .before .args in agree (a .store .now) (a .i) (a .p) (a .r) (a .content .now) ≡ true
@@ -55,7 +56,7 @@ returns-4 c =
     let g = t .before .before .before in
     let a = g .before .before .before .before .args in
     let size : held (a .p) (a .r .own) ≡ cell (a .i) (a .r .own) + held (a .p) (a .r .own) - cell (a .i) (a .r .own) = omega arith in
-    settled (a .first) _ (turnedAway (a .store .now) 7) _ _
+    settled (a .first) _ (turnedAway (a .store .now) (bare 7)) _ _
     (other-content (a .store .now) (a .i) (a .p) (a .r) (a .content .now) (agreed (g .before) (g .if1 .left)) (t .if2 .left)
     (ap (λ n. alike (take n (drop (cell (a .i) (a .r .own)) (a .store .now))) (a .content .now)) size ∙ sym (m .same .ensures) ∙ c .before .if3 .left)) (c .staying3 .ensures) (lit< tt) refl
 
