@@ -9,7 +9,7 @@ use lib.ListN.{length, take, drop, length-append, length-drop}
 use lib.Seq.{sets, drop-drop, length-sets, take-all}
 use borrow.Author.Tests.{le-leb, lt-leb, eq-eqb, ne-eqb}
 use Rattle.daylog.specs.Records.{Entry, front, records, sizeOf}
-use Rattle.daylog.specs.Kinds.{word, codeOf, entryLine}
+use Rattle.daylog.specs.Kinds.{word, refusalOf, entryLine}
 use Rattle.daylog.specs.Log.{after, after-all, lines}
 use Rattle.daylog.specs.Stores.{placed, Stores}
 use Rattle.daylog.specs.Promises.{listed, chosen, crowded, Lists}
@@ -46,7 +46,7 @@ dry s Short e h = rw (records-open s, sym e)
 
 entry-some : (n : ℕ) (e : Entry) → 1 ≤ length (entryLine n e)
 unfolding entryLine
-entry-some n e = line-some n (word (e .kind)) (codeOf (e .kind) (e .body)) (length (e .body))
+entry-some n e = line-some n (word (e .kind)) (refusalOf (e .kind) (e .body)) (length (e .body))
 
 -- where a record is listed, there was room for the first
 some-listed : (all : List Entry) (d : Entry) (es : List Entry) → crowded all (d ∷ es) ≡ 0
@@ -122,7 +122,7 @@ module _ {s : List ℕ} {m : ℕ} {o out : List ℕ} {used made n : ℕ} (x : Le
       }
 
   -- nothing more is listed
-  stop : ahead s out used made n ≡ [] → {code : ℕ} → code ≡ crowded (records s) (chosen s m o) → (55 ≤ length o → code ≡ 0)
+  stop : ahead s out used made n ≡ [] → {code : ℕ} → code ≡ crowded (records s) (chosen s m o) → (76 ≤ length o → code ≡ 0)
       → Lists s m o (record { code = code; used = used; made = made; number = n }) out
   unfolding sizeOf after-all lines
   stop e c f =
@@ -153,7 +153,7 @@ module _ {s : List ℕ} {m : ℕ} {o out : List ℕ} {used made n : ℕ} (x : Le
   -- no room for the next line
   pub stop-full : (k i : ℕ) {made′ code : ℕ} {out′ : List ℕ} → front (drop used s) ≡ Record k i → made′ ≡ made
       → Stores out made (placed out made (entryLine n (entryAt (drop used s) k i))) made′ out′
-      → length (entryLine n (entryAt (drop used s) k i)) ≤ 55 → code ≡ cond (eqb used 0) 6 0
+      → length (entryLine n (entryAt (drop used s) k i)) ≤ 76 → code ≡ cond (eqb used 0) 6 0
       → Lists s m o (record { code = code; used = used; made = made; number = n }) out′
   unfolding sizeOf lines
   stop-full k i {made′} {code} {out′} e same called few c =
@@ -167,7 +167,7 @@ module _ {s : List ℕ} {m : ℕ} {o out : List ℕ} {used made n : ℕ} (x : Le
       barred = cond (eqb used 0) 6 0
 
       go : length out < made + length (entryLine n (entryAt (drop used s) k i)) → ahead s out used made n ≡ [] → (es : List Entry) → chosen s m o ≡ es
-          → (barred ≡ crowded (records s) es) × (55 ≤ length o → barred ≡ 0)
+          → (barred ≡ crowded (records s) es) × (76 ≤ length o → barred ≡ 0)
       go h none [] f =
           let u : used ≡ 0 = omega (arith, rw (none, f) at (x .size)) in
           let z : made ≡ 0 = omega (arith, rw (none, f) at (x .count)) in (

@@ -9,6 +9,7 @@ use lib.ListN.{length, take, drop}
 use lib.Seq.{take-add, drop-at, length-take-le}
 use borrow.Author.Tests.{le-leb, lt-ltb, le-ltb, eq-eqb, ne-eqb}
 use Rattle.format.specs.Message.{ahead}
+use Rattle.format.specs.Refusals.{bare}
 use Rattle.daylog.specs.LinesText.{line}
 use Rattle.daylog.specs.Text.{broken}
 use Rattle.daylog.specs.Records.{Entry, front, records, sizeOf}
@@ -41,10 +42,10 @@ module _ (t : State) (left : ℕ) (input : List ℕ) {text : List ℕ} {r : Stat
   pub shut : length input ≤ t .waiting → r ≡ stopped t 6 0 → Gives r input text (ending t left input text)
   shut h e = rw (le-ltb (t .waiting) (length input) h) (λ i. record { turn = e i; input = input; text = text })
 
--- 55 bytes are room for the last line
-pub last-roomed : (n left : ℕ) (text : List ℕ) → n < 2 ^ 64 → left < 2 ^ 64 → 55 ≤ length text → roomCode text (endingOf n left) ≡ 0
+-- 76 bytes are room for the last line
+pub last-roomed : (n left : ℕ) (text : List ℕ) → n < 2 ^ 64 → left < 2 ^ 64 → 76 ≤ length text → roomCode text (endingOf n left) ≡ 0
 last-roomed n zero text a b h = rw (le-leb 0 (length text) (omega arith))
-last-roomed n (suc left) text a b h = rw (le-leb (length (line n broken 1 (suc left))) (length text) (omega (arith, line-most n broken 1 (suc left) a (lit< tt) b)))
+last-roomed n (suc left) text a b h = rw (le-leb (length (line n broken (bare 1) (suc left))) (length text) (omega (arith, line-most n broken (bare 1) (suc left) a (lit< tt) (lit< tt) b)))
 
 -- ---- a window
 

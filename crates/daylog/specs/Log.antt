@@ -2,6 +2,7 @@
 use Prim.Native.Nat.{ℕ, zero, suc, _+_, _-_, _%_, _^_}
 use mathlib.Core.List.{List, [], _∷_, _++_}
 use lib.ListN.{length}
+use Rattle.format.specs.Refusals.{bare}
 use Rattle.daylog.specs.Kinds.{entryLine}
 use Rattle.daylog.specs.LinesText.{line}
 use Rattle.daylog.specs.Text.{head, broken}
@@ -22,7 +23,7 @@ lines n (e ∷ es) = entryLine n e ++ lines (after n) es
 -- where bytes are left after the whole records, they are a broken record
 abbrev pub endingOf : ℕ → ℕ → List ℕ
 endingOf n zero = []
-endingOf n (suc left) = line n broken 1 (suc left)
+endingOf n (suc left) = line n broken (bare 1) (suc left)
 
 -- the lines of the bytes s, the first record being number n
 unfoldable pub listingFrom : ℕ → List ℕ → List ℕ

@@ -55,8 +55,8 @@ pub record Lists (s : List ℕ) (n : ℕ) (out : List ℕ) (r : Listed) (left : 
   pub used : r .used ≡ sizeOf (chosen s n out)
   pub number : r .number ≡ after-all n (chosen s n out)
   pub text : Made out (lines n (chosen s n out)) (r .made) left
-  -- 55 bytes are room for any line
-  pub enough : 55 ≤ length out → r .code ≡ 0
+  -- 76 bytes are room for any line
+  pub enough : 76 ≤ length out → r .code ≡ 0
 
 -- ---- what is kept
 

@@ -110,5 +110,5 @@ turned t input got text =
 -- a turn after so many bytes were read
 pub record Turns (t : State) (input : List ℕ) (got : ℕ) (text : List ℕ) (r : State) (kept left : List ℕ) : Type 0 where
   pub is : Gives r kept left (turned t input got text)
-  -- 55 bytes are room for any line
-  pub enough : t .done ≡ false → 55 ≤ length text → t .waiting < length input → t .waiting + got ≤ length input → r .code ≡ 0
+  -- 76 bytes are room for any line
+  pub enough : t .done ≡ false → 76 ≤ length text → t .waiting < length input → t .waiting + got ≤ length input → r .code ≡ 0

@@ -4,6 +4,7 @@ pub mod Turns
 pub mod Runs
 pub mod Through
 pub mod Refusals
+pub mod LastColumn
 pub mod Answers
 pub mod Text
 pub mod Made

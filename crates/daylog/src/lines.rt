@@ -12,7 +12,14 @@ use format::Refusal;
 const COLUMNS: usize = 68;
 
 // A line: number, word, code, bytes and bit. Where it has no room, answers the same offset and leaves every byte.
-pub fn line(out: &mut [u8], at: usize, number: u64, word: &[u8], refusal: Refusal, bytes: u64) -> usize
+pub fn line(
+    out: &mut [u8],
+    at: usize,
+    number: u64,
+    word: &[u8],
+    refusal: Refusal,
+    bytes: u64,
+) -> usize
     ensures { λ r. ⌜ Stores (now (out .entry)) at (placed (now (out .entry)) at (Text·line number (now (word .entry)) refusal bytes)) r (now (out .exit)) ⌝ }
 {
     if line_fits(out.len(), at, number, word, refusal, bytes) {
@@ -33,7 +40,14 @@ fn line_fits(len: usize, at: usize, number: u64, word: &[u8], refusal: Refusal, 
     has_room(len, at, word.len() + digits + 5)
 }
 
-fn columns(out: &mut [u8], at: usize, number: u64, word: &[u8], refusal: Refusal, bytes: u64) -> usize
+fn columns(
+    out: &mut [u8],
+    at: usize,
+    number: u64,
+    word: &[u8],
+    refusal: Refusal,
+    bytes: u64,
+) -> usize
     requires { ⌜ at + length (Text·line number (now word) refusal bytes) ≤ length (now out) ⌝ }
     ensures { λ r. ⌜ Stores (now (out .entry)) at (Text·line number (now (word .entry)) refusal bytes) r (now (out .exit)) ⌝ }
 {

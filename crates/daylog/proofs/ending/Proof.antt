@@ -4,6 +4,7 @@ use Prim.Native.Nat.{ℕ, zero, suc}
 use native.Mathlib.Omega.{arith}
 use borrow.Author.Tests.{le-leb}
 use lib.ListN.{length}
+use Rattle.format.specs.Refusals.{bare}
 use Rattle.daylog.specs.LinesText.{line}
 use Rattle.daylog.specs.Text.{broken}
 use Rattle.daylog.specs.Log.{endingOf}
@@ -13,7 +14,7 @@ use borrow.Author.Needs.{needs}
 use Rattle.daylog.proofs.ending.Statement.{statement}
 use Rattle.daylog.proofs.ending.Tie as tie
 
-some-left : (n left : ℕ) → (left ≡ 0 → ⊥) → endingOf n left ≡ line n broken 1 left
+some-left : (n left : ℕ) → (left ≡ 0 → ⊥) → endingOf n left ≡ line n broken (bare 1) left
 some-left n zero h = absurd (h refl)
 some-left n (suc left) h = refl
 
@@ -28,8 +29,8 @@ returns-2 c =
     let p = c .before .before .before in
     let i = p .before .before .before in
     let a = i .before .before .args in
-    let text = line (a .number) broken 1 (a .left) in
-    rw (some-left (a .number) (a .left) (i .if1 .left)) (laid text (p .line .ensures) (c .no-room .ensures) (line-some (a .number) broken 1 (a .left)))
+    let text = line (a .number) broken (bare 1) (a .left) in
+    rw (some-left (a .number) (a .left) (i .if1 .left)) (laid text (p .line .ensures) (c .no-room .ensures) (line-some (a .number) broken (bare 1) (a .left)))
 
 pub ending-spec : {M : Type 1} → statement M
 ending-spec =

@@ -174,12 +174,12 @@ run-lists (goes {t = t} {r = r} {input = input} {filled = filled} {kept = kept} 
 pub program-lists : {room : ℕ} {text left input log out : List ℕ} {t : State} {code : ℕ} → Begins text t left → Run room t input log out code → code ≡ 0
     → length log < 2 ^ 64 → take (t .made) left ++ out ≡ listing log
 unfolding listing
-program-lists {text = text} {left = left} {input = input} {log = log} {out = out} {t = t} p run c small = go (leb 18 (length text)) refl
+program-lists {text = text} {left = left} {input = input} {log = log} {out = out} {t = t} p run c small = go (leb 22 (length text)) refl
   where
-    go : (b : Bool) → leb 18 (length text) ≡ b → take (t .made) left ++ out ≡ head ++ listingFrom 1 log
+    go : (b : Bool) → leb 22 (length text) ≡ b → take (t .made) left ++ out ≡ head ++ listingFrom 1 log
     go true e =
         let f : roomed text head ≡ head = ap (λ x. cond x head []) e in
-        let m : t .made ≡ 18 = ap (λ s. s .made) (p .answer) ∙ ap length f in
+        let m : t .made ≡ 22 = ap (λ s. s .made) (p .answer) ∙ ap length f in
         let l : left ≡ ahead head text = p .leaves ∙ ap (λ x. ahead x text) f in
         let z : held t ≡ 0 = ap held (p .answer) in
         let d : t .done ≡ false = ap (λ s. s .done) (p .answer) ∙ ap (λ x. not (eqb (cond x 0 6) 0)) e in

@@ -11,6 +11,7 @@ use lib.Dec.{ltb}
 use lib.ListN.{length, drop, getD, set, length-append, drop-of-length-le}
 use lib.Seq.{sets, set-comm, drop-cons}
 use borrow.Author.Tests.{lt-ltb, le-ltb, ltb-true, ltb-false}
+use Rattle.format.specs.declared.Refusal.{Refusal}
 use Rattle.daylog.specs.LinesText.{digitsBy, decimal, line}
 
 either : (n m : ℕ) → (n < m) ⊎ (m ≤ n)
@@ -61,17 +62,19 @@ digits-few (suc k) n h =
 
 -- ---- lines
 
-pub line-length : (n : ℕ) (word : List ℕ) (code bytes : ℕ)
-    → length (line n word code bytes) ≡ length (decimal n) + length word + length (decimal code) + length (decimal bytes) + 4
+pub line-length : (n : ℕ) (word : List ℕ) (refusal : Refusal) (bytes : ℕ)
+    → length (line n word refusal bytes)
+    ≡ length (decimal n) + length word + length (decimal (refusal .code)) + length (decimal bytes) + length (decimal (refusal .bit)) + 5
 unfolding line
-line-length n word code bytes = simp length-append (omega arith)
+line-length n word refusal bytes = simp length-append (omega arith)
 
-pub line-some : (n : ℕ) (word : List ℕ) (code bytes : ℕ) → 1 ≤ length (line n word code bytes)
-line-some n word code bytes = omega (arith, line-length n word code bytes)
+pub line-some : (n : ℕ) (word : List ℕ) (refusal : Refusal) (bytes : ℕ) → 1 ≤ length (line n word refusal bytes)
+line-some n word refusal bytes = omega (arith, line-length n word refusal bytes)
 
-pub line-most : (n : ℕ) (word : List ℕ) (code bytes : ℕ) → n < 2 ^ 64 → code < 256 → bytes < 2 ^ 64 → length (line n word code bytes) ≤ length word + 47
-line-most n word code bytes a c d =
-    omega (arith, line-length n word code bytes, digits-few 19 n (omega arith), digits-few 2 code (omega arith), digits-few 19 bytes (omega arith))
+pub line-most : (n : ℕ) (word : List ℕ) (refusal : Refusal) (bytes : ℕ) → n < 2 ^ 64 → refusal .code < 256 → refusal .bit < 2 ^ 64 → bytes < 2 ^ 64
+    → length (line n word refusal bytes) ≤ length word + 68
+line-most n word refusal bytes a c b d =
+    omega (arith, line-length n word refusal bytes, digits-few 19 n (omega arith), digits-few 2 (refusal .code) (omega arith), digits-few 19 (refusal .bit) (omega arith), digits-few 19 bytes (omega arith))
 
 -- ---- text stored part by part
 

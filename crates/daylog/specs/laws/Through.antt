@@ -63,7 +63,7 @@ module _ (t r : State) (filled kept text left : List ℕ) (got : ℕ) (big : 256
               (omega (arith, ap (λ o. o .turn .waiting) x), k)
 
 -- Where there is room for any record and any line, a run is never refused.
-pub run-through : {room : ℕ} {t : State} {input rest out : List ℕ} {code : ℕ} → Run room t input rest out code → 55 ≤ room → 256 ≤ length input
+pub run-through : {room : ℕ} {t : State} {input rest out : List ℕ} {code : ℕ} → Run room t input rest out code → 76 ≤ room → 256 ≤ length input
     → t .waiting < length input → t .code ≡ 0 → code ≡ 0
 run-through (stops d) h big free c = c
 run-through (goes {t = t} {r = r} {filled = filled} {kept = kept} {text = text} {left = left} chunk d rd l tn run) h big free c =
@@ -73,7 +73,7 @@ run-through (goes {t = t} {r = r} {filled = filled} {kept = kept} {text = text} 
 
 -- So the whole program is never refused.
 pub program-through : {text left input log out : List ℕ} {t : State} {code : ℕ} → Begins text t left → Run (length text) t input log out code
-    → 55 ≤ length text → 256 ≤ length input → code ≡ 0
+    → 76 ≤ length text → 256 ≤ length input → code ≡ 0
 program-through {text = text} p run h big =
     let w = ap (λ s. s .waiting) (p .answer) in
-    run-through run h big (omega arith) (ap (λ s. s .code) (p .answer) ∙ ap (λ x. cond x 0 6) (le-leb 18 (length text) (omega arith)))
+    run-through run h big (omega arith) (ap (λ s. s .code) (p .answer) ∙ ap (λ x. cond x 0 6) (le-leb 22 (length text) (omega arith)))

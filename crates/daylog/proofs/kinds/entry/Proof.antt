@@ -6,11 +6,16 @@ use native.Mathlib.Omega.{arith}
 use lib.Dec.{lit≤}
 use lib.ListN.{length}
 use borrow.Author.Tests.{ne-eqb}
-use Rattle.daylog.specs.Kinds.{word, codeOf, entryLine}
+use mir.Val.{Val}
+use denote.Laws.{Is}
+use Rattle.format.specs.declared.Refusal.{Refusal}
+use Rattle.format.proofs.Refusal.{the-row}
+use Rattle.daylog.specs.Kinds.{word, refusalOf, entryLine}
 use Rattle.daylog.specs.Stores.{placed, Stores}
 use Rattle.daylog.specs.LinesText.{line}
 use Rattle.daylog.specs.Words.{serial, packet, distress, ais, unknown}
 use Rattle.daylog.specs.laws.Text.{line-most}
+use Rattle.daylog.proofs.Fitting.{code-fits, bit-fits}
 use borrow.Author.Needs.{needs}
 use Rattle.daylog.proofs.kinds.entry.Statement.{statement}
 use Rattle.daylog.proofs.kinds.entry.Tie as tie
@@ -39,11 +44,11 @@ other-word k a b c d = rw (ne-eqb k 1 a, ne-eqb k 2 b, ne-eqb k 3 c, ne-eqb k 4 
 
 -- ---- a line with the word w
 
-module _ (n k : ℕ) (body w : List ℕ) (code : ℕ) (small : n < 2 ^ 64) (short : length w ≤ 8) (byte : code < 256) (few : length body < 2 ^ 64) where
-  pub stored : word k ≡ w → code ≡ codeOf k body → {at r : ℕ} {out left : List ℕ} → Stores out at (placed out at (line n w code (length body))) r left
-      → Stores out at (placed out at (entryLine n (record { kind = k; body = body }))) r left × (length (entryLine n (record { kind = k; body = body })) ≤ 55)
+module _ (n k : ℕ) (body w : List ℕ) (refusal : Refusal) {vs : List Val} (small : n < 2 ^ 64) (short : length w ≤ 8) (is : Is the-row refusal vs) (few : length body < 2 ^ 64) where
+  pub stored : word k ≡ w → refusal ≡ refusalOf k body → {at r : ℕ} {out left : List ℕ} → Stores out at (placed out at (line n w refusal (length body))) r left
+      → Stores out at (placed out at (entryLine n (record { kind = k; body = body }))) r left × (length (entryLine n (record { kind = k; body = body })) ≤ 76)
   unfolding entryLine
-  stored e f s = (rw (e, ← f) s, rw (e, ← f) (omega (arith, line-most n w code (length body) small byte few)))
+  stored e f s = (rw (e, ← f) s, rw (e, ← f) (omega (arith, line-most n w refusal (length body) small (code-fits refusal is) (bit-fits refusal is) few)))
 
 returns : tie.Need-returns
 returns c =
@@ -52,7 +57,7 @@ returns c =
     let p = m .before in
     let s = p .before .before .before in
     let a = s .args in
-    stored (a .number) (a .kind) (a .body .now) serial (p .code .result) (s .fits .number .fits) (lit≤ tt) (omega arith) (omega arith) (serial-word (a .kind) (m .match .keys1)) (p .code .ensures) (l .line .ensures)
+    stored (a .number) (a .kind) (a .body .now) serial (p .refusal .result) (s .fits .number .fits) (lit≤ tt) (p .refusal .ok) (omega arith) (serial-word (a .kind) (m .match .keys1)) (p .refusal .ensures) (l .line .ensures)
 
 returns-2 : tie.Need-returns-2
 returns-2 c =
@@ -61,7 +66,7 @@ returns-2 c =
     let p = m .before in
     let s = p .before .before .before in
     let a = s .args in
-    stored (a .number) (a .kind) (a .body .now) packet (p .code .result) (s .fits .number .fits) (lit≤ tt) (omega arith) (omega arith) (packet-word (a .kind) (m .match .keys2)) (p .code .ensures) (l .line2 .ensures)
+    stored (a .number) (a .kind) (a .body .now) packet (p .refusal .result) (s .fits .number .fits) (lit≤ tt) (p .refusal .ok) (omega arith) (packet-word (a .kind) (m .match .keys2)) (p .refusal .ensures) (l .line2 .ensures)
 
 returns-3 : tie.Need-returns-3
 returns-3 c =
@@ -70,7 +75,7 @@ returns-3 c =
     let p = m .before in
     let s = p .before .before .before in
     let a = s .args in
-    stored (a .number) (a .kind) (a .body .now) distress (p .code .result) (s .fits .number .fits) (lit≤ tt) (omega arith) (omega arith) (distress-word (a .kind) (m .match .keys3)) (p .code .ensures) (l .line3 .ensures)
+    stored (a .number) (a .kind) (a .body .now) distress (p .refusal .result) (s .fits .number .fits) (lit≤ tt) (p .refusal .ok) (omega arith) (distress-word (a .kind) (m .match .keys3)) (p .refusal .ensures) (l .line3 .ensures)
 
 returns-4 : tie.Need-returns-4
 returns-4 c =
@@ -79,7 +84,7 @@ returns-4 c =
     let p = m .before in
     let s = p .before .before .before in
     let a = s .args in
-    stored (a .number) (a .kind) (a .body .now) ais (p .code .result) (s .fits .number .fits) (lit≤ tt) (omega arith) (omega arith) (ais-word (a .kind) (m .match .keys4)) (p .code .ensures) (l .line4 .ensures)
+    stored (a .number) (a .kind) (a .body .now) ais (p .refusal .result) (s .fits .number .fits) (lit≤ tt) (p .refusal .ok) (omega arith) (ais-word (a .kind) (m .match .keys4)) (p .refusal .ensures) (l .line4 .ensures)
 
 returns-5 : tie.Need-returns-5
 returns-5 c =
@@ -88,7 +93,7 @@ returns-5 c =
     let p = m .before in
     let s = p .before .before .before in
     let a = s .args in
-    stored (a .number) (a .kind) (a .body .now) unknown (p .code .result) (s .fits .number .fits) (lit≤ tt) (omega arith) (omega arith) (other-word (a .kind) (m .match .rest .0 .0 .0 .1) (m .match .rest .0 .0 .1) (m .match .rest .0 .1) (m .match .rest .1)) (p .code .ensures) (l .line5 .ensures)
+    stored (a .number) (a .kind) (a .body .now) unknown (p .refusal .result) (s .fits .number .fits) (lit≤ tt) (p .refusal .ok) (omega (arith, s .good .1 .1 .1 .1 .0 .1)) (other-word (a .kind) (m .match .rest .0 .0 .0 .1) (m .match .rest .0 .0 .1) (m .match .rest .0 .1) (m .match .rest .1)) (p .refusal .ensures) (l .line5 .ensures)
 
 pub entry-spec : {M : Type 1} → statement M
 entry-spec =

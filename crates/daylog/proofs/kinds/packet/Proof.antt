@@ -1,7 +1,7 @@
--- `packet` gives the number of the answer that `read` makes.
+-- `packet` gives the refusal of the answer that `read` makes.
 use mathlib.Core.Path.{refl, ap, _∙_}
 use Rattle.format.specs.Message.{readMessage}
-use Rattle.packet.specs.Packet.{packets, recordOf, numberOf}
+use Rattle.packet.specs.Packet.{packets, recordOf, refusalOf}
 use Rattle.packet.specs.declared.reading.Answer.the-variants.{Good, Refused}
 use Rattle.format.specs.laws.Answers.{numbered}
 use borrow.Author.Needs.{needs}
@@ -11,7 +11,7 @@ use Rattle.daylog.proofs.kinds.packet.Tie as tie
 returns : tie.Need-returns
 returns c =
     let r = c .before in
-    c .refusal .ensures ∙ ap numberOf (r .read .ensures) ∙ numbered (λ r. Good (r .0)) Refused recordOf numberOf (λ r. refl) (λ c. refl) (readMessage packets (r .before .before .args .body .now))
+    c .refusal .ensures ∙ ap refusalOf (r .read .ensures) ∙ numbered (λ r. Good (r .0)) Refused recordOf refusalOf (λ r. refl) (λ c. refl) (readMessage packets (r .before .before .args .body .now))
 
 pub packet-spec : {M : Type 1} → statement M
 packet-spec = tie.close (tie.spec (λ c κs. search needs) (λ c κs. search needs) returns)
