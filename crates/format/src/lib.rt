@@ -87,7 +87,7 @@ impl Refusal {
         if tells(code) {
             return Refusal { code, bit };
         }
-        Refusal { code, bit: 0 }
+        Refusal::bare(code)
     }
 
     // Both in one number, as C gets them: the code in the low 8 bits, the bit in the 24 above.

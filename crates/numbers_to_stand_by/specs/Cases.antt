@@ -16,10 +16,9 @@ use Rattle.distress.specs.declared.reading.Report.{Report}
 use Rattle.notice.specs.Notice.{notices}
 use Rattle.notice.specs.Record.{Whole, headed, recordOf as noticeOf, valuesOf as noticeValues}
 use Rattle.packet.specs.Packet.{packets, valuesOf as packetValues, recordOf as packetRecord}
-use Rattle.places.specs.Desk.{numberOf}
 use Rattle.places.specs.declared.Reply.{Reply}
 use Rattle.places.specs.declared.Reply.the-variants.{Done, Again, Joined, Missing, Refused}
-use Rattle.desk_runs.specs.Runs.{Call, comes, empty, run, log, asked}
+use Rattle.desk_runs.specs.Runs.{Call, comes, empty, run, numberOf, log, asked}
 use Rattle.ais.specs.Slots.{slotsFor}
 use Rattle.outline.specs.Promises.{drawn}
 

@@ -6,6 +6,7 @@ ghost use Rattle.format.specs.Fmt.{write as Fmt·write};
 ghost use Rattle.format.specs.Promises.{Writes};
 ghost use Rattle.walk.specs.laws.Judging.{Judged};
 ghost use Rattle.format.specs.laws.Putting.{Puts};
+ghost use Rattle.txhz.specs.Promises.{Tells};
 ghost use Rattle.txhz.specs.Steps.{slotJudged, receiptJudged, receiptPut};
 ghost use Rattle.txhz.specs.Txhz.{txhz, txhzs, valuesOf};
 use crate::reading::LENGTH;
@@ -21,13 +22,21 @@ pub fn write(buf: &mut [u8], r: Txhz) -> Refusal
 {
     let w = judged(r);
     let n = w.bytes(false);
-    let refusal = w.closes(true, Txhz::LEAST, Txhz::GREATEST, buf.len());
-    if refusal.code != 0 {
-        return refusal;
+    let first = w.closes(true, Txhz::LEAST, Txhz::GREATEST, buf.len());
+    if first.code != 0 {
+        return refused(r, buf.len());
     }
     put(buf, r);
     change::sealing::stamp(buf, n);
     Refusal::NONE
+}
+
+// What is told of a record that is not written. It is judged once more for that: a good one then carries no bit through its twenty
+// receipts' bytes.
+fn refused(r: Txhz, room: usize) -> Refusal
+    ensures { λ refusal. ⌜ Tells r room refusal ⌝ }
+{
+    judged(r).closes(true, Txhz::LEAST, Txhz::GREATEST, room)
 }
 
 fn judged(r: Txhz) -> walk::walk::Walk

@@ -17,7 +17,7 @@ use Rattle.format.specs.Promises.{Writes}
 use Rattle.format.specs.Refusals.{shown, bare}
 use Rattle.format.specs.declared.Refusal.{Refusal}
 use Rattle.format.specs.Sealing.{stamped}
-use Rattle.format.specs.Message.{Layout, fault, between, size, sealed, closed, into, refuses, accepts, writeMessage}
+use Rattle.format.specs.Message.{Layout, fault, between, size, sealed, closed, told, into, refuses, accepts, writeMessage}
 use Rattle.walk.specs.laws.Judging.{Judged}
 use Rattle.format.specs.laws.Putting.{Puts}
 use Rattle.format.specs.laws.Round.{checked}
@@ -77,6 +77,17 @@ module _ (l : Layout) (vs s : List ℕ) {r : Walk} (j : Judged (check (fault (l 
       go true t =
           let m : length (j .laid) / 8 ≡ n = omega (arith, j .long (eqb-true (r .code) 0 t)) in
           rw (m, long) refl
+
+  -- what closing the walk says is what writing tells, refused or not
+  pub closing-told : {code : Refusal} → code ≡ closing (l .seal) (l .least) (l .most) (length s) r → code ≡ told (into s (writeMessage l vs))
+  closing-told e = e ∙ go (eqb (r .code) 0) (between (l .least) (l .most) whole) (leb whole (length s)) refl refl refl
+    where
+      go : (x y z : Bool) → eqb (r .code) 0 ≡ x → between (l .least) (l .most) whole ≡ y → leb whole (length s) ≡ z
+          → cond x (cond y (cond z (bare 0) (bare 6)) (bare 1)) (shown (r .code) (r .offset)) ≡ told (into s (writeMessage l vs))
+      go false y z ex ey ez = sym (ap (λ o. told (into s o)) makes ∙ rw ex refl)
+      go true false z ex ey ez = sym (ap (λ o. told (into s o)) makes ∙ rw (ex, ey) refl)
+      go true true false ex ey ez = sym (ap (λ o. told (into s o)) makes ∙ rw (ex, ey, long, ez) refl)
+      go true true true ex ey ez = sym (ap (λ o. told (into s o)) makes ∙ rw (ex, ey, long, ez) refl)
 
   -- nothing is written
   pub write-refused : {code : Refusal} → code ≡ closing (l .seal) (l .least) (l .most) (length s) r → (code .code ≡ 0 → ⊥) → Writes l s code s vs

@@ -14,9 +14,10 @@ returns c =
 
 returns-2 : tie.Need-returns-2
 returns-2 c =
-    let a = c .before .before .args in
-    let e = sym (c .if1 .left) ∙ c .before .tells .ensures in
-    λ i. record { code = a .code; bit = cond (e i) (a .bit) 0 }
+    let test = c .before in
+    let a = test .before .before .args in
+    let e = sym (test .if1 .left) ∙ test .before .tells .ensures in
+    c .bare .ensures ∙ (λ i. record { code = a .code; bit = cond (e i) (a .bit) 0 })
 
 pub shown-spec : {M : Type 1} → statement M
-shown-spec = tie.close (tie.spec (λ c κs. search needs) returns returns-2)
+shown-spec = tie.close (tie.spec (λ c κs. search needs) returns (λ c κs. search needs) returns-2)

@@ -9,10 +9,11 @@ use Rattle.txhz.proofs.writing.write.Tie as tie
 returns : tie.Need-returns
 unfolding txhzs
 returns c =
-    let closes = c .before .before in
+    let test = c .before in
+    let closes = test .before .before in
     let j = closes .before .before in
     let a = j .before .before .args in
-    write-refused txhzs (valuesOf (a .r)) (a .buf .now) (j .judged .ensures) (closes .closes .ensures) (c .if1 .taken)
+    (c .refused .ensures (a .buf .now) refl, write-refused txhzs (valuesOf (a .r)) (a .buf .now) (j .judged .ensures) (closes .closes .ensures) (test .if1 .taken) .1)
 
 returns-2 : tie.Need-returns-2
 unfolding txhzs
@@ -30,7 +31,7 @@ pub write-spec : {M : Type 1} → statement M
 write-spec =
     tie.close
     (tie.spec
-    (λ c κs. search needs) (λ c κs. search needs) (λ c κs. search needs)
+    (λ c κs. search needs) (λ c κs. search needs) (λ c κs. search needs) (λ c κs. search needs)
     returns
     (λ c κs. search needs) (λ c κs. search needs) (λ c. search needs)
     returns-2)
