@@ -58,7 +58,7 @@ pub mod ais {
     const WARNING_FILLS: &[u32] = &[38, 123, 128, 132, 147, 182];
     const AREA_FILLS: &[u32] = &[71, 156, 242];
     /// Of every warning to be written: what stands before its body and behind.
-    const AROUND: &[u32] = &[6, 8, 60, 83, 156, 160, 165, 170, 176];
+    const AROUND: &[u32] = &[6, 8, 60, 83, 156, 165, 170, 176];
 
     pub const WARNING: Places = &[(4, At(&[8, 60, 83, 106, 115, 124, 156, 165, 170, 176])), (5, At(WARNING_FILLS))];
     pub const WARNING_CORRECT: Places = &[
@@ -76,7 +76,7 @@ pub mod ais {
     pub const AREA_CORRECT: Places =
         &[(4, At(&[6, 8, 38, 40, 70, 88, 94, 122, 149, 177, 204, 213, 218, 224, 233, 238])), (5, At(AREA_FILLS))];
     pub const CIRCLE: Places =
-        &[(4, At(&[6, 8, 38, 40, 70, 88, 94, 122, 149, 204, 208, 213, 218, 224, 228, 233, 238]))];
+        &[(4, At(&[6, 8, 38, 40, 70, 88, 94, 122, 149, 204, 213, 218, 224, 233, 238]))];
     pub const RECTANGLE: Places = &[CIRCLE[0], (4, At(&[177]))];
     /// What a day log's line of either can have.
     pub const LISTED: Places = &[WARNING[0], WARNING[1], AREA[0], AREA[1]];

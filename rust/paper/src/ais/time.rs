@@ -9,7 +9,7 @@ pub trait TimeField {
 
     fn of_bits(bits: u64) -> Self;
     fn bits(&self) -> u64;
-    /// Tests the parts of a time that starts at a bit.
+    /// Tests a time that starts at a bit: whether its bits can spell it, then its parts.
     fn tests(&self, at: u32, test: &mut impl FnMut(bool, Refusal));
 }
 
@@ -33,8 +33,8 @@ impl TimeField for Time {
 
     #[inline]
     fn tests(&self, at: u32, test: &mut impl FnMut(bool, Refusal)) {
-        test(self.month <= 12, Refusal::RANGE.at(at));
-        test(self.day <= 31, Refusal::RANGE.at(at + 4));
+        let spelled = self.day <= 31 && self.hour <= 31 && self.minute <= 63;
+        test(spelled && self.month <= 12, Refusal::RANGE.at(at));
         test(self.hour <= 23, Refusal::RANGE.at(at + 9));
         test(self.minute <= 59, Refusal::RANGE.at(at + 14));
     }
@@ -55,8 +55,7 @@ impl TimeField for ShortTime {
 
     #[inline]
     fn tests(&self, at: u32, test: &mut impl FnMut(bool, Refusal)) {
-        test(self.month <= 12, Refusal::RANGE.at(at));
-        test(self.day <= 31, Refusal::RANGE.at(at + 4));
+        test(self.day <= 31 && self.hour <= 31 && self.month <= 12, Refusal::RANGE.at(at));
         test(self.hour <= 23, Refusal::RANGE.at(at + 9));
     }
 }
