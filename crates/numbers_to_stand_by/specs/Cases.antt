@@ -24,11 +24,11 @@ use Rattle.outline.specs.Promises.{drawn}
 
 -- ---- answers as numbers
 
--- 0 and what is told, or the refusal
+-- 0 and what is told, or the refusal's number
 abbrev pub told : {T : Type 0} → (T → List ℕ) → Out T → List ℕ
-told f = answered (λ t. 0 ∷ f t) (λ code. code ∷ [])
+told f = answered (λ t. 0 ∷ f t) (λ refusal. refusal .code ∷ [])
 
--- nothing but 0 or the refusal
+-- nothing but 0 or the refusal's number
 abbrev pub code : {T : Type 0} → Out T → List ℕ
 code = told (λ t. [])
 

@@ -7,9 +7,9 @@ use Rattle.c_calls.proofs.area_calls.bellnewt_rectangle_write.Tie as ti
 
 returns : tie.Need-returns
 returns c =
-    let call = c .before .before in
+    let call = c .before .before .before in
     let st = call .before .before .before in
-    rw (toZ-ofZ w32 (st .args .longitude) (st .fits .longitude), toZ-ofZ w32 (st .args .latitude) (st .fits .latitude), toZ-ofZ w32 (st .args .second-longitude) (st .fits .second-longitude), toZ-ofZ w32 (st .args .second-latitude) (st .fits .second-latitude)) at (call .written .ensures)
+    (call .written .result, c .packed .ensures, rw (toZ-ofZ w32 (st .args .longitude) (st .fits .longitude), toZ-ofZ w32 (st .args .latitude) (st .fits .latitude), toZ-ofZ w32 (st .args .second-longitude) (st .fits .second-longitude), toZ-ofZ w32 (st .args .second-latitude) (st .fits .second-latitude)) at (call .written .ensures))
 
 pub bellnewt-rectangle-write-spec : {M : Type 1} → statement M
-bellnewt-rectangle-write-spec = tie.close (tie.spec (λ c κs. search needs) (λ c. search needs) returns)
+bellnewt-rectangle-write-spec = tie.close (tie.spec (λ c κs. search needs) (λ c κs. search needs) (λ c. search needs) returns)
