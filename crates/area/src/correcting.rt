@@ -47,9 +47,13 @@ pub fn correct(buf: &mut [u8], field: usize, value: u64) -> Refusal
     ensures { λ refusal. ⌜ Corrects areas (now (buf .entry)) (fieldOf (fieldAt (now (buf .entry)) 92 2) field) value refusal (now (buf .exit)) ⌝ }
 {
     let was = read(buf);
+    let own = was.refusal();
+    if own.code != 0 {
+        return own;
+    }
     let spot = stands(bits::get(buf, 92, 2), field);
-    let begun = change::correcting::begin(buf, was.refusal(), spot, value);
-    let again = fields(buf, 0);
+    let begun = change::correcting::begin(buf, own, spot, value);
+    let again = fields(buf);
     change::correcting::finish(buf, begun, again.refusal())
 }
 

@@ -10,8 +10,6 @@ ghost use Rattle.area.specs.Steps.{OpeningRead};
 ghost use Rattle.area.specs.declared.reading.Answer.the-variants.{Good, Refused};
 pub use ais_common::head::AUTHORITY;
 use format::Refusal;
-use walk::choosing::choose_code;
-use walk::choosing::no_refusal;
 
 pub mod shapes;
 
@@ -75,7 +73,11 @@ const APPLIED: u64 = AUTHORITY * 64 + APPLICATION;
 pub fn read(s: &[u8]) -> Answer
     ensures { λ r. ⌜ Reads (now (s .entry)) r ⌝ }
 {
-    fields(s, lead(s))
+    let code = lead(s);
+    if code != 0 {
+        return Answer::Refused(Refusal::bare(code));
+    }
+    fields(s)
 }
 
 // The first tests: smallest size; message, application and shape; size.
@@ -107,14 +109,17 @@ pub struct Opened {
     pub walk: walk::walk::Walk,
 }
 
-// They are read in bit order, behind the first tests' answer.
-fn opening(s: &[u8], lead: u8) -> Opened
-    ensures { λ r. ⌜ OpeningRead (now (s .entry)) lead r ⌝ }
+// They are read in bit order. What is refused up to the source, or before the kind, is left there: its walk tells the refusal.
+fn opening(s: &[u8]) -> Opened
+    ensures { λ r. ⌜ OpeningRead (now (s .entry)) r ⌝ }
 {
-    let w = walk::walk::Walk::begin(lead, 0).code(s, 6, MESSAGE);
+    let w = walk::walk::Walk::begin(0, 0).code(s, 6, MESSAGE);
     let w = w.num(s, 2, 0, 3);
     let repeat = w.v as u8;
     let w = w.num(s, 30, 0, 999_999_999);
+    if w.code != 0 {
+        return unopened(w);
+    }
     let source = w.v as u32;
     let w = w.num(s, 2, 0, 3);
     let sequence = w.v as u8;
@@ -123,6 +128,9 @@ fn opening(s: &[u8], lead: u8) -> Opened
     let w = w.num(s, 1, 0, 1);
     let resent = w.v as u8;
     let w = w.fill(s, 1).code(s, 10, AUTHORITY).code(s, 6, APPLICATION);
+    if w.code != 0 {
+        return unopened(w);
+    }
     let w = w.num(s, 4, 1, 14);
     let kind = w.v as u8;
     Opened {
@@ -136,15 +144,30 @@ fn opening(s: &[u8], lead: u8) -> Opened
     }
 }
 
+// No fields, where the walk was refused.
+fn unopened(walk: walk::walk::Walk) -> Opened
+    ensures { λ r. ⌜ r .walk ≡ walk ⌝ }
+{
+    Opened {
+        repeat: 0,
+        source: 0,
+        sequence: 0,
+        destination: 0,
+        resent: 0,
+        kind: 0,
+        walk,
+    }
+}
+
 // The fields in bit order. Another size is refused at once: no field has then to be tested for it. What is refused before the shape is
 // answered there.
-pub fn fields(s: &[u8], lead: u8) -> Answer
-    ensures { λ r. ⌜ r ≡ answerOf (also recordOf (fieldsOf area 31 31 lead (now (s .entry)))) ⌝ }
+pub fn fields(s: &[u8]) -> Answer
+    ensures { λ r. ⌜ r ≡ answerOf (also recordOf (fieldsOf area 31 31 0 (now (s .entry)))) ⌝ }
 {
     if s.len() != Area::LEAST {
-        return Answer::Refused(Refusal::bare(choose_code(no_refusal(lead), format::SIZE, lead)));
+        return Answer::Refused(Refusal::SIZE);
     }
-    let begun = opening(s, lead);
+    let begun = opening(s);
     let w = begun.walk;
     if w.code != 0 {
         return Answer::Refused(w.refusal());

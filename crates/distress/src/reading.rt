@@ -8,8 +8,6 @@ ghost use Rattle.distress.specs.Promises.{Reads};
 ghost use Rattle.format.specs.Fmt.{also};
 ghost use Rattle.format.specs.Message.{fieldsOf};
 use format::Refusal;
-use walk::choosing::choose_code;
-use walk::choosing::no_refusal;
 
 pub struct Report {
     pub mmsi: u32,
@@ -67,7 +65,11 @@ pub const CODE: u64 = 0xBDC1;
 pub fn read(s: &[u8]) -> Answer
     ensures { λ r. ⌜ Reads (now (s .entry)) r ⌝ }
 {
-    fields(s, lead(s))
+    let code = lead(s);
+    if code != 0 {
+        return Answer::Refused(Refusal::bare(code));
+    }
+    fields(s)
 }
 
 // The first tests: smallest size, code, size.
@@ -86,14 +88,26 @@ pub fn lead(s: &[u8]) -> u8
     0
 }
 
-// The fields in bit order, after the first tests' answer. Another size is refused at once: no field has then to be tested for it.
-pub fn fields(s: &[u8], lead: u8) -> Answer
-    ensures { λ r. ⌜ r ≡ answerOf (also reportOf (fieldsOf report 17 17 lead (now (s .entry)))) ⌝ }
+// The fields in bit order. A refused report is walked once more for its bit, so that a good one carries none.
+pub fn fields(s: &[u8]) -> Answer
+    ensures { λ r. ⌜ r ≡ answerOf (also reportOf (fieldsOf report 17 17 0 (now (s .entry)))) ⌝ }
+{
+    let answer = walked(s);
+    let refusal = answer.refusal();
+    if refusal.code != 0 {
+        return walked(s);
+    }
+    answer
+}
+
+// Another size is refused at once: no field has then to be tested for it.
+fn walked(s: &[u8]) -> Answer
+    ensures { λ r. ⌜ r ≡ answerOf (also reportOf (fieldsOf report 17 17 0 (now (s .entry)))) ⌝ }
 {
     if s.len() != Report::LEAST {
-        return Answer::Refused(Refusal::bare(choose_code(no_refusal(lead), format::SIZE, lead)));
+        return Answer::Refused(Refusal::SIZE);
     }
-    let w = walk::walk::Walk::begin(lead, 0).code(s, 16, CODE);
+    let w = walk::walk::Walk::begin(0, 0).code(s, 16, CODE);
     let w = w.num(s, 32, 0, 999_999_999);
     let mmsi = w.v as u32;
     let w = w.signed(s, 25, 10_800_000, 22_754_432, 10_860_000);

@@ -1,5 +1,5 @@
 -- Where a message goes wrong (paper 02, C-12), over any layout, without reading or writing it: every field before this one is good, and this one is not. Assumes nothing.
-use Prim.Native.Nat.{ℕ, suc, _+_, _/_, _^_, _≤_, _<_}
+use Prim.Native.Nat.{ℕ, _+_, _/_, _^_, _≤_, _<_}
 use mathlib.Core.Path.{_≡_}
 use mathlib.Core.Bool.{Bool}
 use mathlib.Core.Logic.{_⊎_}

@@ -8,10 +8,10 @@ use Rattle.walk.specs.Reading.{ranged}
 use Rattle.walk.specs.Walk.{begun, onward}
 use Rattle.walk.specs.declared.walk.Walk.{Walk}
 
--- read behind first tests that answered c, the length from lo to hi
-abbrev pub headed : List ℕ → ℕ → ℕ → ℕ → ℕ → Walk
-headed s c letters lo hi =
-    ranged s 24 true 0 2_097_151 4 (ranged s 16 false lo hi 1 (ranged s 32 false letters letters 2 (ranged s 8 false 0x24 0x24 2 (begun c 0))))
+-- read, the length from lo to hi
+abbrev pub headed : List ℕ → ℕ → ℕ → ℕ → Walk
+headed s letters lo hi =
+    ranged s 24 true 0 2_097_151 4 (ranged s 16 false lo hi 1 (ranged s 32 false letters letters 2 (ranged s 8 false 0x24 0x24 2 (begun 0 0))))
 
 -- judged
 abbrev pub headJudged : ℕ → ℕ → ℕ → Walk

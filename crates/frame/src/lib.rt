@@ -54,11 +54,11 @@ fn lead(s: &[u8], letters: u64, least: usize, most: usize) -> u8
     0
 }
 
-// The walk over the head, behind the first tests' answer: it ends with the own address as its value.
-pub fn head(s: &[u8], code: u8, letters: u64, least: u64, most: u64) -> walk::walk::Walk
-    ensures { λ r. ⌜ (r ≡ headed (now (s .entry)) code letters least most) × (r .v < 2 ^ 24) ⌝ }
+// The walk over the head: it ends with the own address as its value.
+pub fn head(s: &[u8], letters: u64, least: u64, most: u64) -> walk::walk::Walk
+    ensures { λ r. ⌜ (r ≡ headed (now (s .entry)) letters least most) × (r .v < 2 ^ 24) ⌝ }
 {
-    let w = walk::walk::Walk::begin(code, 0);
+    let w = walk::walk::Walk::begin(0, 0);
     let w = w.code(s, 8, DOLLAR);
     let w = w.code(s, 32, letters);
     let w = w.number(s, 16, false, least, most, format::SIZE);

@@ -21,9 +21,13 @@ pub fn correct(buf: &mut [u8], field: usize, value: u64) -> Refusal
     ensures { λ refusal. ⌜ Corrects gljcs (now (buf .entry)) field value refusal (now (buf .exit)) ⌝ }
 {
     let was = read(buf);
+    let own = was.refusal();
+    if own.code != 0 {
+        return own;
+    }
     let spot = stands(field);
-    let begun = change::correcting::begin(buf, was.refusal(), spot, value);
-    let again = fields(change::sealing::inner(buf), 0);
+    let begun = change::correcting::begin(buf, own, spot, value);
+    let again = fields(change::sealing::inner(buf));
     change::correcting::finish_sealed(buf, begun, again.refusal())
 }
 

@@ -8,8 +8,6 @@ ghost use Rattle.gljc.specs.Gljc.{gljc, recordOf, answerOf, refusalOf};
 ghost use Rattle.gljc.specs.Promises.{Reads};
 ghost use Rattle.gljc.specs.declared.reading.Answer.the-variants.{Good, Refused};
 use format::Refusal;
-use walk::choosing::choose_code;
-use walk::choosing::no_refusal;
 
 pub struct Gljc {
     pub address: u32,
@@ -63,17 +61,20 @@ pub fn read(s: &[u8]) -> Answer
     ensures { λ r. ⌜ Reads (now (s .entry)) r ⌝ }
 {
     let code = frame::first(s, LETTERS, Gljc::LEAST, Gljc::GREATEST);
-    fields(change::sealing::inner(s), code)
+    if code != 0 {
+        return Answer::Refused(Refusal::bare(code));
+    }
+    fields(change::sealing::inner(s))
 }
 
-// The fields in bit order, behind the first tests' answer. Another size is refused at once: no field has then to be tested for it.
-pub fn fields(s: &[u8], code: u8) -> Answer
-    ensures { λ r. ⌜ r ≡ answerOf (also recordOf (fieldsOf gljc 11 11 code (now (s .entry)))) ⌝ }
+// The fields in bit order. Another size is refused at once: no field has then to be tested for it.
+pub fn fields(s: &[u8]) -> Answer
+    ensures { λ r. ⌜ r ≡ answerOf (also recordOf (fieldsOf gljc 11 11 0 (now (s .entry)))) ⌝ }
 {
     if s.len() != SEALED {
-        return Answer::Refused(Refusal::bare(choose_code(no_refusal(code), format::SIZE, code)));
+        return Answer::Refused(Refusal::SIZE);
     }
-    let w = frame::head(s, code, LETTERS, LENGTH, LENGTH);
+    let w = frame::head(s, LETTERS, LENGTH, LENGTH);
     let address = w.v as u32;
     let w = w.num(s, 8, 0, 255);
     let minutes = w.v as u8;

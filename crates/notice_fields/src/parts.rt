@@ -171,5 +171,12 @@ fn judged_angle(w: Walk, v: u64, n: usize, d: usize, most: u64) -> Walk
     ensures { λ r. ⌜ r ≡ angleJudged n d most v w ⌝ }
 {
     let degrees = Pieces::of(n, v).piece(1, 0, 1).piece(d, 0, most);
-    w.group_value(degrees.piece(6, 0, MINUTES).piece(7, 0, HUNDREDTHS))
+    if degrees.code != 0 {
+        return w.group_value(degrees);
+    }
+    let minutes = degrees.piece(6, 0, MINUTES);
+    if minutes.code != 0 {
+        return w.group_value(minutes);
+    }
+    w.group_value(minutes.piece(7, 0, HUNDREDTHS))
 }

@@ -9,8 +9,6 @@ ghost use Rattle.packet.specs.Packet.{greatest, packet, packets, recordO
 ghost use Rattle.packet.specs.Promises.{Reads, Shows};
 ghost use Rattle.packet.specs.declared.reading.Answer.the-variants.{Good, Refused};
 use format::Refusal;
-use walk::choosing::choose_code;
-use walk::choosing::no_refusal;
 
 // The content stands beside the record: in the packet that was read, or lent to be written.
 pub struct Packet {
@@ -77,7 +75,11 @@ pub const JOINED: usize = MOST * PART;
 pub fn read(s: &[u8]) -> Answer
     ensures { λ r. ⌜ Reads (now (s .entry)) r ⌝ }
 {
-    fields(s, lead(s))
+    let code = lead(s);
+    if code != 0 {
+        return Answer::Refused(Refusal::bare(code));
+    }
+    fields(s)
 }
 
 // The content, as a part of the packet itself; an empty part where the packet is refused.
@@ -111,19 +113,18 @@ pub fn lead(s: &[u8]) -> u8
     0
 }
 
-// The fields in bit order, after the first tests' answer. Another size is refused at once: no field has then to be tested for it.
-pub fn fields(s: &[u8], lead: u8) -> Answer
-    ensures { λ r. ⌜ r ≡ answerOf (also recordOf (fieldsOf packet 5 greatest lead (now (s .entry)))) ⌝ }
+// The fields in bit order. Another size is refused at once: no field has then to be tested for it.
+pub fn fields(s: &[u8]) -> Answer
+    ensures { λ r. ⌜ r ≡ answerOf (also recordOf (fieldsOf packet 5 greatest 0 (now (s .entry)))) ⌝ }
 {
-    let other = choose_code(no_refusal(lead), format::SIZE, lead);
     if s.len() < Packet::LEAST {
-        return Answer::Refused(Refusal::bare(other));
+        return Answer::Refused(Refusal::SIZE);
     }
     if s.len() > Packet::GREATEST {
-        return Answer::Refused(Refusal::bare(other));
+        return Answer::Refused(Refusal::SIZE);
     }
     let content = (s.len() - Packet::CONTENT) as u32 * 8;
-    let w = walk::walk::Walk::begin(lead, 0)
+    let w = walk::walk::Walk::begin(0, 0)
         .code(s, 8, CODE)
         .code(s, 3, VERSION);
     let w = w.num(s, 1, 0, 1);

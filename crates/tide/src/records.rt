@@ -40,11 +40,14 @@ pub(crate) fn walk(s: &[u8], from: Walk, count: u16) -> Walk
     w
 }
 
-// A record up to its entries: position, forecast mark, and how many entries.
+// A record up to its entries: position, forecast mark, and how many entries. Where there is no position type, it is left there.
 fn open_record(s: &[u8], w: Walk) -> Walk
     ensures { λ r. ⌜ r ≡ openedAt (now (s .entry)) w ⌝ }
 {
     let kind = w.decide(s, 1, 0, 1);
+    if kind.code != 0 {
+        return kind;
+    }
     let mark = position(s, kind).num(s, 1, 0, 1);
     mark.decide(s, 9, 1, MOST)
 }

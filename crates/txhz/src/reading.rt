@@ -10,8 +10,6 @@ ghost use Rattle.txhz.specs.Steps.{slotRead, receiptRead};
 ghost use Rattle.txhz.specs.Txhz.{txhz, recordOf, answerOf, refusalOf, countOf};
 ghost use Rattle.txhz.specs.declared.reading.Answer.the-variants.{Good, Refused};
 use format::Refusal;
-use walk::choosing::choose_code;
-use walk::choosing::no_refusal;
 use walk::faults::range;
 
 pub struct Receipt {
@@ -93,19 +91,34 @@ pub fn read(s: &[u8]) -> Answer
     ensures { λ r. ⌜ Reads (now (s .entry)) r ⌝ }
 {
     let code = frame::first(s, LETTERS, Txhz::LEAST, Txhz::GREATEST);
-    fields(change::sealing::inner(s), code)
+    if code != 0 {
+        return Answer::Refused(Refusal::bare(code));
+    }
+    fields(change::sealing::inner(s))
 }
 
 // ---- reading
 
-// The fields in bit order, behind the first tests' answer. Another size is refused at once: no field has then to be tested for it.
-pub fn fields(s: &[u8], code: u8) -> Answer
-    ensures { λ r. ⌜ r ≡ answerOf (also recordOf (fieldsOf txhz 34 34 code (now (s .entry)))) ⌝ }
+// The fields in bit order. A refused frame is walked once more for its bit, so that a good one carries none.
+pub fn fields(s: &[u8]) -> Answer
+    ensures { λ r. ⌜ r ≡ answerOf (also recordOf (fieldsOf txhz 34 34 0 (now (s .entry)))) ⌝ }
+{
+    let answer = walked(s);
+    let refusal = answer.refusal();
+    if refusal.code != 0 {
+        return walked(s);
+    }
+    answer
+}
+
+// Another size is refused at once: no field has then to be tested for it.
+fn walked(s: &[u8]) -> Answer
+    ensures { λ r. ⌜ r ≡ answerOf (also recordOf (fieldsOf txhz 34 34 0 (now (s .entry)))) ⌝ }
 {
     if s.len() != SEALED {
-        return Answer::Refused(Refusal::bare(choose_code(no_refusal(code), format::SIZE, code)));
+        return Answer::Refused(Refusal::SIZE);
     }
-    let w = frame::head(s, code, LETTERS, LENGTH, LENGTH);
+    let w = frame::head(s, LETTERS, LENGTH, LENGTH);
     let address = w.v as u32;
     let w = w.num(s, 24, 0, frame::ADDRESS);
     let receiver = w.v as u32;

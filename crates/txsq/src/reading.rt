@@ -82,7 +82,10 @@ pub fn read(s: &[u8]) -> Answer
     ensures { λ r. ⌜ Reads (now (s .entry)) r ⌝ }
 {
     let code = frame::first(s, LETTERS, Txsq::LEAST, Txsq::GREATEST);
-    fields(change::sealing::inner(s), code)
+    if code != 0 {
+        return Answer::Refused(Refusal::bare(code));
+    }
+    fields(change::sealing::inner(s))
 }
 
 // The content, as a part of the frame itself; an empty part where the frame is refused.
@@ -97,11 +100,22 @@ pub fn content(frame: &[u8]) -> &[u8]
     &frame[Txsq::CONTENT..end]
 }
 
-// The fields in bit order, behind the first tests' answer.
-pub fn fields(s: &[u8], code: u8) -> Answer
-    ensures { λ r. ⌜ r ≡ answerOf (also recordOf (check (fault code) 0 (Fmt·read txsq [] 0 (bitsOf (now (s .entry)))))) ⌝ }
+// The fields in bit order. A refused frame is walked once more for its bit, so that a good one carries none.
+pub fn fields(s: &[u8]) -> Answer
+    ensures { λ r. ⌜ r ≡ answerOf (also recordOf (Fmt·read txsq [] 0 (bitsOf (now (s .entry))))) ⌝ }
 {
-    let w = frame::head(s, code, LETTERS, 0, frame::LONGEST);
+    let answer = walked(s);
+    let refusal = answer.refusal();
+    if refusal.code != 0 {
+        return walked(s);
+    }
+    answer
+}
+
+fn walked(s: &[u8]) -> Answer
+    ensures { λ r. ⌜ r ≡ answerOf (also recordOf (Fmt·read txsq [] 0 (bitsOf (now (s .entry))))) ⌝ }
+{
+    let w = frame::head(s, LETTERS, 0, frame::LONGEST);
     let address = w.v as u32;
     let w = w.code(s, 4, CLASS);
     let w = w.num(s, 2, 0, 1);

@@ -9,8 +9,6 @@ ghost use Rattle.warning.specs.Warning.{warning, warnings, recordOf, ans
 ghost use Rattle.warning.specs.declared.reading.Answer.the-variants.{Good, Refused};
 pub use ais_common::head::AUTHORITY;
 use format::Refusal;
-use walk::choosing::choose_code;
-use walk::choosing::no_refusal;
 
 pub struct Warning {
     pub repeat: u8,
@@ -68,7 +66,11 @@ const APPLIED: u64 = AUTHORITY * 64 + APPLICATION;
 pub fn read(s: &[u8]) -> Answer
     ensures { λ r. ⌜ Reads (now (s .entry)) r ⌝ }
 {
-    fields(s, lead(s))
+    let code = lead(s);
+    if code != 0 {
+        return Answer::Refused(Refusal::bare(code));
+    }
+    fields(s)
 }
 
 // The first tests: smallest size; message, application and warning type; size.
@@ -89,19 +91,22 @@ pub fn lead(s: &[u8]) -> u8
     ais_common::head::lead(s.len(), head, asked)
 }
 
-// The fields in bit order, behind the first tests' answer. Another size is refused at once: no field has then to be tested for it. What is
-// refused before the body is answered there.
-pub fn fields(s: &[u8], lead: u8) -> Answer
-    ensures { λ r. ⌜ r ≡ answerOf (also recordOf (fieldsOf warning 23 23 lead (now (s .entry)))) ⌝ }
+// The fields in bit order. Another size is refused at once: no field has then to be tested for it. What is refused up to the source, or
+// before the body, is answered there.
+pub fn fields(s: &[u8]) -> Answer
+    ensures { λ r. ⌜ r ≡ answerOf (also recordOf (fieldsOf warning 23 23 0 (now (s .entry)))) ⌝ }
 {
     if s.len() != Warning::LEAST {
-        return Answer::Refused(Refusal::bare(choose_code(no_refusal(lead), format::SIZE, lead)));
+        return Answer::Refused(Refusal::SIZE);
     }
-    let w = walk::walk::Walk::begin(lead, 0).code(s, 6, MESSAGE);
+    let w = walk::walk::Walk::begin(0, 0).code(s, 6, MESSAGE);
     let w = w.num(s, 2, 0, 3);
     let repeat = w.v as u8;
     let w = w.num(s, 30, 0, 999_999_999);
     let source = w.v as u32;
+    if w.code != 0 {
+        return Answer::Refused(w.refusal());
+    }
     let w = w.fill(s, 2).code(s, 10, AUTHORITY).code(s, 6, APPLICATION);
     let w = w.number(s, 4, false, 1, 5, format::KIND);
     let kind = w.v;

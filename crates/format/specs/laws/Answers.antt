@@ -6,10 +6,12 @@ use Prim.Native.Nat.{ℕ, zero, suc}
 use native.Mathlib.Nat.{add-zero}
 use lib.Dec.{eqb}
 use Rattle.format.specs.Fmt.{Out, accepted, refused, check, also}
-use Rattle.format.specs.Message.{Layout, fault, told, leaves, refuses, readMessage}
+use Rattle.format.specs.Message.{Layout, fault, first, told, leaves, refuses, readMessage}
 use Rattle.format.specs.Promises.{answered, refusedBy, plain, readRecord}
 use Rattle.format.specs.Refusals.{shown, bare}
 use Rattle.format.specs.declared.Refusal.{Refusal}
+use Rattle.format.specs.laws.Lead.{read-first, held-back}
+use Rattle.format.specs.laws.Refusals.{shown-bare}
 use Rattle.format.specs.laws.Round.{clash, accepted-inj, refused-inj}
 
 module _ {R A : Type 0} (good : R → A) (bad : Refusal → A) (recordOf : List ℕ → R) where
@@ -21,6 +23,10 @@ module _ {R A : Type 0} (good : R → A) (bad : Refusal → A) (recordOf : List 
       go : (x : Bool) → cond x (good (recordOf vs)) (bad (shown c p)) ≡ answered good bad (also recordOf (cond x (accepted vs) (refused c p)))
       go true = refl
       go false = refl
+
+  -- the answer of a reading whose first tests refused by c, of which r is told
+  pub led-so : (l : Layout) (s : List ℕ) {c : ℕ} {r : Refusal} → c ≡ first l s → (c ≡ 0 → ⊥) → r ≡ bare c → bad r ≡ answered good bad (readRecord l recordOf s)
+  led-so l s {c} e n is = ap bad (is ∙ sym (shown-bare c)) ∙ sym (ap (λ o. answered good bad (also recordOf o)) (read-first l s e ∙ held-back c _ n))
 
   -- the refusal of an answer
   module _ (refusalOf : A → Refusal) (of-good : (r : R) → refusalOf (good r) ≡ bare 0) (of-bad : (c : Refusal) → refusalOf (bad c) ≡ c) where

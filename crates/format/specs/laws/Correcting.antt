@@ -38,6 +38,17 @@ pub refused-by : {A : Type 0} (o : Out A) {c : Refusal} → c ≡ told o → (c 
 refused-by (accepted a) e n = absurd (n (ap (λ r. r .code) e))
 refused-by (refused d p) e n = (d, p, refl, e)
 
+-- A message that was refused is not corrected.
+pub own-refusal : (l : Layout) (s : List ℕ) (i v : ℕ) {c : Refusal} → c ≡ told (readMessage l s) → (c .code ≡ 0 → ⊥) → Corrects l s i v c s
+unfolding correctMessage
+own-refusal l s i v reads n =
+    let (d, q, o, k) = refused-by (readMessage l s) reads n in
+    let a = refuses {s = s} (own d q o) in
+    (k ∙ a .0, a .1)
+  where
+    own : (d q : ℕ) → readMessage l s ≡ refused d q → correctMessage l s i v ≡ refused d q
+    own d q o = rw o refl
+
 -- Reading the message told c, and where it was accepted, the field i stands at p with w bits.
 module _ (l : Layout) (ok : Sound l) (numbers : Judged (l .fmt)) (s : List ℕ) (i v p w : ℕ) {c : Refusal} (reads : c ≡ told (readMessage l s))
     (stands : (vs : List ℕ) → readMessage l s ≡ accepted vs → spot (l .fmt) [] vs i ≡ standing p w) (slim : w ≤ 32) where
@@ -45,17 +56,11 @@ module _ (l : Layout) (ok : Sound l) (numbers : Judged (l .fmt)) (s : List ℕ) 
   unfolding correctMessage
   early h = go (eqb (c .code) 0) (eqb w 0) (ltb v (2 ^ w)) refl refl refl
     where
-      own : (d q : ℕ) → readMessage l s ≡ refused d q → correctMessage l s i v ≡ refused d q
-      own d q o = rw o refl
-
       nowhere : (vs : List ℕ) → readMessage l s ≡ accepted vs → eqb w 0 ≡ true → correctMessage l s i v ≡ refused 10 0
       nowhere vs o y = rw (o, stands vs o, y) refl
 
       go : (x y z : Bool) → eqb (c .code) 0 ≡ x → eqb w 0 ≡ y → ltb v (2 ^ w) ≡ z → Corrects l s i v (admitted c p w v) s
-      go false y z ex ey ez =
-          let (d, q, o, k) = refused-by (readMessage l s) reads (eqb-false (c .code) 0 ex) in
-          let a = refuses {s = s} (own d q o) in
-          rw ex (k ∙ a .0, a .1)
+      go false y z ex ey ez = rw ex (own-refusal l s i v reads (eqb-false (c .code) 0 ex))
       go true true z ex ey ez =
           let (vs, o) = accepted-by (readMessage l s) reads (λ q. read-zero-message l s q numbers) (eqb-true (c .code) 0 ex) in
           rw (ex, ey) (refuses (nowhere vs o ey))

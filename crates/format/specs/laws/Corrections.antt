@@ -14,7 +14,7 @@ use Rattle.format.specs.Refusals.{bare}
 use Rattle.format.specs.declared.Refusal.{Refusal}
 use Rattle.format.specs.Promises.{answered, readRecord, Corrects}
 use Rattle.format.specs.laws.Answers.{numbered, read-code}
-use Rattle.format.specs.laws.Correcting.{accepted-by, in-place}
+use Rattle.format.specs.laws.Correcting.{accepted-by, own-refusal, in-place}
 use Rattle.format.specs.laws.Lead.{sized-fields}
 use Rattle.format.specs.laws.Family.{Family, record-values}
 use Rattle.format.specs.laws.Whole.{was, within-sizes}
@@ -33,6 +33,11 @@ good-size l t least most = sized-fields (l .fmt) (inside (l .seal) (l .least)) (
     go : (z : Bool) → (inside z (l .least) ≤ length (body z t)) × (length (body z t) ≤ inside z (l .most))
     go false = (least, most)
     go true = let n = length-take-le (length t - 1) t (omega arith) in (omega (arith, n), omega (arith, n))
+
+-- What reading refused is answered at once: the refusal n of its answer a.
+pub family-refused : {R A : Type 0} (l : Layout) (recordOf : List ℕ → R) (good : R → A) (bad : Refusal → A) (refusalOf : A → Refusal) → ((r : R) → refusalOf (good r) ≡ bare 0) → ((c : Refusal) → refusalOf (bad c) ≡ c)
+    → (s : List ℕ) (i v : ℕ) {a : A} {n : Refusal} → a ≡ answered good bad (readRecord l recordOf s) → n ≡ refusalOf a → (n .code ≡ 0 → ⊥) → Corrects l s i v n s
+family-refused l recordOf good bad refusalOf of-good of-bad s i v reads is = own-refusal l s i v (read-code good bad recordOf refusalOf of-good of-bad l s reads is)
 
 module _ {l : Layout} {R A : Type 0} {Lent : R → Type 0} {valuesOf : R → List ℕ} {recordOf : List ℕ → R} {changed : ℕ → ℕ → R → R} (F : Family l R Lent valuesOf recordOf changed)
     (good : R → A) (bad : Refusal → A) (refusalOf : A → Refusal) (of-good : (r : R) → refusalOf (good r) ≡ bare 0) (of-bad : (c : Refusal) → refusalOf (bad c) ≡ c)

@@ -1,4 +1,4 @@
--- What is told of a refusal: showing it twice is showing it once, and C takes apart what was packed. Assumes nothing.
+-- What is told of a refusal: showing it twice is showing it once, C takes apart what was packed, and is given one number. Assumes nothing.
 use mathlib.Core.Path.{_≡_, refl, sym, ap, _∙_}
 use mathlib.Core.Bool.{Bool, true, false, cond}
 use Prim.Native.Nat.{ℕ, _/_, _%_, _^_, _<_}
@@ -6,6 +6,7 @@ use native.Mathlib.Omega.{arith}
 use native.Mathlib.Nat.{mod-eq-of-lt}
 use Rattle.format.specs.Fmt.{Out, accepted, refused}
 use Rattle.format.specs.Message.{told}
+use Rattle.format.specs.Promises.{Packs}
 use Rattle.format.specs.Refusals.{placed, shown, bare, packed, unpacked}
 use Rattle.format.specs.declared.Refusal.{Refusal}
 
@@ -41,3 +42,7 @@ unpacks r c b = λ i. record { code = low i; bit = high i }
 
     high : packed r / 256 ≡ r .bit
     high = rw small (omega (arith, c))
+
+-- A call for C that promises one refusal gives one number.
+pub one-packed : {P : Refusal → Type 0} → ((x y : Refusal) → P x → P y → x ≡ y) → {m n : ℕ} → Packs P m → Packs P n → m ≡ n
+one-packed same (x, a, p) (y, b, q) = a ∙ ap packed (same x y p q) ∙ sym b

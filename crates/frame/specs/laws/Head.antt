@@ -8,8 +8,7 @@ use lib.Dec.{leb, lit<, lit≤}
 use borrow.Author.Tests.{le-leb}
 use Rattle.bits.specs.Answers.{got}
 use Rattle.bits.specs.Bits.{bitsOf}
-use Rattle.format.specs.Fmt.{Fmt, check, read, write}
-use Rattle.format.specs.Message.{fault}
+use Rattle.format.specs.Fmt.{Fmt, read, write}
 use Rattle.walk.specs.Walk.{onward}
 use Rattle.format.specs.Words.{_‥_}
 use Rattle.format.specs.laws.Extent.{opens-field}
@@ -24,12 +23,12 @@ use Rattle.frame.specs.Frame.{frame}
 use Rattle.frame.specs.Steps.{headed, headJudged, headPut}
 
 module _ (letters lo hi : ℕ) (f : Fmt) where
-  -- read behind first tests that answered c
-  pub head-read : (s : List ℕ) (c : ℕ) {q : Walk} → q ≡ headed s c letters lo hi
-      → Reading (check (fault c) 0 (read (frame letters lo hi f) [] 0 (bitsOf s))) (frame letters lo hi f) 0 s f (q .v ∷ got s 40 16 ∷ letters ∷ 0x24 ∷ []) 80 (λ vs. 0x24 ∷ letters ∷ got s 40 16 ∷ q .v ∷ vs) q
+  -- read
+  pub head-read : (s : List ℕ) {q : Walk} → q ≡ headed s letters lo hi
+      → Reading (read (frame letters lo hi f) [] 0 (bitsOf s)) (frame letters lo hi f) 0 s f (q .v ∷ got s 40 16 ∷ letters ∷ 0x24 ∷ []) 80 (λ vs. 0x24 ∷ letters ∷ got s 40 16 ∷ q .v ∷ vs) q
   unfolding onward
-  head-read s c d =
-      let r0 = start (frame letters lo hi f) 0 c s refl in
+  head-read s d =
+      let r0 = start (frame letters lo hi f) 0 0 s refl in
       let r1 = step-code 8 (lit≤ tt) (lit< tt) 0x24 r0 refl in
       let r2 = step-code 32 (lit≤ tt) (lit< tt) letters r1 refl in
       let r3 = step-limits 16 (lit< tt) (lit≤ tt) (lit< tt) 0 lo hi (lo ‥ hi) (λ v. refl) r2 refl in

@@ -23,6 +23,9 @@ pub(crate) fn judged(r: Packet) -> walk::walk::Walk
     let w = w.value(1, r.language as u64, 0, 1);
     let w = w.value(8, r.number as u64, 0, 255);
     let w = w.value(6, r.total as u64, 1, MOST as u64);
+    if w.code != 0 {
+        return w;
+    }
     w.value(6, r.own as u64, 0, last_number(r.total))
 }
 

@@ -21,6 +21,9 @@ pub(crate) fn judged(r: Txsq, content: &[u8]) -> walk::walk::Walk
     let w = w.value(1, r.mode as u64, 0, 1);
     let w = w.value(1, r.password as u64, 0, allowed(r.category, 1));
     let w = w.value(24, r.receiver as u64, 0, frame::ADDRESS);
+    if w.code != 0 {
+        return w;
+    }
     let w = w.on(
         16,
         false,
@@ -28,6 +31,9 @@ pub(crate) fn judged(r: Txsq, content: &[u8]) -> walk::walk::Walk
         limit(r.category, r.mode, r.password, length, size),
         0,
     );
+    if w.code != 0 {
+        return w;
+    }
     let w = w.value(8, r.answer as u64, 0, allowed(r.password, 255));
     let w = w.wide(r.size as usize, 0);
     let spare = frame::unused_bits(r.size);

@@ -18,7 +18,13 @@ pub(crate) fn judged(r: Txxx, content: &[u8]) -> walk::walk::Walk
     let w = w.value(24, r.sender as u64, 0, frame::ADDRESS);
     let w = w.value(8, r.hour as u64, 0, frame::HOUR);
     let w = w.value(8, r.minute as u64, 0, frame::MINUTE);
+    if w.code != 0 {
+        return w;
+    }
     let w = w.on(16, false, size, limit(length, size), 0);
+    if w.code != 0 {
+        return w;
+    }
     let w = w.wide(r.size as usize, 0);
     let spare = frame::unused_bits(r.size);
     let w = w.fill_value(spare, bits::get(content, r.size as usize, spare));

@@ -50,6 +50,16 @@ piece-start w v ps h e d = subst⁻¹ (λ g. Piecing (walk ps 0) h w v 0 ps h g)
     go true y = refl
     go false y = refl
 
+-- Parts behind a refused one change nothing that is told of the number.
+module _ (w lo hi : ℕ) (g : Pieces) (n : g .code ≡ 0 → ⊥) where
+  pub piece-code : pieced w lo hi g .code ≡ g .code
+  unfolding pieced
+  piece-code = rw (ne-eqb (g .code) 0 n) refl
+
+  pub piece-stuck : (r : Walk) → judgedAs (pieced w lo hi g) r ≡ judgedAs g r
+  unfolding pieced
+  piece-stuck r = rw (ne-eqb (g .code) 0 n) refl
+
 -- a part's bits are the next of the number
 module _ (w k v : ℕ) where
   piece-first : valueOf (take w (digits (w + k) v)) ≡ v / 2 ^ k % 2 ^ w

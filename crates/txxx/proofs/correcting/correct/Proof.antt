@@ -1,8 +1,8 @@
 -- `correct` is the correction in place of every family, with the frame's fields read before and behind the change and where `stands` found the field, the mark by the size.
 use mathlib.Core.Path.{refl, sym, ap, _∙_}
-use Rattle.format.specs.laws.Corrections.{family-corrected}
+use Rattle.format.specs.laws.Corrections.{family-refused, family-corrected}
 use Rattle.txxx.specs.Changed.{spotBy}
-use Rattle.txxx.specs.Txxx.{txxxs, refusalOf}
+use Rattle.txxx.specs.Txxx.{txxxs, recordOf, refusalOf}
 use Rattle.txxx.specs.laws.Correction.{spotted}
 use Rattle.txxx.specs.laws.Demands.{family}
 use Rattle.txxx.specs.laws.Shown.{mark-stands}
@@ -11,18 +11,27 @@ use borrow.Author.Needs.{needs}
 use Rattle.txxx.proofs.correcting.correct.Statement.{statement}
 use Rattle.txxx.proofs.correcting.correct.Tie as tie
 
+-- the message was refused
 returns : tie.Need-returns
 unfolding txxxs
 returns c =
+    let number = c .before .before in
+    let was = number .before in
+    let a = was .before .before .before .args in
+    family-refused txxxs recordOf (λ r. Good (r .0)) Refused refusalOf (λ r. refl) (λ c. refl) (a .buf .now) _ (a .value) (was .read .ensures) (number .refusal .ensures) (c .if1 .taken)
+
+returns-2 : tie.Need-returns-2
+unfolding txxxs
+returns-2 c =
     let finish = c .before .before in
     let again = finish .before in
     let f = again .before .before in
     let inner = f .before in
     let begin = inner .before .before .before .before in
-    let number = begin .before in
-    let look = number .before .before in
+    let look = begin .before .before in
     let mark = look .before in
-    let was = mark .before in
+    let number = mark .before .before .before in
+    let was = number .before in
     let known = was .before .before in
     let a = known .before .args in
     let (there, slim) = look .stands .ensures in
@@ -34,6 +43,7 @@ pub correct-spec : {M : Type 1} → statement M
 correct-spec =
     tie.close
     (tie.spec
-    (λ c κs. search needs) (λ c κs. search needs) (λ c κs. search needs) (λ c κs. search needs) (λ c κs. search needs)
-    (λ c κs. search needs) (λ c κs. search needs) (λ c κs. search needs) (λ c κs. search needs) (λ c. search needs)
-    returns)
+    (λ c κs. search needs) (λ c κs. search needs) (λ c. search needs)
+    returns
+    (λ c κs. search needs) (λ c κs. search needs) (λ c κs. search needs) (λ c κs. search needs) (λ c κs. search needs) (λ c κs. search needs) (λ c κs. search needs) (λ c. search needs)
+    returns-2)

@@ -1,8 +1,8 @@
 -- `correct` is the correction in place of every family, with the warning's fields read before and behind the change and where `stands` found the field.
 use mathlib.Core.Path.{refl}
 use Rattle.bits.specs.Bits.{Bytes, fieldAt}
-use Rattle.format.specs.laws.Corrections.{family-sized}
-use Rattle.warning.specs.Warning.{warnings, refusalOf}
+use Rattle.format.specs.laws.Corrections.{family-refused, family-sized}
+use Rattle.warning.specs.Warning.{warnings, recordOf, refusalOf}
 use Rattle.warning.specs.Changed.{fieldOf}
 use Rattle.warning.specs.laws.Demands.{family, looked-stands}
 use Rattle.warning.specs.declared.reading.Answer.the-variants.{Good, Refused}
@@ -10,9 +10,18 @@ use borrow.Author.Needs.{needs}
 use Rattle.warning.proofs.correcting.correct.Statement.{statement}
 use Rattle.warning.proofs.correcting.correct.Tie as tie
 
+-- the message was refused
 returns : tie.Need-returns
 unfolding warnings
 returns c =
+    let number = c .before .before in
+    let was = number .before in
+    let a = was .before .before .before .args in
+    family-refused warnings recordOf Good Refused refusalOf (λ r. refl) (λ c. refl) (a .buf .now) _ (a .value) (was .read .ensures) (number .refusal .ensures) (c .if1 .taken)
+
+returns-2 : tie.Need-returns-2
+unfolding warnings
+returns-2 c =
     let finish = c .before .before in
     let again = finish .before in
     let f = again .before .before in

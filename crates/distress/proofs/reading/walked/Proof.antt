@@ -1,4 +1,4 @@
--- `fields` walks the report as its layout stands: one step a field, then the record is that of the values.
+-- `walked` walks the report as its layout stands: one step a field, then the record is that of the values.
 use mathlib.Core.Path.{refl, sym, ap, _∙_}
 use Prim.Native.Nat.{_≤_, _<_, _^_}
 use mathlib.Core.List.{[], _∷_}
@@ -14,21 +14,14 @@ use Rattle.walk.specs.laws.Sign.{spell-int}
 use mir.Syntax.{w32}
 use mir.ValLaws.{toZ-ofZ}
 use Rattle.distress.specs.Report.{report, valuesOf, reportOf, answerOf, again}
-use Rattle.format.specs.Refusals.{bare}
-use Rattle.format.specs.laws.Refusals.{shown-bare}
 use Rattle.format.specs.laws.Answers.{told-so}
 use Rattle.distress.specs.declared.reading.Answer.the-variants.{Good, Refused}
 use borrow.Author.Needs.{needs}
-use Rattle.distress.proofs.reading.fields.Statement.{statement}
-use Rattle.distress.proofs.reading.fields.Tie as tie
+use Rattle.distress.proofs.reading.walked.Statement.{statement}
+use Rattle.distress.proofs.reading.walked.Tie as tie
 
 returns : tie.Need-returns
-returns c =
-    let choose = c .before in
-    let test = choose .before .before in
-    let a = test .before .before .args in
-    ap Refused (c .bare .ensures ∙ ap bare (choose .choose-code .ensures ∙ ap (λ x. cond x 1 (a .lead)) (choose .before .no-refusal .ensures)) ∙ sym (shown-bare _))
-    ∙ sym (ap (λ o. answerOf (also reportOf o)) (other-size report 17 17 (a .lead) (a .s .now) (λ l u. test .if1 .taken (omega (arith, l, u)))))
+returns c = sym (ap (λ o. answerOf (also reportOf o)) (other-size report 17 17 0 (c .before .before .args .s .now) (λ l u. c .if1 .taken (omega (arith, l, u)))))
 
 returns-2 : tie.Need-returns-2
 unfolding report valuesOf
@@ -49,9 +42,8 @@ returns-2 c =
     let c0 = c1 .before in
     let cs = c0 .before in
     let test = cs .before in
-    let a = test .before .before .args in
-    let s = a .s .now in
-    let r0 = start report 0 (a .lead) s (cs .begin .ensures) in
+    let s = test .before .before .args .s .now in
+    let r0 = start report 0 0 s (cs .begin .ensures) in
     let r1 = step-code 16 (lit≤ tt) (lit< tt) 0xBDC1 r0 (c0 .code .ensures) in
     let r2 = step-num 32 (lit< tt) (lit≤ tt) (lit< tt) 0 999_999_999 r1 (c1 .num .ensures .0) in
     let r3 = step-signed 25 (lit< tt) (lit≤ tt) (lit< tt) 10_800_000 10_860_000 r2 (c2 .signed .ensures .0) in
@@ -69,13 +61,12 @@ returns-2 c =
     let w = same-values (λ i. 0xBDC1 ∷ c1 .num .result .v ∷ sym east i ∷ sym north i ∷ c6 .num2 .result .v ∷ c7 .num3 .result .v ∷ c8 .num4 .result .v ∷ c9 .num5 .result .v ∷ c10 .num6 .result .v ∷ c11 .num7 .result .v ∷ 0 ∷ []) r12 in
     let told = c .before .refusal in
     c .told .ensures ∙ ap (λ r. cond (eqb (told .result .code) 0) (Good r) (Refused (told .result))) (sym (again _ (rw east (c2 .signed .ensures .1)) (rw north (c4 .signed2 .ensures .1)))) ∙ told-so Good Refused reportOf _ _ (ended .end .result .code) (ended .end .result .offset) (told .ensures) (w .so)
-    ∙ sym (ap (λ o. answerOf (also reportOf o)) (exact-fields report 17 (a .lead) s (λ z. test .if1 .left)))
+    ∙ sym (ap (λ o. answerOf (also reportOf o)) (exact-fields report 17 0 s (λ z. test .if1 .left)))
 
-pub fields-spec : {M : Type 1} → statement M
-fields-spec =
+pub walked-spec : {M : Type 1} → statement M
+walked-spec =
     tie.close
     (tie.spec
-    (λ c κs. search needs) (λ c κs. search needs) (λ c κs. search needs)
     returns
     (λ c κs. search needs) (λ c κs. search needs) (λ c κs. search needs) (λ c. search needs) (λ c κs. search needs) (λ c κs. search needs) (λ c κs. search needs) (λ c κs. search needs) (λ c κs. search needs) (λ c. search needs) (λ c κs. search needs) (λ c. search needs) (λ c κs. search needs) (λ c. search needs) (λ c κs. search needs) (λ c. search needs) (λ c κs. search needs) (λ c. search needs) (λ c κs. search needs) (λ c. search needs) (λ c κs. search needs) (λ c κs. search needs) (λ c κs. search needs)
     (λ c κs. search needs)

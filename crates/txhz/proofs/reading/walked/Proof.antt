@@ -1,11 +1,9 @@
--- `fields` walks the frame as its layout stands: one step a field and one law a receipt, then the record is that of the values.
+-- `walked` walks the frame as its layout stands: one step a field and one law a receipt, then the record is that of the values.
 use mathlib.Core.Path.{sym, ap, refl, _∙_}
 use mathlib.Core.Bool.{cond}
 use lib.Dec.{lit<, lit≤}
 use Rattle.format.specs.Fmt.{also}
 use Rattle.frame.specs.laws.Head.{head-read}
-use Rattle.format.specs.Refusals.{bare}
-use Rattle.format.specs.laws.Refusals.{shown-bare}
 use Rattle.format.specs.laws.Answers.{told-so}
 use Rattle.walk.specs.laws.Reading.{step-num}
 use Rattle.walk.specs.laws.Walked.{finish}
@@ -15,16 +13,11 @@ use Rattle.txhz.specs.Txhz.{letters, txhz, recordOf, answerOf}
 use Rattle.txhz.specs.laws.Receipts.{receipt-read}
 use Rattle.txhz.specs.declared.reading.Answer.the-variants.{Good, Refused}
 use borrow.Author.Needs.{needs}
-use Rattle.txhz.proofs.reading.fields.Statement.{statement}
-use Rattle.txhz.proofs.reading.fields.Tie as tie
+use Rattle.txhz.proofs.reading.walked.Statement.{statement}
+use Rattle.txhz.proofs.reading.walked.Tie as tie
 
 returns : tie.Need-returns
-returns c =
-    let choose = c .before in
-    let test = choose .before .before in
-    let a = test .before .before .args in
-    ap Refused (c .bare .ensures ∙ ap bare (choose .choose-code .ensures ∙ ap (λ x. cond x 1 (a .code)) (choose .before .no-refusal .ensures)) ∙ sym (shown-bare _))
-    ∙ sym (ap (λ o. answerOf (also recordOf o)) (other-size txhz 34 34 (a .code) (a .s .now) (λ l u. test .if1 .taken (omega (arith, l, u)))))
+returns c = sym (ap (λ o. answerOf (also recordOf o)) (other-size txhz 34 34 0 (c .before .before .args .s .now) (λ l u. c .if1 .taken (omega (arith, l, u)))))
 
 returns-2 : tie.Need-returns-2
 unfolding txhz recordOf
@@ -41,7 +34,7 @@ returns-2 c =
     let test = c0 .before in
     let a = test .before .before .args in
     let s = a .s .now in
-    let r0 = head-read letters 35 35 _ s (a .code) (c0 .head .ensures .0) in
+    let r0 = head-read letters 35 35 _ s (c0 .head .ensures .0) in
     let r1 = step-num 24 (lit< tt) (lit≤ tt) (lit< tt) 0 2_097_151 r0 (c1 .num .ensures .0) in
     let r2 = step-num 8 (lit< tt) (lit≤ tt) (lit< tt) 0 5 r1 (c2 .num2 .ensures .0) in
     let r3 = receipt-read 0 _ (lit< tt) refl refl r2 (c3 .read-receipt .ensures) in
@@ -51,13 +44,12 @@ returns-2 c =
     let r7 = receipt-read 4 _ (lit< tt) refl refl r6 (c7 .read-receipt5 .ensures) in
     let w = finish (lit< tt) r7 (ended .end .ensures) in
     c .told .ensures ∙ told-so Good Refused recordOf _ _ (ended .end .result .code) (ended .end .result .offset) (c .before .refusal .ensures) (w .so)
-    ∙ sym (ap (λ o. answerOf (also recordOf o)) (exact-fields txhz 34 (a .code) s (λ z. test .if1 .left)))
+    ∙ sym (ap (λ o. answerOf (also recordOf o)) (exact-fields txhz 34 0 s (λ z. test .if1 .left)))
 
-pub fields-spec : {M : Type 1} → statement M
-fields-spec =
+pub walked-spec : {M : Type 1} → statement M
+walked-spec =
     tie.close
     (tie.spec
-    (λ c κs. search needs) (λ c κs. search needs) (λ c κs. search needs)
     returns
     (λ c κs. search needs) (λ c. search needs) (λ c κs. search needs) (λ c. search needs) (λ c κs. search needs) (λ c. search needs) (λ c κs. search needs) (λ c κs. search needs) (λ c κs. search needs) (λ c κs. search needs) (λ c κs. search needs) (λ c κs. search needs) (λ c κs. search needs) (λ c κs. search needs)
     returns-2)

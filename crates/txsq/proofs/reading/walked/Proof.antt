@@ -1,4 +1,4 @@
--- `fields` walks the frame as its layout stands: one step a field, then the record is that of the values.
+-- `walked` walks the frame as its layout stands: one step a field, then the record is that of the values.
 use mathlib.Core.Path.{refl, ap, ap₂, _∙_}
 use mathlib.Core.Bool.{true, false}
 use Prim.Native.Nat.{_<_, _^_}
@@ -15,8 +15,8 @@ use Rattle.walk.specs.laws.Walked.{finish}
 use Rattle.txsq.specs.Txsq.{letters, allowed, bounded, limits, filling, txsq, recordOf}
 use Rattle.txsq.specs.declared.reading.Answer.the-variants.{Good, Refused}
 use borrow.Author.Needs.{needs}
-use Rattle.txsq.proofs.reading.fields.Statement.{statement}
-use Rattle.txsq.proofs.reading.fields.Tie as tie
+use Rattle.txsq.proofs.reading.walked.Statement.{statement}
+use Rattle.txsq.proofs.reading.walked.Tie as tie
 
 returns : tie.Need-returns
 unfolding txsq recordOf
@@ -38,11 +38,10 @@ returns c =
     let category = mode .before .before in
     let class = category .before in
     let head = class .before .before in
-    let a = head .before .before .args in
-    let s = a .s .now in
+    let s = head .before .before .args .s .now in
     let l = given .given .result .v in
     let small : l < 2 ^ 16 = given .given .ensures .1 in
-    let r0 = head-read letters 0 65_535 _ s (a .code) (head .head .ensures .0) in
+    let r0 = head-read letters 0 65_535 _ s (head .head .ensures .0) in
     let r1 = step-code 4 (lit≤ tt) (lit< tt) 0b0100 r0 (class .code .ensures) in
     let r2 = step-num 2 (lit< tt) (lit≤ tt) (lit< tt) 0 1 r1 (category .num .ensures .0) in
     let r3 = step-num 1 (lit< tt) (lit≤ tt) (lit< tt) 0 1 r2 (mode .num2 .ensures .0) in
@@ -56,8 +55,8 @@ returns c =
     let w = finish (omega (arith, small)) r9 (ended .end .ensures) in
     c .told .ensures ∙ told-so (λ r. Good (r .0)) Refused recordOf _ _ (ended .end .result .code) (ended .end .result .offset) (c .before .refusal .ensures) (w .so)
 
-pub fields-spec : {M : Type 1} → statement M
-fields-spec =
+pub walked-spec : {M : Type 1} → statement M
+walked-spec =
     tie.close
     (tie.spec
     (λ c κs. search needs) (λ c. search needs) (λ c κs. search needs) (λ c κs. search needs) (λ c. search needs) (λ c κs. search needs) (λ c. search needs) (λ c κs. search needs) (λ c κs. search needs) (λ c. search needs) (λ c κs. search needs) (λ c. search needs) (λ c κs. search needs) (λ c κs. search needs) (λ c κs. search needs) (λ c κs. search needs) (λ c. search needs) (λ c κs. search needs) (λ c κs. search needs) (λ c. search needs) (λ c. search needs) (λ c κs. search needs) (λ c κs. search needs) (λ c κs. search needs) (λ c κs. search needs) (λ c κs. search needs) (λ c κs. search needs)
