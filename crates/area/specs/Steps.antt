@@ -5,8 +5,7 @@ use mathlib.Core.Bool.{Bool}
 use mathlib.Core.List.{List, [], _∷_, reverseAux}
 use lib.IntN.{ℤ}
 use Rattle.bits.specs.Bits.{bitsOf}
-use Rattle.format.specs.Fmt.{Out, Fmt, check, read}
-use Rattle.format.specs.Message.{fault}
+use Rattle.format.specs.Fmt.{Out, refused, Fmt, read}
 use Rattle.format.specs.laws.Putting.{Putting}
 use Rattle.walk.specs.Reading.{signedly}
 use Rattle.walk.specs.laws.Judging.{Judging}
@@ -23,9 +22,10 @@ use Rattle.area.specs.declared.reading.shapes.Shape.the-variants.{Circle
 abbrev opening : Opened → List ℕ → List ℕ
 opening g vs = 6 ∷ g .repeat ∷ g .source ∷ g .sequence ∷ g .destination ∷ g .resent ∷ 0 ∷ 412 ∷ 11 ∷ g .kind ∷ g .walk .v ∷ vs
 
--- they were read behind the first tests' answer `lead`
-pub record OpeningRead (s : List ℕ) (lead : ℕ) (g : Opened) : Type 0 where
-  pub on : Reading (check (fault lead) 0 (read area [] 0 (bitsOf s))) area 0 s (shape (kindOf (g .walk .v)) tail) (reverseAux (opening g []) []) 94 (opening g) (g .walk)
+-- they were read, or a refusal among them is the whole reading's
+pub record OpeningRead (s : List ℕ) (g : Opened) : Type 0 where
+  pub stops : (g .walk .code ≡ 0 → ⊥) → read area [] 0 (bitsOf s) ≡ refused (g .walk .code) (g .walk .offset)
+  pub on : g .walk .code ≡ 0 → Reading (read area [] 0 (bitsOf s)) area 0 s (shape (kindOf (g .walk .v)) tail) (reverseAux (opening g []) []) 94 (opening g) (g .walk)
 
 -- the walk past a longitude, and past a latitude
 abbrev pub eastRead : List ℕ → Walk → Walk

@@ -5,11 +5,8 @@ use lib.Dec.{eqb, lit<, lit≤}
 use lib.ListN.{length}
 use mathlib.Core.List.{[]}
 use Rattle.bits.specs.Bits.{bitsOf}
-use Rattle.format.specs.Fmt.{also, check, read}
-use Rattle.format.specs.Message.{fault, fieldsOf}
-use Rattle.format.specs.Refusals.{bare}
-use Rattle.format.specs.laws.Refusals.{shown-bare}
-use Rattle.walk.specs.laws.Stopped.{stopped}
+use Rattle.format.specs.Fmt.{also, read}
+use Rattle.format.specs.Message.{fieldsOf}
 use Rattle.format.specs.laws.Answers.{told-so}
 use native.Mathlib.Omega.{arith}
 use Rattle.format.specs.laws.Lead.{exact-fields, other-size}
@@ -28,23 +25,17 @@ use Rattle.ais_common.proofs.time.ShortTime.of.Reads as ShortTime-of-reads
 use Rattle.ais_common.proofs.time.Time.of.Reads as Time-of-reads
 
 returns : tie.Need-returns
-returns c =
-    let choose = c .before in
-    let test = choose .before .before in
-    let a = test .before .before .args in
-    ap Refused (c .bare .ensures ∙ ap bare (choose .choose-code .ensures ∙ ap (λ x. cond x 1 (a .lead)) (choose .before .no-refusal .ensures)) ∙ sym (shown-bare _))
-    ∙ sym (ap (λ o. answerOf (also recordOf o)) (other-size area 31 31 (a .lead) (a .s .now) (λ l u. test .if1 .taken (omega (arith, l, u)))))
+returns c = sym (ap (λ o. answerOf (also recordOf o)) (other-size area 31 31 0 (c .before .before .args .s .now) (λ l u. c .if1 .taken (omega (arith, l, u)))))
 
 -- the bytes have the area's size: what is walked is their reading
-whole : (c : tie.Else1) → let a = c .before .before .args in
-    answerOf (also recordOf (check (fault (a .lead)) 0 (read area [] 0 (bitsOf (a .s .now))))) ≡ answerOf (also recordOf (fieldsOf area 31 31 (a .lead) (a .s .now)))
-whole c = let a = c .before .before .args in sym (ap (λ o. answerOf (also recordOf o)) (exact-fields area 31 (a .lead) (a .s .now) (λ z. c .if1 .left)))
+whole : (c : tie.Else1) → let s = c .before .before .args .s .now in answerOf (also recordOf (read area [] 0 (bitsOf s))) ≡ answerOf (also recordOf (fieldsOf area 31 31 0 s))
+whole c = sym (ap (λ o. answerOf (also recordOf o)) (exact-fields area 31 0 (c .before .before .args .s .now) (λ z. c .if1 .left)))
 
 returns-2 : tie.Need-returns-2
 returns-2 c =
     let test = c .before in
     let head = test .before .before .before in
-    stopped Good Refused recordOf (head .opening .ensures .on) (test .if2 .taken) (c .refusal .ensures) ∙ whole (head .before)
+    ap Refused (c .refusal .ensures) ∙ sym (ap (λ o. answerOf (also recordOf o)) (head .opening .ensures .stops (test .if2 .taken))) ∙ whole (head .before)
 
 returns-3 : tie.Need-returns-3
 returns-3 c =
@@ -57,11 +48,12 @@ returns-3 c =
     let o1 = s2 .before in
     let s1 = o1 .before in
     let sh = s1 .before in
-    let head = sh .before .before .before .before in
+    let test = sh .before in
+    let head = test .before .before .before in
     let g = head .opening .result in
     let s = head .before .before .before .args .s .now in
     let long : length s ≡ 31 = head .before .if1 .left in
-    let r12 = sh .read .ensures .on (head .opening .ensures .on) in
+    let r12 = sh .read .ensures .on (head .opening .ensures .on (test .if2 .left)) in
     let r13 = time-read {at = 204} (lit< tt) (omega (arith, long)) r12 (s1 .read2 .ensures .0) in
     let r14 = short-read {at = 224} (lit< tt) (omega (arith, long)) r13 (s2 .read-short .ensures .0) in
     let r15 = step-num 4 (lit< tt) (lit≤ tt) (lit< tt) 1 6 r14 (n7 .num .ensures .0) in
@@ -91,7 +83,6 @@ pub fields-spec : {M : Type 1} → statement M
 fields-spec =
     tie.close
     (tie.spec
-    (λ c κs. search needs) (λ c κs. search needs) (λ c κs. search needs)
     returns
     (λ c κs. search needs) (λ c κs. search needs)
     returns-2

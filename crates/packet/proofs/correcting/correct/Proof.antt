@@ -25,9 +25,9 @@ returns-2 c =
     let again = finish .before in
     let f = again .before .before in
     let begin = f .before .before .before .before in
-    let number = begin .before in
-    let look = number .before .before in
-    let was = look .before in
+    let look = begin .before .before in
+    let number = look .before .before .before in
+    let was = number .before in
     let known = was .before .before in
     let a = known .before .args in
     let (there, slim) = look .stands .ensures in
@@ -39,6 +39,7 @@ pub correct-spec : {M : Type 1} → statement M
 correct-spec =
     tie.close
     (tie.spec
-    (λ c κs. search needs) (λ c κs. search needs) (λ c κs. search needs) (λ c κs. search needs) (λ c κs. search needs)
     (λ c κs. search needs) (λ c κs. search needs) (λ c. search needs)
-    returns)
+    returns
+    (λ c κs. search needs) (λ c κs. search needs) (λ c κs. search needs) (λ c κs. search needs) (λ c κs. search needs) (λ c. search needs)
+    returns-2)

@@ -8,12 +8,10 @@ use lib.Dec.{eqb, lit<, lit≤}
 use lib.ListN.{length}
 use Rattle.bits.specs.Bits.{bitsOf}
 use Rattle.walk.specs.Faults.{wholly}
-use Rattle.format.specs.Fmt.{also, check, read}
-use Rattle.format.specs.Message.{fault, fieldsOf}
+use Rattle.format.specs.Fmt.{also, read}
+use Rattle.format.specs.Message.{fieldsOf}
 use Rattle.format.specs.Words.{_‥_, ago}
 use Rattle.format.specs.Refusals.{bare}
-use Rattle.format.specs.declared.Refusal.{Refusal}
-use Rattle.format.specs.laws.Refusals.{shown-bare}
 use Rattle.format.specs.laws.Answers.{told-so}
 use Rattle.format.specs.laws.Lead.{sized-fields, other-size}
 use Rattle.walk.specs.Reading.{ranged, carried}
@@ -26,35 +24,26 @@ use borrow.Author.Needs.{needs}
 use Rattle.packet.proofs.reading.fields.Statement.{statement}
 use Rattle.packet.proofs.reading.fields.Tie as tie
 
--- a packet of another size is refused, by the first tests or by its size
-other : (lead : ℕ) (s : List ℕ) {b : Bool} {c : ℕ} {r : Refusal} → b ≡ eqb lead 0 → c ≡ cond b 1 lead → r ≡ bare c → (5 ≤ length s → length s ≤ greatest → ⊥)
-    → Refused r ≡ answerOf (also recordOf (fieldsOf packet 5 greatest lead s))
-other lead s e is tells n = ap Refused (tells ∙ ap bare (is ∙ ap (λ x. cond x 1 lead) e) ∙ sym (shown-bare _)) ∙ sym (ap (λ o. answerOf (also recordOf o)) (other-size packet 5 greatest lead s n))
+-- a packet of another size is refused
+other : (s : List ℕ) → (5 ≤ length s → length s ≤ greatest → ⊥) → Refused (bare 1) ≡ answerOf (also recordOf (fieldsOf packet 5 greatest 0 s))
+other s n = sym (ap (λ o. answerOf (also recordOf o)) (other-size packet 5 greatest 0 s n))
 
 returns : tie.Need-returns
-returns c =
-    let test = c .before in
-    let x = test .before in
-    let a = x .before .before .before .args in
-    other (a .lead) (a .s .now) (x .before .no-refusal .ensures) (x .choose-code .ensures) (c .bare .ensures) (λ l u. omega (arith, l, test .if1 .taken))
+returns c = other (c .before .before .args .s .now) (λ l u. omega (arith, l, c .if1 .taken))
 
 returns-2 : tie.Need-returns-2
-returns-2 c =
-    let test = c .before in
-    let x = test .before .before in
-    let a = x .before .before .before .args in
-    other (a .lead) (a .s .now) (x .before .no-refusal .ensures) (x .choose-code .ensures) (c .bare2 .ensures) (λ l u. omega (arith, u, test .if2 .taken))
+returns-2 c = other (c .before .before .before .args .s .now) (λ l u. omega (arith, u, c .if2 .taken))
 
 -- The walk over the head, as the layout stands.
 headed : (own : tie.After-num4) → let total = own .before .before .before in
     let number = total .before .before in
     let language = number .before .before in
-    let a = language .before .before .before .before .before .before .before .before .before .args in
+    let a = language .before .before .before .before .before .before .before .args in
     let n = own .num4 .result .v in
     let t = total .num3 .result .v in
     let m = number .num2 .result .v in
     let l = language .num .result .v in
-    Reading (check (fault (a .lead)) 0 (read packet [] 0 (bitsOf (a .s .now)))) packet 0 (a .s .now) content (n ∷ t ∷ m ∷ l ∷ version ∷ 0xE1 ∷ []) 32 (λ vs. 0xE1 ∷ version ∷ l ∷ m ∷ t ∷ n ∷ vs) (own .num4 .result)
+    Reading (read packet [] 0 (bitsOf (a .s .now))) packet 0 (a .s .now) content (n ∷ t ∷ m ∷ l ∷ version ∷ 0xE1 ∷ []) 32 (λ vs. 0xE1 ∷ version ∷ l ∷ m ∷ t ∷ n ∷ vs) (own .num4 .result)
 unfolding packet
 headed own =
     let most = own .before in
@@ -64,9 +53,8 @@ headed own =
     let edition = language .before in
     let kind = edition .before in
     let begin = kind .before in
-    let a = begin .before .before .before .before .before .before .args in
-    let s = a .s .now in
-    let r0 = start packet 0 (a .lead) s (begin .begin .ensures) in
+    let s = begin .before .before .before .before .args .s .now in
+    let r0 = start packet 0 0 s (begin .begin .ensures) in
     let r1 = step-code 8 (lit≤ tt) (lit< tt) 0xE1 r0 (kind .code .ensures) in
     let r2 = step-code 3 (lit≤ tt) (lit< tt) version r1 (edition .code2 .ensures) in
     let r3 = step-num 1 (lit< tt) (lit≤ tt) (lit< tt) 0 1 r2 (language .num .ensures .0) in
@@ -75,11 +63,10 @@ headed own =
     step-limits 6 (lit< tt) (lit≤ tt) (lit< tt) 3 0 _ (λ h. (0 ‥ ago 0 h - 1) h) (λ v. refl) r5 (own .num4 .ensures .0 ∙ ap (λ n. ranged s 6 true 0 n 4 (total .num3 .result)) (most .last-number .ensures))
 
 -- what passed the tests of its size
-sized : (high : tie.Else2) → let a = high .before .before .before .before .before .args in fieldsOf packet 5 greatest (a .lead) (a .s .now) ≡ check (fault (a .lead)) 0 (read packet [] 0 (bitsOf (a .s .now)))
+sized : (high : tie.Else2) → let s = high .before .before .before .args .s .now in fieldsOf packet 5 greatest 0 s ≡ read packet [] 0 (bitsOf s)
 sized high =
     let low = high .before in
-    let a = low .before .before .before .before .args in
-    sized-fields packet 5 greatest (a .lead) (a .s .now) (λ z. (omega (arith, low .if1 .left), omega (arith, high .if2 .left)))
+    sized-fields packet 5 greatest 0 (low .before .before .args .s .now) (λ z. (omega (arith, low .if1 .left), omega (arith, high .if2 .left)))
 
 -- a head that was refused
 returns-3 : tie.Need-returns-3
@@ -97,9 +84,8 @@ returns-4 c =
     let rest = carrying .before in
     let own = rest .before .before .before .before in
     let high = own .before .before .before .before .before .before .before .before .before .before .before in
-    let a = high .before .before .before .before .before .args in
-    let s = a .s .now in
     let low = high .before in
+    let s = low .before .before .args .s .now in
     let n : wholly s 32 * 8 ≡ (length s - 4) * 8 = omega arith in
     let r7 = step-rest (lit< tt) (headed own) (rest .rest .ensures) in
     let r8 = step-content (wholly s 32 * 8) (omega arith) r7 (carrying .content .ensures ∙ ap (λ w. carried s w (rest .rest .result)) (sym n)) in
@@ -111,9 +97,7 @@ pub fields-spec : {M : Type 1} → statement M
 fields-spec =
     tie.close
     (tie.spec
-    (λ c κs. search needs) (λ c κs. search needs) (λ c κs. search needs)
     returns
-    (λ c κs. search needs)
     returns-2
     (λ c. search needs) (λ c. search needs) (λ c. search needs) (λ c κs. search needs) (λ c κs. search needs) (λ c κs. search needs) (λ c κs. search needs) (λ c. search needs) (λ c κs. search needs) (λ c. search needs) (λ c κs. search needs) (λ c. search needs) (λ c κs. search needs) (λ c κs. search needs) (λ c. search needs) (λ c κs. search needs)
     returns-3

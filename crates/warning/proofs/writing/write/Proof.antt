@@ -2,7 +2,7 @@
 use mathlib.Core.Path.{refl, subst}
 use Rattle.format.specs.Promises.{Writes}
 use Rattle.format.specs.Refusals.{bare}
-use Rattle.walk.specs.laws.Making.{write-refused, write-bare}
+use Rattle.walk.specs.laws.Making.{closing-told, write-refused, write-bare}
 use Rattle.warning.specs.Warning.{warnings, valuesAs}
 use borrow.Author.Needs.{needs}
 use Rattle.warning.proofs.writing.write.Statement.{statement}
@@ -11,13 +11,16 @@ use Rattle.warning.proofs.writing.write.Tie as tie
 returns : tie.Need-returns
 unfolding warnings
 returns c =
-    let closes = c .before .before in
+    let again = c .before in
+    let test = again .before in
+    let closes = test .before .before in
     let judged = closes .before in
     let time = judged .before in
     let st = time .before .before in
     let a = st .args in
     let s = a .buf .now in
-    subst (λ t. Writes warnings s (closes .closes .result) s (valuesAs (a .r) t)) (time .spelled .ensures) (write-refused warnings _ s (judged .judged .ensures) (closes .closes .ensures) (c .if1 .taken))
+    subst (λ t. Writes warnings s (c .closes2 .result) s (valuesAs (a .r) t)) (time .spelled .ensures)
+    (closing-told warnings _ s (again .judged2 .ensures) (c .closes2 .ensures), write-refused warnings _ s (judged .judged .ensures) (closes .closes .ensures) (test .if1 .taken) .1)
 
 returns-2 : tie.Need-returns-2
 unfolding warnings
@@ -37,7 +40,7 @@ pub write-spec : {M : Type 1} → statement M
 write-spec =
     tie.close
     (tie.spec
-    (λ c κs. search needs) (λ c κs. search needs) (λ c κs. search needs)
+    (λ c κs. search needs) (λ c κs. search needs) (λ c κs. search needs) (λ c κs. search needs) (λ c κs. search needs)
     returns
     (λ c κs. search needs) (λ c. search needs)
     returns-2)
