@@ -16,12 +16,8 @@ pub fn write(buf: &mut [u8], r: Area) -> Refusal
     let refusal = w.closes(false, Area::LEAST, Area::GREATEST, buf.len());
     if refusal.code != 0 {
         // It is judged once more for its bit, so that a good record carries none.
-        return making::judged(r, time, second).closes(
-            false,
-            Area::LEAST,
-            Area::GREATEST,
-            buf.len(),
-        );
+        let again = making::judged(r, time, second);
+        return again.closes(false, Area::LEAST, Area::GREATEST, buf.len());
     }
     making::put(buf, r, time, second);
     Refusal::NONE

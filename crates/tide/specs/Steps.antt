@@ -17,12 +17,13 @@ use Rattle.tide.specs.declared.reading.Course.{Course}
 abbrev pub placedRead : List ℕ → ℕ → Walk → Walk
 placedRead s k r = cond (eqb k 0) (ranged s 6 true 0 63 4 r) (longitudeRead s (latitudeRead s r))
 
--- a record up to its entries: how many they are is the walk's value
+-- behind the position type that r walked, up to the entries: how many they are is the walk's value
+abbrev pub countRead : List ℕ → Walk → Walk
+countRead s r = ranged s 9 false 1 511 4 (ranged s 1 true 0 1 4 (placedRead s (r .v) r))
+
+-- a record up to its entries, unless its position type was refused
 abbrev pub openedAt : List ℕ → Walk → Walk
-openedAt s r =
-    let kind = ranged s 1 false 0 1 4 r in
-    let mark = ranged s 1 true 0 1 4 (placedRead s (kind .v) kind) in
-    ranged s 9 false 1 511 4 mark
+openedAt s r = let kind = ranged s 1 false 0 1 4 r in cond (eqb (kind .code) 0) (countRead s kind) kind
 
 -- a sign and a value, whose least hangs on the sign
 abbrev pub levelRead : List ℕ → Walk → Walk
@@ -31,7 +32,7 @@ levelRead s r = let sign = ranged s 1 true 0 1 4 r in ranged s 10 true (leastOf 
 abbrev pub entryRead : List ℕ → Walk → Walk
 entryRead s r = levelRead s (timeRead s r)
 
--- a refused entry ends the walk, and so does a refused head of a record
+-- a refused entry ends the walk, and so do a refused position type and a refused head of a record
 abbrev pub entryStep : List ℕ → Step
 entryStep s = thenStep (single (entryRead s)) unlessRefused
 
@@ -39,7 +40,10 @@ abbrev pub entriesStep : List ℕ → ℕ → Step
 entriesStep s n = thenStep unlessRefused (repeatWalked n (entryStep s))
 
 unfoldable pub recordStep : List ℕ → Step
-recordStep s next r = let opened = openedAt s r in entriesStep s (opened .v) next opened
+recordStep s next r =
+    let kind = ranged s 1 false 0 1 4 r in
+    let opened = countRead s kind in
+    cond (eqb (kind .code) 0) (entriesStep s (opened .v) next opened) kind
 
 -- over n records
 abbrev pub recordsWalked : List ℕ → ℕ → Walk → Walk

@@ -102,12 +102,14 @@ pub fn fields(s: &[u8]) -> Answer
     let w = walk::walk::Walk::begin(0, 0).code(s, 6, MESSAGE);
     let w = w.num(s, 2, 0, 3);
     let repeat = w.v as u8;
-    let w = w.num(s, 30, 0, 999_999_999);
-    let source = w.v as u32;
-    if w.code != 0 {
-        return Answer::Refused(w.refusal());
+    let from = w.num(s, 30, 0, 999_999_999);
+    if from.code != 0 {
+        return Answer::Refused(from.refusal());
     }
-    let w = w.fill(s, 2).code(s, 10, AUTHORITY).code(s, 6, APPLICATION);
+    let source = from.v as u32;
+    let w = from.fill(s, 2)
+        .code(s, 10, AUTHORITY)
+        .code(s, 6, APPLICATION);
     let w = w.number(s, 4, false, 1, 5, format::KIND);
     let kind = w.v;
     let w = w.num(s, 23, 0, 7_200_000);

@@ -15,12 +15,8 @@ pub fn write(buf: &mut [u8], r: Warning) -> Refusal
     let refusal = w.closes(false, Warning::LEAST, Warning::GREATEST, buf.len());
     if refusal.code != 0 {
         // It is judged once more for its bit, so that a good record carries none.
-        return making::judged(r, time).closes(
-            false,
-            Warning::LEAST,
-            Warning::GREATEST,
-            buf.len(),
-        );
+        let again = making::judged(r, time);
+        return again.closes(false, Warning::LEAST, Warning::GREATEST, buf.len());
     }
     making::put(buf, r, time);
     Refusal::NONE

@@ -86,7 +86,7 @@ module _ (s : List ℕ) where
 
   pub a-record : Stretch s tideRecord (recordAt s) (recordWide s) recordMost (recordStep s)
   unfolding recordStep
-  a-record = follows (decides s 1 (lit< tt) (lit≤ tt) 0 1 pointBits (λ k l. a-place k)) (follows (number s 1 (lit< tt) (lit≤ tt) 0 1) (decides s 9 (lit< tt) (lit≤ tt) 1 511 (511 * entryBits) entries))
+  a-record = follows (decides s 1 (lit< tt) (lit≤ tt) 0 1 pointBits (λ k l. guarded (a-place k))) (follows (number s 1 (lit< tt) (lit≤ tt) 0 1) (decides s 9 (lit< tt) (lit≤ tt) 1 511 (511 * entryBits) entries))
 
   pub records-along : (n : ℕ) (r : Walk) → r .at + n * recordMost < 2 ^ 64 → Along s (repeat n tideRecord) (λ f. f) r (recordsAt s n (r .at)) (recordsWalked s n r)
   records-along n r reach = valued (append-nil (recordsAt s n (r .at))) (repeats a-record n .on {g = λ f. f} {vs = []} (λ w. w) r reach (λ w e. stay))

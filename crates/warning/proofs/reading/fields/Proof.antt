@@ -94,7 +94,7 @@ module _ (c : tie.After-num4) where
 returns-2 : tie.Need-returns-2
 returns-2 c =
     let test = c .before in
-    let source = test .before .before .before in
+    let source = test .before .before in
     stopped Good Refused recordOf (at-source source) (test .if2 .taken) (c .refusal .ensures) ∙ whole source
 
 returns-3 : tie.Need-returns-3
@@ -131,9 +131,9 @@ fields-spec =
     tie.close
     (tie.spec
     returns
-    (λ c κs. search needs) (λ c κs. search needs) (λ c κs. search needs) (λ c. search needs) (λ c κs. search needs) (λ c. search needs) (λ c κs. search needs)
+    (λ c κs. search needs) (λ c κs. search needs) (λ c κs. search needs) (λ c. search needs) (λ c κs. search needs) (λ c κs. search needs)
     returns-2
-    (λ c κs. search needs) (λ c κs. search needs) (λ c κs. search needs) (λ c κs. search needs) (λ c κs. search needs) (λ c. search needs) (λ c κs. search needs) (λ c. search needs) (λ c κs. search needs)
+    (λ c. search needs) (λ c κs. search needs) (λ c κs. search needs) (λ c κs. search needs) (λ c κs. search needs) (λ c κs. search needs) (λ c. search needs) (λ c κs. search needs) (λ c. search needs) (λ c κs. search needs)
     returns-3
     (λ c κs. search needs) (λ c κs. search needs) (λ c κs. search needs) (λ c κs. search needs) (λ c. search needs) (λ c κs. search needs) (λ c κs. search needs) (λ c κs. search needs) (λ c κs. search needs)
     returns-4)
