@@ -2,7 +2,7 @@
 ghost use Rattle.bits.specs.Bits.{fieldAt};
 ghost use Rattle.format.specs.Correcting.{StandsAt};
 ghost use Rattle.format.specs.Promises.{Corrects};
-ghost use Rattle.warning.specs.Bodies.{Kind, cyclone, gale, waves, fog, surge, kindOf};
+ghost use Rattle.warning.specs.Bodies.{cyclone, gale, waves, fog, surge, kindOf};
 ghost use Rattle.warning.specs.Warning.{warnings};
 ghost use Rattle.warning.specs.Changed.{spotOf, ownSpot, fieldOf};
 use crate::reading::Warning;

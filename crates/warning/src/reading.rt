@@ -91,8 +91,8 @@ pub fn lead(s: &[u8]) -> u8
     ais_common::head::lead(s.len(), head, asked)
 }
 
-// The fields in bit order. Another size is refused at once: no field has then to be tested for it. What is refused up to the source, or
-// before the body, is answered there.
+// The fields in bit order. Another size is refused at once: no field has then to be tested for it. What is
+// refused up to the warning type is answered there.
 pub fn fields(s: &[u8]) -> Answer
     ensures { λ r. ⌜ r ≡ answerOf (also recordOf (fieldsOf warning 23 23 0 (now (s .entry)))) ⌝ }
 {
@@ -102,23 +102,18 @@ pub fn fields(s: &[u8]) -> Answer
     let w = walk::walk::Walk::begin(0, 0).code(s, 6, MESSAGE);
     let w = w.num(s, 2, 0, 3);
     let repeat = w.v as u8;
-    let from = w.num(s, 30, 0, 999_999_999);
-    if from.code != 0 {
-        return Answer::Refused(from.refusal());
-    }
-    let source = from.v as u32;
-    let w = from.fill(s, 2)
-        .code(s, 10, AUTHORITY)
-        .code(s, 6, APPLICATION);
+    let w = w.num(s, 30, 0, 999_999_999);
+    let source = w.v as u32;
+    let w = w.fill(s, 2).code(s, 10, AUTHORITY).code(s, 6, APPLICATION);
     let w = w.number(s, 4, false, 1, 5, format::KIND);
     let kind = w.v;
+    if w.code != 0 {
+        return Answer::Refused(w.refusal());
+    }
     let w = w.num(s, 23, 0, 7_200_000);
     let longitude = w.v as u32;
     let w = w.num(s, 23, 0, 7_200_000);
     let latitude = w.v as u32;
-    if w.code != 0 {
-        return Answer::Refused(w.refusal());
-    }
     let passed = crate::bodies::read(s, kind, w);
     let body = passed.body;
     let w = ais_common::time::read(s, passed.walk);

@@ -1,10 +1,10 @@
 -- `fields` walks the packet as its layout stands: one step a field, then the record is that of the values.
 use mathlib.Core.Path.{_≡_, refl, sym, ap, _∙_}
-use mathlib.Core.Bool.{Bool, true, cond}
+use mathlib.Core.Bool.{true}
 use mathlib.Core.List.{List, [], _∷_}
 use Prim.Native.Nat.{ℕ, _-_, _*_, _≤_}
 use native.Mathlib.Omega.{arith}
-use lib.Dec.{eqb, lit<, lit≤}
+use lib.Dec.{lit<, lit≤}
 use lib.ListN.{length}
 use Rattle.bits.specs.Bits.{bitsOf}
 use Rattle.walk.specs.Faults.{wholly}

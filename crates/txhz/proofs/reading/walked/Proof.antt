@@ -1,6 +1,5 @@
 -- `walked` walks the frame as its layout stands: one step a field and one law a receipt, then the record is that of the values.
 use mathlib.Core.Path.{sym, ap, refl, _∙_}
-use mathlib.Core.Bool.{cond}
 use lib.Dec.{lit<, lit≤}
 use Rattle.format.specs.Fmt.{also}
 use Rattle.frame.specs.laws.Head.{head-read}
