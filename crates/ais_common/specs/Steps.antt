@@ -1,26 +1,17 @@
 -- What the code's steps over a time answer: read, and judged. Assumes nothing.
 use Prim.Native.Nat.{ℕ}
-use mathlib.Core.List.{List}
+use mathlib.Core.List.{List, []}
 use Rattle.bits.specs.Answers.{got}
-use Rattle.walk.specs.Pieces.{unpieced, pieced}
-use Rattle.walk.specs.Reading.{judgedAs}
-use Rattle.walk.specs.declared.pieces.Pieces.{Pieces}
+use Rattle.walk.specs.Pieces.{piecewise}
+use Rattle.walk.specs.Reading.{groupJudged}
 use Rattle.walk.specs.declared.walk.Walk.{Walk}
-
-abbrev pub datePieced : Pieces → Pieces
-datePieced g = pieced 5 0 23 (pieced 5 0 31 (pieced 4 0 12 g))
-
-abbrev pub timePieced : ℕ → Pieces
-timePieced v = pieced 6 0 59 (datePieced (unpieced 20 v))
-
-abbrev pub shortPieced : ℕ → Pieces
-shortPieced v = datePieced (unpieced 14 v)
+use Rattle.ais_common.specs.Time.{dateParts, timeParts}
 
 abbrev pub timeJudged : ℕ → Walk → Walk
-timeJudged v r = judgedAs (timePieced v) r
+timeJudged v r = groupJudged 20 (piecewise timeParts []) v r
 
 abbrev pub shortJudged : ℕ → Walk → Walk
-shortJudged v r = judgedAs (shortPieced v) r
+shortJudged v r = groupJudged 14 (piecewise (dateParts []) []) v r
 
 -- read: judged by its number, which is 0 where it is not there
 abbrev pub timeRead : List ℕ → Walk → Walk

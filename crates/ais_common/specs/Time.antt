@@ -17,8 +17,11 @@ dateParts ps =
     ∷ ps
 
 -- of 20 bits, with the minute, and of 14, without
+abbrev pub timeParts : List Part
+timeParts = dateParts (part 6 4 (0 ‥ 59) ∷ [])
+
 abbrev pub time : Fmt → Fmt
-time = group (dateParts (part 6 4 (0 ‥ 59) ∷ []))
+time = group timeParts
 
 abbrev pub shortTime : Fmt → Fmt
 shortTime = group (dateParts [])

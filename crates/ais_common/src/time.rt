@@ -1,8 +1,10 @@
 // The times of the papers (paper 01, "AIS": "Times"): month, day, hour and minute in 20 bits, and without the minute in 14.
+ghost use mathlib.Core.List.{[]};
 ghost use mathlib.Core.Path.{_≡_};
 ghost use Prim.Native.Nat.{_^_, _<_};
-ghost use Rattle.ais_common.specs.Time.{spellTime, timeOf, spellShort, shortOf};
-ghost use Rattle.ais_common.specs.Steps.{timeRead, shortRead, datePieced, timeJudged, shortJudged};
+ghost use Rattle.walk.specs.Pieces.{piecewise};
+ghost use Rattle.ais_common.specs.Time.{dateParts, spellTime, timeOf, spellShort, shortOf};
+ghost use Rattle.ais_common.specs.Steps.{timeRead, shortRead, timeJudged, shortJudged};
 use walk::pieces::Pieces;
 use walk::walk::Walk;
 
@@ -118,18 +120,18 @@ pub fn judged(w: Walk, v: u64) -> Walk
     ensures { λ r. ⌜ r ≡ timeJudged v w ⌝ }
 {
     let g = judged_date(Pieces::of(Time::BITS, v));
-    w.group_value(g.piece(6, 0, 59))
+    w.group(Time::BITS, v, g.piece(6, 0, 59))
 }
 
 pub fn judged_short(w: Walk, v: u64) -> Walk
     ensures { λ r. ⌜ r ≡ shortJudged v w ⌝ }
 {
     let g = judged_date(Pieces::of(ShortTime::BITS, v));
-    w.group_value(g)
+    w.group(ShortTime::BITS, v, g)
 }
 
 fn judged_date(g: Pieces) -> Pieces
-    ensures { λ r. ⌜ r ≡ datePieced g ⌝ }
+    ensures { λ r. ⌜ r ≡ piecewise (dateParts []) [] g ⌝ }
 {
     g.piece(4, 0, 12).piece(5, 0, 31).piece(5, 0, 23)
 }

@@ -1,8 +1,10 @@
 // The notice's fields that have several parts, and the limits of its subtype (paper 01, "Notice and packet"): read, and judged.
+ghost use mathlib.Core.List.{[]};
 ghost use mathlib.Core.Path.{_≡_};
 ghost use Prim.Native.Nat.{_^_, _<_};
-ghost use Rattle.notice_fields.specs.Parts.{latitudeBits, longitudeBits};
-ghost use Rattle.notice_fields.specs.PartsSteps.{leastSubtype, mostSubtype, momentPieced, momentRead, expiryRead, timeRead, bare, angleParted, latitudeRead, longitudeRead, expiryJudged, timeJudged, angleJudged, latitudeJudged, longitudeJudged};
+ghost use Rattle.walk.specs.Pieces.{lying, piecewise};
+ghost use Rattle.notice_fields.specs.Parts.{moment, angle, latitudeBits, longitudeBits};
+ghost use Rattle.notice_fields.specs.PartsSteps.{leastSubtype, mostSubtype, bare, expiryRead, timeRead, latitudeRead, longitudeRead, expiryJudged, timeJudged, latitudeJudged, longitudeJudged};
 use walk::pieces::Pieces;
 use walk::walk::Walk;
 
@@ -47,7 +49,25 @@ pub fn most_subtype(kind: u64) -> u64
     0
 }
 
-// ---- reading: the parts are judged one by one, and corrected as one number; a field that is there by its number, so that the bytes are looked at once
+// ---- the parts, judged one by one: of a number, or of the bits that there are where the message cuts it
+
+// Next-year bit, month, day, hour and minute.
+fn moment(g: Pieces) -> Pieces
+    ensures { λ r. ⌜ r ≡ piecewise moment [] g ⌝ }
+{
+    let day = g.piece(1, 0, 1).piece(4, 1, 12).piece(5, 1, 31);
+    day.piece(5, 0, 23).piece(6, 0, 59)
+}
+
+// South or west, degrees of d bits and no more than `most`, minutes, hundredths.
+fn angle(g: Pieces, d: usize, most: u64) -> Pieces
+    ensures { λ r. ⌜ r ≡ piecewise (angle d most) [] g ⌝ }
+{
+    let degrees = g.piece(1, 0, 1).piece(d, 0, most);
+    degrees.piece(6, 0, MINUTES).piece(7, 0, HUNDREDTHS)
+}
+
+// ---- reading: by its number where it is there, so that the bytes are looked at once
 
 pub fn expiry(s: &[u8], w: Walk) -> Walk
     ensures { λ r. ⌜ (r ≡ expiryRead (now (s .entry)) w) × (r .v < 2 ^ 21) ⌝ }
@@ -56,8 +76,7 @@ pub fn expiry(s: &[u8], w: Walk) -> Walk
     if bits::holds(s.len(), at, EXPIRY) {
         return judged_expiry(w, bits::get(s, at, EXPIRY));
     }
-    let parts = moment(s, w);
-    w.group(s, EXPIRY, parts)
+    w.group(EXPIRY, 0, cut_moment(s, at).or_zero(EXPIRY))
 }
 
 // A time that is known: the expiry's parts, and never all zeros.
@@ -68,16 +87,7 @@ pub fn time(s: &[u8], w: Walk) -> Walk
     if bits::holds(s.len(), at, EXPIRY) {
         return judged_time(w, bits::get(s, at, EXPIRY));
     }
-    let parts = moment(s, w);
-    w.group(s, EXPIRY, parts)
-}
-
-// Next-year bit, month, day, hour and minute.
-fn moment(s: &[u8], w: Walk) -> Walk
-    ensures { λ r. ⌜ r ≡ momentRead (now (s .entry)) w ⌝ }
-{
-    let day = w.part(s, 1, 0, 1).part(s, 4, 1, 12).part(s, 5, 1, 31);
-    day.part(s, 5, 0, 23).part(s, 6, 0, 59)
+    w.group(EXPIRY, 0, cut_moment(s, at))
 }
 
 pub fn latitude(s: &[u8], w: Walk) -> Walk
@@ -87,8 +97,7 @@ pub fn latitude(s: &[u8], w: Walk) -> Walk
     if bits::holds(s.len(), at, LATITUDE) {
         return judged_latitude(w, bits::get(s, at, LATITUDE));
     }
-    let parts = cut_angle(s, at, w.code, w.offset, 7, 90);
-    w.group(s, LATITUDE, parts)
+    w.group(LATITUDE, 0, cut_angle(s, at, LATITUDE as u32, 7, 90))
 }
 
 pub fn longitude(s: &[u8], w: Walk) -> Walk
@@ -98,18 +107,21 @@ pub fn longitude(s: &[u8], w: Walk) -> Walk
     if bits::holds(s.len(), at, LONGITUDE) {
         return judged_longitude(w, bits::get(s, at, LONGITUDE));
     }
-    let parts = cut_angle(s, at, w.code, w.offset, 8, 180);
-    w.group(s, LONGITUDE, parts)
+    w.group(LONGITUDE, 0, cut_angle(s, at, LONGITUDE as u32, 8, 180))
 }
 
-// An angle that is cut, at bit `at`, where `code` was refused at `offset`. It takes no more of the walk than this, so that
-// the walk over the points need not stand in memory for its sake.
-fn cut_angle(s: &[u8], at: usize, code: u8, offset: usize, d: usize, most: u64) -> Walk
-    ensures { λ r. ⌜ r ≡ angleParted (now (s .entry)) d most (bare at code offset) ⌝ }
+// A moment that is cut, at bit `at`.
+fn cut_moment(s: &[u8], at: usize) -> Pieces
+    ensures { λ r. ⌜ r ≡ piecewise moment [] (lying (now (s .entry)) at 21) ⌝ }
 {
-    let w = unsought(at, code, offset);
-    let degrees = w.part(s, 1, 0, 1).part(s, d, 0, most);
-    degrees.part(s, 6, 0, MINUTES).part(s, 7, 0, HUNDREDTHS)
+    moment(Pieces::at(s, at, EXPIRY as u32))
+}
+
+// An angle of n bits that is cut, at bit `at`.
+fn cut_angle(s: &[u8], at: usize, n: u32, d: usize, most: u64) -> Pieces
+    ensures { λ r. ⌜ r ≡ piecewise (angle d most) [] (lying (now (s .entry)) at n) ⌝ }
+{
+    angle(Pieces::at(s, at, n), d, most)
 }
 
 // A walk at bit `at`, where `code` was refused at `offset`, that seeks no field.
@@ -134,49 +146,24 @@ pub fn unsought(at: usize, code: u8, offset: usize) -> Walk
 pub fn judged_expiry(w: Walk, v: u64) -> Walk
     ensures { λ r. ⌜ r ≡ expiryJudged v w ⌝ }
 {
-    w.group_value(judged_moment(v).or_zero())
+    let parts = moment(Pieces::of(EXPIRY, v));
+    w.group(EXPIRY, v, parts.or_zero(EXPIRY))
 }
 
 pub fn judged_time(w: Walk, v: u64) -> Walk
     ensures { λ r. ⌜ r ≡ timeJudged v w ⌝ }
 {
-    w.group_value(judged_moment(v))
-}
-
-// Next-year bit, month, day, hour and minute of a number.
-fn judged_moment(v: u64) -> Pieces
-    ensures { λ r. ⌜ r ≡ momentPieced v ⌝ }
-{
-    let day = Pieces::of(EXPIRY, v)
-        .piece(1, 0, 1)
-        .piece(4, 1, 12)
-        .piece(5, 1, 31);
-    day.piece(5, 0, 23).piece(6, 0, 59)
+    w.group(EXPIRY, v, moment(Pieces::of(EXPIRY, v)))
 }
 
 pub fn judged_latitude(w: Walk, v: u64) -> Walk
     ensures { λ r. ⌜ r ≡ latitudeJudged v w ⌝ }
 {
-    judged_angle(w, v, LATITUDE, 7, 90)
+    w.group(LATITUDE, v, angle(Pieces::of(LATITUDE, v), 7, 90))
 }
 
 pub fn judged_longitude(w: Walk, v: u64) -> Walk
     ensures { λ r. ⌜ r ≡ longitudeJudged v w ⌝ }
 {
-    judged_angle(w, v, LONGITUDE, 8, 180)
-}
-
-// South or west, degrees of d bits and no more than `most`, minutes, hundredths: n bits.
-fn judged_angle(w: Walk, v: u64, n: usize, d: usize, most: u64) -> Walk
-    ensures { λ r. ⌜ r ≡ angleJudged n d most v w ⌝ }
-{
-    let degrees = Pieces::of(n, v).piece(1, 0, 1).piece(d, 0, most);
-    if degrees.code != 0 {
-        return w.group_value(degrees);
-    }
-    let minutes = degrees.piece(6, 0, MINUTES);
-    if minutes.code != 0 {
-        return w.group_value(minutes);
-    }
-    w.group_value(minutes.piece(7, 0, HUNDREDTHS))
+    w.group(LONGITUDE, v, angle(Pieces::of(LONGITUDE, v), 8, 180))
 }

@@ -7,6 +7,7 @@ use lib.ListN.{length}
 use Rattle.bits.specs.Answers.{within, got}
 use Rattle.format.specs.Fmt.{pad}
 use Rattle.walk.specs.Faults.{ranging, signing, blanking, closes}
+use Rattle.walk.specs.Pieces.{unpieced, lying}
 use Rattle.walk.specs.declared.pieces.Pieces.{Pieces}
 use Rattle.walk.specs.Walk.{onward}
 use Rattle.walk.specs.declared.walk.Walk.{Walk}
@@ -31,39 +32,17 @@ signedly s w top bottom none r = onward w true (got s (r .at) w) (signing s (r .
 
 -- ---- groups: parts that are corrected as one number
 
--- past a part of w bits from lo to hi
-unfoldable pub parted : List ℕ → ℕ → ℕ → ℕ → Walk → Walk
-parted s w lo hi r = record {
-  at = (r .at + w) % 2 ^ 64;
-  code = cond (eqb (r .code) 0) (ranging s (r .at) w lo hi 4) (r .code);
-  offset = cond (eqb (r .code) 0) (r .at) (r .offset);
-  v = r .v;
-  seek = r .seek;
-  left = r .left;
-  spot = r .spot;
-  width = r .width;
-}
+-- past a field of w bits with the value v: g is what judging its parts led to
+abbrev pub grouped : ℕ → ℕ → Pieces → Walk → Walk
+grouped w v g r = onward w true v (g .code) (g .into) r
 
--- past the whole field, whose parts ended in the walk p
-unfoldable pub grouped : List ℕ → ℕ → Walk → Walk → Walk
-grouped s w p r = let n = onward w true (got s (r .at) w) 0 0 r in record {
-  at = n .at;
-  code = p .code;
-  offset = p .offset;
-  v = n .v;
-  seek = n .seek;
-  left = n .left;
-  spot = n .spot;
-  width = n .width;
-}
+-- `judge` judges the bits that there are
+abbrev pub groupRead : List ℕ → ℕ → (Pieces → Pieces) → Walk → Walk
+groupRead s w judge r = grouped w (got s (r .at) w) (judge (lying s (r .at) w)) r
 
--- past a field that is there: g is what its number's parts led to
-abbrev pub judgedAs : Pieces → Walk → Walk
-judgedAs g r = onward (g .width) true (g .v) (g .code) (g .into) r
-
--- past a field of n bits: by its number where it is there, else by its parts, which ended in the walk p
-abbrev pub partwise : List ℕ → ℕ → Pieces → Walk → Walk → Walk
-partwise s n g p r = cond (within (length s) (r .at) n) (judgedAs g r) (grouped s n p r)
+-- a record's value
+abbrev pub groupJudged : ℕ → (Pieces → Pieces) → ℕ → Walk → Walk
+groupJudged w judge v r = grouped w v (judge (unpieced w v)) r
 
 -- ---- the end
 

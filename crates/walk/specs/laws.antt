@@ -1,7 +1,6 @@
 -- The walk reads and judges as every layout says.
 pub mod Step
 pub mod Reading
-pub mod Group
 pub mod Along
 pub mod Walked
 pub mod Stopped

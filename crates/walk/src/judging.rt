@@ -3,7 +3,7 @@ ghost use mathlib.Core.Bool.{true, false};
 ghost use mathlib.Core.Path.{_≡_};
 ghost use Prim.Native.Nat.{_*_};
 ghost use Rattle.walk.specs.Judging.{valued, filled, signedlyValued, made, beyond, closing};
-ghost use Rattle.walk.specs.Reading.{judgedAs};
+ghost use Rattle.walk.specs.Reading.{grouped};
 ghost use Rattle.walk.specs.Walk.{onward};
 use crate::choosing::inside;
 use crate::faults::spells;
@@ -40,11 +40,11 @@ impl Walk {
         self.on(w, false, v, 0, 0)
     }
 
-    // A record's value that is made of parts.
-    pub fn group_value(self, g: Pieces) -> Self
-        ensures { λ r. ⌜ r ≡ judgedAs g self ⌝ }
+    // A field of w bits with the value v, which is made of parts: judging them led to g.
+    pub fn group(self, w: usize, v: u64, g: Pieces) -> Self
+        ensures { λ r. ⌜ r ≡ grouped w v g self ⌝ }
     {
-        self.on(g.width, true, g.v, g.code, g.into)
+        self.on(w, true, v, g.code, g.into)
     }
 
     // How many bytes the values make, the last one filled up.

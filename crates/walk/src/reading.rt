@@ -3,7 +3,7 @@ ghost use mathlib.Core.Bool.{true, false};
 ghost use mathlib.Core.Path.{_≡_};
 ghost use Prim.Native.Nat.{_^_, _<_};
 ghost use Rattle.walk.specs.Faults.{wholly};
-ghost use Rattle.walk.specs.Reading.{given, carried, blanked, ranged, signedly, parted, grouped, ended};
+ghost use Rattle.walk.specs.Reading.{given, carried, blanked, ranged, signedly, ended};
 ghost use Rattle.walk.specs.Walk.{onward};
 use crate::choosing::choose_code;
 use crate::choosing::choose_offset;
@@ -114,42 +114,6 @@ impl Walk {
             signs(s, at, w, top, bottom, none),
             0,
         )
-    }
-
-    // A part of a field, from lo to hi; `group` goes past the field.
-    pub fn part(self, s: &[u8], w: usize, lo: u64, hi: u64) -> Self
-        ensures { λ r. ⌜ r ≡ parted (now (s .entry)) w lo hi self ⌝ }
-    {
-        let at = self.at;
-        let clear = no_refusal(self.code);
-        Walk {
-            at: std::num::wrapping_add_usize(at, w),
-            code: choose_code(clear, range(s, at, w, lo, hi, format::RANGE), self.code),
-            offset: choose_offset(clear, at, self.offset),
-            v: self.v,
-            seek: self.seek,
-            left: self.left,
-            spot: self.spot,
-            width: self.width,
-        }
-    }
-
-    // A field of w bits whose parts led to `parts`: one number, corrected as one.
-    pub fn group(self, s: &[u8], w: usize, parts: Walk) -> Self
-        ensures { λ r. ⌜ r ≡ grouped (now (s .entry)) w parts self ⌝ }
-    {
-        let at = self.at;
-        let all = self.on(w, true, bits::get(s, at, w), 0, 0);
-        Walk {
-            at: all.at,
-            code: parts.code,
-            offset: parts.offset,
-            v: all.v,
-            seek: all.seek,
-            left: all.left,
-            spot: all.spot,
-            width: all.width,
-        }
     }
 
     // The end: zero bits up to a whole byte, then nothing.

@@ -13,53 +13,49 @@ use Rattle.format.specs.Fmt.{Out, Judge, Fmt}
 use Rattle.format.specs.Words.{Part, part, _‥_, walk, wide}
 use Rattle.format.specs.laws.Extent.{Opens}
 use Rattle.format.specs.laws.Putting.{Putting, put-number}
+use Rattle.walk.specs.Pieces.{piecewise}
 use Rattle.walk.specs.laws.Judging.{Judging}
 use Rattle.walk.specs.laws.Parts.{step-there}
-use Rattle.walk.specs.laws.Pieces.{Pieced, piece-start, piece-step, piece-end, judge-group}
+use Rattle.walk.specs.laws.Pieces.{Matches, parts-match, judge-group}
 use Rattle.walk.specs.laws.Step.{Reading}
 use Rattle.format.specs.laws.Zero.{Judged, Numbered, Coded, walk-numbered}
 use Rattle.walk.specs.declared.walk.Walk.{Walk}
-use Rattle.ais_common.specs.Steps.{timePieced, shortPieced, timeRead, shortRead, timeJudged, shortJudged}
-use Rattle.ais_common.specs.Time.{dateParts, time, shortTime}
+use Rattle.ais_common.specs.Steps.{timeRead, shortRead, timeJudged, shortJudged}
+use Rattle.ais_common.specs.Time.{dateParts, timeParts, time, shortTime}
 
--- ---- the number's parts judged
+-- ---- its parts judged
 
-time-pieces : (h : List ℕ) (v : ℕ) → Pieced (walk (dateParts (part 6 4 (0 ‥ 59) ∷ [])) 0) h 20 v (timePieced v)
-unfolding wide
-time-pieces h v =
-    let g0 = piece-start 20 v (dateParts (part 6 4 (0 ‥ 59) ∷ [])) h refl refl in
-    let g1 = piece-step 4 0 12 g0 refl in
-    let g2 = piece-step 5 0 31 g1 refl in
-    let g3 = piece-step 5 0 23 g2 refl in
-    piece-end (piece-step 6 0 59 g3 refl)
+date-coded : (ps : List Part) → Coded ps → Coded (dateParts ps)
+date-coded ps z = ((λ z. omega arith), ((λ z. omega arith), ((λ z. omega arith), z)))
 
-short-pieces : (h : List ℕ) (v : ℕ) → Pieced (walk (dateParts []) 0) h 14 v (shortPieced v)
-unfolding wide
-short-pieces h v =
-    let g0 = piece-start 14 v (dateParts []) h refl refl in
-    let g1 = piece-step 4 0 12 g0 refl in
-    let g2 = piece-step 5 0 31 g1 refl in
-    piece-end (piece-step 5 0 23 g2 refl)
+-- the tests of a time look at no value before it
+time-parts : (h : List ℕ) → Matches (walk timeParts 0 h) 20 (piecewise timeParts [])
+unfolding wide piecewise
+time-parts h = parts-match timeParts h 20 (date-coded (part 6 4 (0 ‥ 59) ∷ []) ((λ z. omega arith), tt)) refl
+
+short-parts : (h : List ℕ) → Matches (walk (dateParts []) 0 h) 14 (piecewise (dateParts []) [])
+unfolding wide piecewise
+short-parts h = parts-match (dateParts []) h 14 (date-coded [] tt) refl
 
 module _ {o : Out (List Bool)} {f : Fmt} {h : List ℕ} {at v : ℕ} {vs : List ℕ} {r p : Walk} where
   pub time-judged : at + 20 < 2 ^ 64 → Judging o (time f) h at (v ∷ vs) r → p ≡ timeJudged v r → Judging o f (v ∷ h) (at + 20) vs p
   unfolding wide
-  time-judged reach e d = judge-group reach (time-pieces h v) e d
+  time-judged reach e d = judge-group reach (time-parts h) e d
 
   pub short-judged : at + 14 < 2 ^ 64 → Judging o (shortTime f) h at (v ∷ vs) r → p ≡ shortJudged v r → Judging o f (v ∷ h) (at + 14) vs p
   unfolding wide
-  short-judged reach e d = judge-group reach (short-pieces h v) e d
+  short-judged reach e d = judge-group reach (short-parts h) e d
 
 -- ---- read, where it is there
 
 module _ {o : Out (List ℕ)} {all : Fmt} {i : ℕ} {s : List ℕ} {h : List ℕ} {at : ℕ} {k : List ℕ → List ℕ} {r q : Walk} {f : Fmt} where
   pub time-read : at + 20 < 2 ^ 64 → at + 20 ≤ length s * 8 → Reading o all i s (time f) h at k r → q ≡ timeRead s r → Reading o all i s f (q .v ∷ h) (at + 20) (λ vs. k (q .v ∷ vs)) q
   unfolding wide
-  time-read reach there e d = step-there 20 (lit< tt) (lit≤ tt) reach there (time-pieces h (got s (r .at) 20)) e d
+  time-read reach there e d = step-there 20 (lit< tt) (lit≤ tt) reach there (time-parts h) e d
 
   pub short-read : at + 14 < 2 ^ 64 → at + 14 ≤ length s * 8 → Reading o all i s (shortTime f) h at k r → q ≡ shortRead s r → Reading o all i s f (q .v ∷ h) (at + 14) (λ vs. k (q .v ∷ vs)) q
   unfolding wide
-  short-read reach there e d = step-there 14 (lit< tt) (lit≤ tt) reach there (short-pieces h (got s (r .at) 14)) e d
+  short-read reach there e d = step-there 14 (lit< tt) (lit≤ tt) reach there (short-parts h) e d
 
 -- ---- a number put, told by another that it is
 
@@ -70,7 +66,7 @@ put-told {t = t} {at = at} w small opens is e d = put-number w small opens e (pu
 -- ---- their refusals are numbers of the paper
 
 pub date-numbered : (ps : List Part) → Coded ps → Numbered (walk (dateParts ps) 0)
-date-numbered ps z = walk-numbered (dateParts ps) ((λ z. omega arith), ((λ z. omega arith), ((λ z. omega arith), z)))
+date-numbered ps z = walk-numbered (dateParts ps) (date-coded ps z)
 
 pub time-numbered : (f : Fmt) → Judged f → Judged (time f)
 time-numbered f j = (date-numbered (part 6 4 (0 ‥ 59) ∷ []) ((λ z. omega arith), tt), j)

@@ -8,29 +8,26 @@ use lib.Dec.{eqb, lit<, lit≤}
 use lib.ListN.{getD}
 use borrow.Author.Tests.{eqb-true}
 use Rattle.format.specs.Groups.{repeat, repeatTold}
+use Rattle.format.specs.Words.{wide}
 use Rattle.walk.specs.Judging.{valued}
-use Rattle.walk.specs.Pieces.{pieced}
 use Rattle.walk.specs.Rows.{evenStep}
 use Rattle.walk.specs.laws.Judging.{valued-between}
-use Rattle.walk.specs.laws.Loops.{going, step-near}
-use Rattle.walk.specs.laws.RowsJudged.{Judges, judges-one, step-good, judges-number, judges-next, judges-decided, judges-counted, judges-most, judges-as, judges-evenly, judges-repeated, even-judged-turn}
+use Rattle.walk.specs.laws.RowsJudged.{Judges, judges-number, judges-parted, judges-next, judges-decided, judges-counted, judges-most, judges-as, judges-evenly, judges-repeated, even-judged-turn}
 use Rattle.walk.specs.declared.making.Stepped.{Stepped}
 use Rattle.walk.specs.declared.walk.Walk.{Walk}
 use Rattle.notice_fields.specs.Areas.{Kind, sea, circle, several, kindOf, point, inside, area, areas}
-use Rattle.notice_fields.specs.Parts.{latitude, longitude, latitudeBits, longitudeBits, pointBits}
+use Rattle.notice_fields.specs.Parts.{latitudeBits, longitudeBits, pointBits}
 use Rattle.notice_fields.specs.PartsSteps.{latitudeJudged, longitudeJudged}
 use Rattle.notice_fields.specs.Row.{insideLong, areaLong, longMost, areasLong, pointTold, insideTold, areaTold, areasTold}
 use Rattle.notice_fields.specs.Standing.{insideMost, areaMost}
 use Rattle.notice_fields.specs.Making.{pointJudged, pointsJudged, insideJudged, areaJudged, areasJudged}
-use Rattle.notice_fields.specs.laws.PartsWalking.{latitude-judged, longitude-judged}
+use Rattle.notice_fields.specs.laws.PartsWalking.{latitude-parts, longitude-parts}
 
 module _ (row : List ℕ) where
   pub a-point-judged : Judges row point pointTold (λ r. 2) pointBits (λ k r. record { walk = pointJudged row k r; next = k + 2 })
-  unfolding pieced
+  unfolding wide
   a-point-judged = judges-as (λ k r. let two : k + 1 + 1 ≡ k + 2 = omega arith in ap (λ n. record { walk = pointJudged row k r; next = n }) two)
-      (judges-next
-      (judges-one {item = latitude} 0 latitudeBits latitudeJudged (λ v r reach. record { on = λ x. going (latitude-judged reach (x .is) refl) }) (λ v r. (step-near r latitudeBits true v _ _ refl, step-good r latitudeBits true v _ _ refl)))
-      (judges-one {item = longitude} 0 longitudeBits longitudeJudged (λ v r reach. record { on = λ x. going (longitude-judged reach (x .is) refl) }) (λ v r. (step-near r longitudeBits true v _ _ refl, step-good r longitudeBits true v _ _ refl))))
+      (judges-next (judges-parted row 0 latitudeBits latitude-parts) (judges-parted row 0 longitudeBits longitude-parts))
 
   an-inside-judged : (j : Kind) → Judges row (inside j) (insideTold j) (insideLong j) insideMost (insideJudged row j)
   unfolding repeat repeatTold

@@ -3,13 +3,13 @@ use Prim.Native.Nat.{ℕ, suc, _+_, _*_, _<_, _^_}
 use mathlib.Core.Path.{_≡_, refl, sym, ap, _∙_}
 use mathlib.Core.Bool.{false, cond}
 use mathlib.Core.List.{List, [], _∷_, append-nil}
-use native.Mathlib.Nat.{mod-eq-of-lt}
 use lib.Dec.{eqb, lit<, lit≤}
 use Rattle.bits.specs.Answers.{got}
 use Rattle.format.specs.Groups.{repeat}
+use Rattle.format.specs.Words.{wide}
 use Rattle.walk.specs.Groups.{single, repeatWalked, repeatAt}
-use Rattle.walk.specs.laws.Along.{Along, go, stay}
-use Rattle.walk.specs.laws.Groups.{Stretch, valued, one-field, number, guard, follows, decides, repeats, at-most, evenly, counts-evenly, walk-turn}
+use Rattle.walk.specs.laws.Along.{Along, stay}
+use Rattle.walk.specs.laws.Groups.{Stretch, valued, number, parted, guard, follows, decides, repeats, at-most, evenly, counts-evenly, walk-turn}
 use Rattle.walk.specs.Reading.{ranged}
 use Rattle.walk.specs.declared.walk.Walk.{Walk}
 use Rattle.notice_fields.specs.declared.areas.Opened.{Opened}
@@ -18,18 +18,16 @@ use Rattle.notice_fields.specs.Parts.{latitude, longitude, latitudeBits,
 use Rattle.notice_fields.specs.PartsSteps.{latitudeRead, longitudeRead}
 use Rattle.notice_fields.specs.Standing.{pointAt, insideAt, insideWide, insideMost, areaAt, areaWide, areaMost, areasAt}
 use Rattle.notice_fields.specs.Steps.{openedAs, closedAs, pointStep, insideStep, areaStep, areasWalked}
-use Rattle.notice_fields.specs.laws.PartsWalking.{latitude-read, longitude-read, latitude-v, latitude-at, longitude-v, longitude-at}
+use Rattle.notice_fields.specs.laws.PartsWalking.{latitude-parts, longitude-parts}
 
 module _ (s : List ℕ) where
   pub latitude-field : Stretch s latitude (λ at. got s at latitudeBits ∷ []) (λ at. latitudeBits) latitudeBits (single (latitudeRead s))
-  latitude-field = one-field latitudeBits (latitudeRead s) (λ r reach.
-      let q = latitudeRead s r in
-      (latitude-at s r refl ∙ mod-eq-of-lt reach, valued (ap (λ v. v ∷ []) (latitude-v s r refl)) (record { on = λ {o} {all} {i} {f} {us} x. go us (q .v) x (λ h y. latitude-read reach y refl) })))
+  unfolding wide
+  latitude-field = parted s latitudeBits (lit< tt) (lit≤ tt) latitude-parts
 
   pub longitude-field : Stretch s longitude (λ at. got s at longitudeBits ∷ []) (λ at. longitudeBits) longitudeBits (single (longitudeRead s))
-  longitude-field = one-field longitudeBits (longitudeRead s) (λ r reach.
-      let q = longitudeRead s r in
-      (longitude-at s r refl ∙ mod-eq-of-lt reach, valued (ap (λ v. v ∷ []) (longitude-v s r refl)) (record { on = λ {o} {all} {i} {f} {us} x. go us (q .v) x (λ h y. longitude-read reach y refl) })))
+  unfolding wide
+  longitude-field = parted s longitudeBits (lit< tt) (lit≤ tt) longitude-parts
 
   pub a-point-walked : Stretch s point (pointAt s) (λ at. pointBits) pointBits (pointStep s)
   a-point-walked = follows latitude-field (follows longitude-field guard)

@@ -2,7 +2,7 @@
 use Prim.Native.Nat.{ℕ, zero, suc, _+_, _-_, _*_, _/_, _%_, _^_, _≤_, _<_}
 use mathlib.Core.Path.{_≡_, refl, sym, ap, _∙_, subst, subst⁻¹}
 use mathlib.Core.Bool.{Bool, true, false, cond, _&&_}
-use mathlib.Core.List.{List}
+use mathlib.Core.List.{List, []}
 use native.Mathlib.Omega.{arith}
 use native.Mathlib.Nat.{zero-add, mod-eq-of-lt}
 use lib.Dec.{leb, ltb, eqb, lit≤}
@@ -12,13 +12,16 @@ use Rattle.bits.specs.Answers.{got}
 use Rattle.bits.specs.laws.Answers.{within-fits}
 use Rattle.walk.specs.Faults.{ranging}
 use Rattle.walk.specs.Groups.{repeatWalked}
-use Rattle.walk.specs.Pieces.{unpieced, pieced}
-use Rattle.walk.specs.Reading.{ranged, judgedAs, grouped}
+use Rattle.format.specs.Words.{_‥_}
+use Rattle.walk.specs.Pieces.{unpieced, pieced, piecewise}
+use Rattle.walk.specs.Reading.{ranged, grouped}
 use Rattle.walk.specs.Walk.{onward}
+use Rattle.walk.specs.laws.Parts.{lying-whole}
 use Rattle.walk.specs.laws.Reading.{got-lt}
 use Rattle.walk.specs.declared.pieces.Pieces.{Pieces}
 use Rattle.walk.specs.declared.walk.Walk.{Walk}
-use Rattle.notice_fields.specs.PartsSteps.{momentPieced, momentRead, timeRead}
+use Rattle.notice_fields.specs.Parts.{moment}
+use Rattle.notice_fields.specs.PartsSteps.{timeRead}
 use Rattle.tide.specs.Entries.{Good, wordAt, AllGood, Unsought, passed, Passes}
 use Rattle.tide.specs.Row.{entryBits}
 use Rattle.tide.specs.Steps.{levelRead, entryRead, entryStep}
@@ -54,28 +57,29 @@ ranged-good s w lo hi r small fits reach l h z u =
 
 -- ---- a time
 
-piece-good : (w lo hi : ℕ) (g : Pieces) → g .code ≡ 0 → lo ≤ g .v / 2 ^ (g .left - w) % 2 ^ w → g .v / 2 ^ (g .left - w) % 2 ^ w ≤ hi → pieced w lo hi g .code ≡ 0
+-- the parts before it were good: `left` bits are not judged, and the last part began `into` bits in
+abbrev pub timed : ℕ → ℕ → ℕ → Pieces
+timed v left into = record { v = v; width = 21; left = left; code = 0; into = into }
+
+part-good : (w lo hi v left into : ℕ) → w ≤ left → lo ≤ v / 2 ^ (left - w) % 2 ^ w → v / 2 ^ (left - w) % 2 ^ w ≤ hi → pieced w 4 ((lo ‥ hi) []) (timed v left into) ≡ timed v (left - w) (21 - left)
 unfolding pieced
-piece-good w lo hi g z l h = ap (λ c. cond (eqb c 0) (cond (leb lo u && leb u hi) 0 4) c) z ∙ no-fault u lo hi l h
-  where
-    u : ℕ
-    u = g .v / 2 ^ (g .left - w) % 2 ^ w
+part-good w lo hi v left into l a b = ap (λ c. record { v = v; width = 21; left = left - w; code = c; into = 21 - left })
+    (ap (λ t. cond t (cond (leb lo (v / 2 ^ (left - w) % 2 ^ w) && leb (v / 2 ^ (left - w) % 2 ^ w) hi) 0 4) 1) (le-leb w left l) ∙ no-fault (v / 2 ^ (left - w) % 2 ^ w) lo hi a b)
 
 -- no part has a fault, and the last begins 15 bits in
-pub moment-good : (v : ℕ) → v < 2 ^ 21 → 1 ≤ v / 2 ^ 16 % 16 → v / 2 ^ 16 % 16 ≤ 12 → 1 ≤ v / 2 ^ 11 % 32 → v / 2 ^ 6 % 32 ≤ 23 → v % 64 ≤ 59 → (momentPieced v .code ≡ 0) × (momentPieced v .into ≡ 15)
-unfolding pieced
+pub moment-good : (v : ℕ) → v < 2 ^ 21 → 1 ≤ v / 2 ^ 16 % 16 → v / 2 ^ 16 % 16 ≤ 12 → 1 ≤ v / 2 ^ 11 % 32 → v / 2 ^ 6 % 32 ≤ 23 → v % 64 ≤ 59 → piecewise moment [] (unpieced 21 v) ≡ timed v 0 15
+unfolding piecewise
 moment-good v small m1 m2 d h n =
-    let g = unpieced 21 v in
-    let g1 = pieced 1 0 1 g in
-    let g2 = pieced 4 1 12 g1 in
-    let g3 = pieced 5 1 31 g2 in
-    let g4 = pieced 5 0 23 g3 in
-    let a : g1 .code ≡ 0 = piece-good 1 0 1 g (ap (λ b. cond b 0 4) (lt-ltb v (2 ^ 21) small)) (omega arith) (omega arith) in
-    let b : g2 .code ≡ 0 = piece-good 4 1 12 g1 a m1 m2 in
-    let c : g3 .code ≡ 0 = piece-good 5 1 31 g2 b d (omega arith) in
-    let e : g4 .code ≡ 0 = piece-good 5 0 23 g3 c (omega arith) h in
+    let year = pieced 1 4 ((0 ‥ 1) []) in
+    let month = pieced 4 4 ((1 ‥ 12) []) in
+    let day = pieced 5 4 ((1 ‥ 31) []) in
+    let hour = pieced 5 4 ((0 ‥ 23) []) in
+    let minute = pieced 6 4 ((0 ‥ 59) []) in
     let last : v / 2 ^ 0 % 2 ^ 6 ≤ 59 = omega arith in
-    (piece-good 6 0 59 g4 e (omega arith) last, ap (λ c. cond (eqb c 0) 15 (g4 .into)) e)
+    ap (λ c. minute (hour (day (month (year (record { v = v; width = 21; left = 21; code = c; into = 0 })))))) (ap (λ b. cond b 0 4) (lt-ltb v (2 ^ 21) small))
+    ∙ ap (λ g. minute (hour (day (month g)))) (part-good 1 0 1 v 21 0 (lit≤ tt) (omega arith) (omega arith))
+    ∙ ap (λ g. minute (hour (day g))) (part-good 4 1 12 v 20 0 (lit≤ tt) m1 m2) ∙ ap (λ g. minute (hour g)) (part-good 5 1 31 v 16 1 (lit≤ tt) d (omega arith))
+    ∙ ap minute (part-good 5 0 23 v 11 5 (lit≤ tt) (omega arith) h) ∙ part-good 6 0 59 v 6 10 (lit≤ tt) (omega arith) last
 
 -- ---- an entry
 
@@ -97,25 +101,23 @@ module _ (s : List ℕ) where
       go false e = let z : got s at 32 ≡ 0 = rw e refl in absurd (omega (arith, g, z))
 
   module _ (r : Walk) (z : r .code ≡ 0) (reach : r .at + 32 < 2 ^ 64) (g : Good (got s (r .at) 32)) (u : Unsought 3 r) where
-    abbrev timed : Walk
-    timed = moved 21 (got s (r .at) 21) 15 r
+    abbrev known : Walk
+    known = moved 21 (got s (r .at) 21) 15 r
 
     abbrev signed : Walk
-    signed = moved 1 (got s (timed .at) 1) 0 timed
+    signed = moved 1 (got s (known .at) 1) 0 known
 
     fits : r .at + 32 ≤ length s * 8
     fits = good-there (r .at) g
 
-    time-good : timeRead s r ≡ timed
-    unfolding pieced
+    time-good : timeRead s r ≡ known
     time-good =
         let word = word-there s (r .at) fits in
         let v = got s (r .at) 21 in
         let sign = got-lt s (r .at + 21) 1 refl in
         let value = got-lt s (r .at + 21 + 1) 10 refl in
         let m = moment-good v (got-lt s (r .at) 21 refl) (omega (arith, word, g, sign, value)) (omega (arith, word, g, sign, value)) (omega (arith, word, g, sign, value)) (omega (arith, word, g, sign, value)) (omega (arith, word, g, sign, value)) in
-        ap (λ b. cond b (judgedAs (momentPieced v) r) (grouped s 21 (momentRead s r) r)) (within-fits (length s) (r .at) 21 (lit≤ tt) (omega (arith, fits)))
-        ∙ ap (λ i. onward 21 true v (momentPieced v .code) i r) (m .1) ∙ onward-good 21 v 15 (momentPieced v .code) r z (m .0) (lit≤ tt) (omega arith) (λ e. let n = u e in omega arith)
+        ap (λ p. grouped 21 v p r) (ap (piecewise moment []) (lying-whole s (r .at) 21 (omega (arith, fits))) ∙ m) ∙ onward-good 21 v 15 0 r z refl (lit≤ tt) (omega arith) (λ e. let n = u e in omega arith)
 
     pub entry-good : entryRead s r ≡ moved 10 (got s (signed .at) 10) 0 signed
     entry-good =
@@ -123,7 +125,7 @@ module _ (s : List ℕ) where
         let sign = got s (r .at + 21) 1 in
         let v = got s (r .at + 21 + 1) 10 in
         ap (levelRead s) time-good
-        ∙ ap (λ (q : Walk). ranged s 10 true (leastOf (q .v)) 1_023 4 q) (ranged-good s 1 0 1 timed (lit≤ tt) (omega (arith, fits)) (omega arith) (omega arith) (omega (arith, got-lt s (r .at + 21) 1 refl)) refl (λ e. let n = u e in omega arith))
+        ∙ ap (λ (q : Walk). ranged s 10 true (leastOf (q .v)) 1_023 4 q) (ranged-good s 1 0 1 known (lit≤ tt) (omega (arith, fits)) (omega arith) (omega arith) (omega (arith, got-lt s (r .at + 21) 1 refl)) refl (λ e. let n = u e in omega arith))
         ∙ ranged-good s 10 (leastOf sign) 1_023 signed (lit≤ tt) (omega (arith, fits)) (omega arith) (least-good sign v (omega (arith, word, g))) (omega (arith, got-lt s (r .at + 21 + 1) 10 refl)) refl (λ e. let n = u e in omega arith)
 
   -- ---- many

@@ -9,12 +9,12 @@ use lib.ListN.{drop, getD}
 use lib.Seq.{getD-drop}
 use borrow.Author.Tests.{eqb-true}
 use Rattle.format.specs.Groups.{repeat, oneTold}
-use Rattle.format.specs.Words.{_‥_, num}
+use Rattle.format.specs.Words.{_‥_, wide, num}
 use Rattle.walk.specs.Judging.{valued}
-use Rattle.walk.specs.Pieces.{pieced}
 use Rattle.walk.specs.Rows.{oneJudged, evenStep}
 use Rattle.walk.specs.laws.Judging.{judge-num, judge-limits, valued-between}
 use Rattle.walk.specs.laws.Loops.{JudgesAlong, going, step-near}
+use Rattle.walk.specs.laws.Pieces.{judge-group}
 use Rattle.walk.specs.laws.Rows.{here}
 use Rattle.walk.specs.laws.RowsJudged.{Judges, step-good, judges-number, judges-next, judges-decided, judges-counted, judges-most, judges-repeated}
 use Rattle.walk.specs.declared.making.Stepped.{Stepped}
@@ -25,7 +25,7 @@ use Rattle.notice_fields.specs.Parts.{pointBits}
 use Rattle.notice_fields.specs.PartsSteps.{timeJudged}
 use Rattle.notice_fields.specs.Row.{pointTold}
 use Rattle.notice_fields.specs.laws.Judging.{a-point-judged}
-use Rattle.notice_fields.specs.laws.PartsWalking.{time-judged}
+use Rattle.notice_fields.specs.laws.PartsWalking.{moment-parts}
 use Rattle.tide.specs.Making.{entryJudged, placedJudged, recordJudged, recordsJudged}
 use Rattle.tide.specs.Row.{placedLong, entryBits, longMost, recordMost, recordLong, recordsLong, placedTold, someTime, entryTold, recordTold, recordsTold}
 use Rattle.tide.specs.Tide.{leastOf, placed, level, entry, tideRecord}
@@ -39,12 +39,12 @@ three row k =
 
 module _ (row : List ℕ) where
   an-entry-judged : Judges row entry entryTold (λ r. 3) entryBits (λ k r. record { walk = entryJudged row k r; next = k + 3 })
-  unfolding pieced
+  unfolding wide
   an-entry-judged = record {
     along = λ k r reach.
         let sign = getD row (k + 1) 1 in
         subst (λ l. JudgesAlong entry (λ f. f) r l (entryJudged row k r)) (three row k)
-        (record { on = λ x. going (judge-limits 10 (omega arith) level (leastOf sign) 1_023 (lit< tt) (λ l. refl) (judge-num 1 (omega arith) 0 1 (lit< tt) (time-judged (omega arith) (x .is) refl) refl) refl) });
+        (record { on = λ x. going (judge-limits 10 (omega arith) level (leastOf sign) 1_023 (lit< tt) (λ l. refl) (judge-num 1 (omega arith) 0 1 (lit< tt) (judge-group (omega arith) (moment-parts _) (x .is) refl) refl) refl) });
     near = λ k r.
         let t = timeJudged (getD row k someTime) r in
         let sign = getD row (k + 1) 1 in

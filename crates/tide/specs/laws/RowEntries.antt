@@ -9,17 +9,18 @@ use lib.Dec.{eqb}
 use lib.ListN.{length, getD}
 use borrow.Author.Tests.{eqb-true, eqb-false}
 use Rattle.walk.specs.Judging.{valued}
-use Rattle.walk.specs.Pieces.{pieced}
-use Rattle.walk.specs.Reading.{judgedAs}
+use Rattle.walk.specs.Pieces.{unpieced, piecewise}
+use Rattle.walk.specs.Reading.{grouped}
 use Rattle.walk.specs.Rows.{evenJudged}
 use Rattle.walk.specs.Walk.{onward}
 use Rattle.walk.specs.declared.walk.Walk.{Walk}
-use Rattle.notice_fields.specs.PartsSteps.{momentPieced, timeJudged}
+use Rattle.notice_fields.specs.Parts.{moment}
+use Rattle.notice_fields.specs.PartsSteps.{timeJudged}
 use Rattle.tide.specs.Making.{levelJudged, entryJudged, entriesJudged, threePut, entryPut}
 use Rattle.tide.specs.Row.{someTime}
 use Rattle.tide.specs.Tide.{leastOf}
 use Rattle.tide.specs.RowEntries.{GoodEntry, GoodEntries, quiet, Passes}
-use Rattle.tide.specs.laws.Entries.{no-fault, moment-good, least-good}
+use Rattle.tide.specs.laws.Entries.{no-fault, timed, moment-good, least-good}
 
 -- where a row has a number, it does not matter what would count for it
 there : (l : List ℕ) (k a b : ℕ) → k < length l → getD l k a ≡ getD l k b
@@ -37,11 +38,8 @@ entry-there row k at t fits =
 -- ---- a time
 
 -- its parts are good, and the last begins 15 bits in
-time-good : {v sign value : ℕ} → GoodEntry v sign value → momentPieced v ≡ record { v = v; width = 21; left = 0; code = 0; into = 15 }
-unfolding pieced
-time-good {v} (narrow, bit, small, g) =
-    let (code, into) = moment-good v narrow (omega (arith, g .0)) (omega (arith, g .1)) (omega (arith, g .2)) (omega (arith, g .3)) (omega (arith, g .4)) in
-    λ i. record { v = v; width = 21; left = 0; code = code i; into = into i }
+time-good : {v sign value : ℕ} → GoodEntry v sign value → piecewise moment [] (unpieced 21 v) ≡ timed v 0 15
+time-good {v} (narrow, bit, small, g) = moment-good v narrow (omega (arith, g .0)) (omega (arith, g .1)) (omega (arith, g .2)) (omega (arith, g .3)) (omega (arith, g .4))
 
 -- ---- a field, an entry, n of them
 
@@ -60,7 +58,7 @@ module _ (spot width : ℕ) where
       → levelJudged sign value (timeJudged time (quiet at offset u spot width)) ≡ quiet (at + 32) (at + 22) value spot width
   entry-quiet at offset u {time} {sign} {value} reach g =
       let one : timeJudged time (quiet at offset u spot width) ≡ quiet (at + 21) (at + 15) time spot width =
-      ap (λ p. judgedAs p (quiet at offset u spot width)) (time-good g) ∙ step-quiet at offset u 21 time 15 (omega arith) (omega arith) in
+      ap (λ p. grouped 21 time p (quiet at offset u spot width)) (time-good g) ∙ step-quiet at offset u 21 time 15 (omega arith) (omega arith) in
       let end : at + 21 + 1 + 10 ≡ at + 32 = omega arith in
       let last : at + 21 + 1 + 0 ≡ at + 22 = omega arith in
       ap (levelJudged sign value) one ∙ ap (valued 10 value (leastOf sign) 1_023) (value-quiet (at + 21) (at + 15) time 1 sign 0 1 (omega arith) (omega arith) (omega (arith, g .1)))

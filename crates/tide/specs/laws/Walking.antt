@@ -4,22 +4,22 @@ use mathlib.Core.Path.{_≡_, refl, sym, ap, ap₂, _∙_}
 use mathlib.Core.Bool.{Bool, true, false, cond}
 use mathlib.Core.List.{List, [], _∷_, _++_, append-assoc, append-nil}
 use native.Mathlib.Omega.{arith}
-use native.Mathlib.Nat.{add-zero, mod-eq-of-lt}
+use native.Mathlib.Nat.{add-zero}
 use lib.Dec.{eqb, lit<, lit≤}
 use Rattle.bits.specs.Answers.{got}
 use Rattle.format.specs.Fmt.{Out, Fmt}
 use Rattle.format.specs.Groups.{repeat}
-use Rattle.format.specs.Words.{_‥_, num}
+use Rattle.format.specs.Words.{_‥_, wide, num}
 use Rattle.walk.specs.Groups.{Step, single, thenStep, unlessRefused, Standing, Width}
 use Rattle.walk.specs.Reading.{ranged}
-use Rattle.walk.specs.laws.Along.{Along, Going, going, fronted, go, stay, then, under, ranged-v, ranged-at}
-use Rattle.walk.specs.laws.Groups.{Stretch, valued, one-field, number, guard, follows, decides, repeats, evenly, at-most}
+use Rattle.walk.specs.laws.Along.{Along, Going, going, fronted, stay, then, under, ranged-v, ranged-at}
+use Rattle.walk.specs.laws.Groups.{Stretch, valued, one-field, number, parted, guard, follows, decides, repeats, evenly, at-most}
 use Rattle.walk.specs.laws.Reading.{step-num, step-limits}
 use Rattle.walk.specs.declared.walk.Walk.{Walk}
 use Rattle.notice_fields.specs.Areas.{point}
 use Rattle.notice_fields.specs.Parts.{time, latitudeBits, longitudeBits, pointBits}
 use Rattle.notice_fields.specs.PartsSteps.{timeRead, latitudeRead, longitudeRead}
-use Rattle.notice_fields.specs.laws.PartsWalking.{time-read, time-v, time-at}
+use Rattle.notice_fields.specs.laws.PartsWalking.{moment-parts}
 use Rattle.notice_fields.specs.laws.Walking.{latitude-field, longitude-field}
 use Rattle.tide.specs.Row.{entryBits, recordMost}
 use Rattle.tide.specs.Standing.{placedAt, entryAt, entriesAt, recordAt, recordWide, recordsAt}
@@ -49,9 +49,8 @@ module _ (s : List ℕ) where
   -- ---- an entry: a time; a sign and a value, whose least hangs on the sign
 
   a-time : Stretch s time (λ at. got s at 21 ∷ []) (λ at. 21) 21 (single (timeRead s))
-  a-time = one-field 21 (timeRead s) (λ r reach.
-      let q = timeRead s r in
-      (time-at s r refl ∙ mod-eq-of-lt reach, valued (ap (λ v. v ∷ []) (time-v s r refl)) (record { on = λ {o} {all} {i} {f} {us} x. go us (q .v) x (λ h y. time-read reach y refl) })))
+  unfolding wide
+  a-time = parted s 21 (lit< tt) (lit≤ tt) moment-parts
 
   abbrev signed : Fmt → Fmt
   signed f = num 1 (0 ‥ 1) (num 10 level f)

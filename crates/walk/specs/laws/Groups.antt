@@ -8,11 +8,14 @@ use native.Mathlib.Nat.{add-assoc, mul-le-mul-right}
 use lib.Dec.{eqb}
 use borrow.Author.Tests.{eqb-false}
 use Rattle.bits.specs.Answers.{got}
-use Rattle.format.specs.Fmt.{Fmt}
-use Rattle.format.specs.Words.{_‥_, num, deciding}
-use Rattle.walk.specs.Reading.{ranged}
-use Rattle.walk.specs.laws.Along.{Along, stay, then, under, dropped, along-num, along-decide, ranged-v, ranged-at}
+use Rattle.format.specs.Fmt.{Judge, Fmt, field}
+use Rattle.format.specs.Words.{_‥_, free, num, deciding}
+use Rattle.walk.specs.Reading.{ranged, groupRead}
+use Rattle.walk.specs.laws.Along.{Along, go, stay, then, under, dropped, along-num, along-decide, ranged-v, ranged-at}
+use Rattle.walk.specs.laws.Parts.{group-v, group-at, step-group}
+use Rattle.walk.specs.laws.Pieces.{Matches}
 use Rattle.walk.specs.laws.Reading.{got-lt}
+use Rattle.walk.specs.declared.pieces.Pieces.{Pieces}
 use Rattle.walk.specs.declared.walk.Walk.{Walk}
 use Rattle.format.specs.Groups.{repeat, counted}
 use Rattle.walk.specs.Groups.{Step, single, thenStep, unlessRefused, repeatWalked, decidedWalked, countedWalked, Standing, Width, thenAt, thenWide, repeatAt, repeatWide, decidedAt, decidedWide}
@@ -41,6 +44,12 @@ pub number : (s : List ℕ) (w : ℕ) (some : 0 < w) (narrow : w ≤ 32) (lo hi 
 number s w some narrow lo hi = one-field w (ranged s w true lo hi 4) (λ r reach.
     let v : ranged s w true lo hi 4 r .v ≡ got s (r .at) w = ranged-v s r w true lo hi 4 refl in
     (ranged-at s r w true lo hi 4 refl reach, valued (ap (λ v. v ∷ []) v) (along-num w some narrow reach lo hi refl)))
+
+-- a field made of parts
+pub parted : (s : List ℕ) (w : ℕ) {j : Judge} {J : Pieces → Pieces} → 0 < w → w ≤ 32 → ((h : List ℕ) → Matches (j h) w J) → Stretch s (field w j free) (λ at. got s at w ∷ []) (λ at. w) w (single (groupRead s w J))
+parted s w {j} {J} some narrow x = one-field w (groupRead s w J) (λ r reach.
+    let q = groupRead s w J r in
+    (group-at s r w J reach refl, valued (ap (λ v. v ∷ []) (group-v s r w J refl)) (record { on = λ {o} {all} {i} {f} {us} y. go us (q .v) y (λ h e. step-group w some narrow reach (x h) e refl) })))
 
 -- a refusal ends it
 pub guard : {s : List ℕ} → Stretch s (λ f. f) (λ at. []) (λ at. 0) 0 unlessRefused

@@ -1,94 +1,129 @@
--- A field of several parts, read by its number where it is there, else part by part: either way the walk stands behind it with its value. Assumes nothing.
-use mathlib.Core.Path.{_≡_, refl, sym, ap, _∙_, subst, subst⁻¹}
-use mathlib.Core.Bool.{Bool, true, false, cond}
+-- A field made of parts, read: its judge sees the bits that there are, cut or whole, and the walk stands behind it with its value. Assumes nothing.
+use mathlib.Core.Path.{_≡_, refl, sym, ap, ap₂, _∙_, subst⁻¹}
+use mathlib.Core.Bool.{Bool, true, false, cond, and-false}
 use mathlib.Core.List.{List, _∷_}
-use Prim.Native.Nat.{ℕ, _+_, _-_, _*_, _%_, _≤_, _<_, _^_, min}
+use Prim.Native.Nat.{ℕ, _+_, _-_, _*_, _≤_, _<_, _^_, min}
 use native.Mathlib.Omega.{arith}
+use native.Mathlib.Nat.{min-eq-left, mod-eq-of-lt}
 use lib.Dec.{leb}
 use lib.ListN.{length, take, drop, length-take, length-drop}
-use borrow.Author.Tests.{le-leb, leb-false, ne-eqb}
+use lib.Seq.{take-all, take-length, take-take}
+use borrow.Author.Tests.{le-leb, lt-leb, leb-true, leb-false}
 use Rattle.bits.specs.Answers.{within, got}
-use Rattle.bits.specs.Bits.{bitsOf}
-use Rattle.bits.specs.laws.Answers.{within-true}
+use Rattle.bits.specs.Bits.{valueOf, digits, bitsOf, fieldAt}
+use Rattle.bits.specs.laws.Answers.{within-true, got-fits}
 use Rattle.bits.specs.laws.Bytes.{length-bits}
-use Rattle.format.specs.Fmt.{Out, Judge, Fmt, field}
-use Rattle.format.specs.Words.{Part, walk, wide, orZero, free}
-use Rattle.walk.specs.Reading.{grouped, judgedAs, partwise}
+use Rattle.bits.specs.laws.Digits.{digits-value, value-lt, value-nil}
+use Rattle.format.specs.Fmt.{Out, Fault, good, bad, orBad, Judge, Fmt, field}
+use Rattle.format.specs.Words.{orElse, free}
+use Rattle.format.specs.laws.Tells.{blamed}
+use Rattle.walk.specs.Pieces.{unpieced, lying}
+use Rattle.walk.specs.Reading.{grouped, groupRead, groupJudged}
 use Rattle.walk.specs.Walk.{onward}
-use Rattle.walk.specs.laws.Group.{Passes, parts-there, group-step}
-use Rattle.walk.specs.laws.Pieces.{Pieced, step-pieced}
-use Rattle.walk.specs.laws.Step.{Reading}
+use Rattle.walk.specs.laws.Pieces.{Matches}
+use Rattle.walk.specs.laws.Reading.{got-lt}
+use Rattle.walk.specs.laws.Step.{Reading, flaw, step}
 use Rattle.walk.specs.declared.pieces.Pieces.{Pieces}
 use Rattle.walk.specs.declared.walk.Walk.{Walk}
 
--- too few bits are no zero
-pub zero-cut : (n : ℕ) (j : Judge) (h : List ℕ) (b : List Bool) → length b < n → orZero n j h b ≡ j h b
-unfolding orZero
-zero-cut n j h b l = rw (ne-eqb (length b) n (λ z. omega arith)) refl
+-- a field that is there lies there as its number
+pub lying-whole : (s : List ℕ) (at w : ℕ) → at + w ≤ length s * 8 → lying s at w ≡ unpieced w (got s at w)
+lying-whole s at w l = ap (λ n. unpieced n (got s at n)) (min-eq-left (omega arith))
 
--- by its number, where it is there
-module _ {o : Out (List ℕ)} {all : Fmt} {i : ℕ} {s : List ℕ} {h : List ℕ} {at : ℕ} {k : List ℕ → List ℕ} {r q : Walk} {f : Fmt} {j : Judge} {g : Pieces} (n : ℕ) where
-  pub step-there : 0 < n → n ≤ 32 → at + n < 2 ^ 64 → at + n ≤ length s * 8 → Pieced j h n (got s (r .at) n) g → Reading o all i s (field n j free f) h at k r → q ≡ judgedAs g r
-      → Reading o all i s f (q .v ∷ h) (at + n) (λ vs. k (q .v ∷ vs)) q
-  unfolding onward
-  step-there some small reach fits x e is =
-      let y = subst (λ a. Pieced j h n (got s a n) g) (e .here) x in
-      let v : q .v ≡ got s at n = ap (λ q. q .v) is ∙ y .value in
-      subst⁻¹ (λ v. Reading o all i s f (v ∷ h) (at + n) (λ vs. k (v ∷ vs)) q) v (step-pieced some small reach fits y e is)
+module _ (s : List ℕ) (at w : ℕ) (small : w ≤ 32) where
+  abbrev rest : List Bool
+  rest = drop at (bitsOf s)
 
--- of bits that are cut the judge j says what the parts ps say
-module _ {o : Out (List ℕ)} {all : Fmt} {i : ℕ} {s : List ℕ} {h : List ℕ} {at : ℕ} {k : List ℕ → List ℕ} {r q : Walk} {f : Fmt} {j : Judge} {g : Pieces} (n : ℕ) (ps : List Part) (p : Walk) where
-  pub step-parts : wide ps ≡ n → 0 < n → n ≤ 32 → at + n < 2 ^ 64 → let b = take n (drop at (bitsOf s)) in (length b < n → j h b ≡ walk ps 0 h b) → Passes r (walk ps 0 h b) at p → Pieced j h n (got s (r .at) n) g
-      → Reading o all i s (field n j free f) h at k r → q ≡ partwise s n g p r → Reading o all i s f (q .v ∷ h) (at + n) (λ vs. k (q .v ∷ vs)) q
-  unfolding grouped onward
-  step-parts all-wide some small reach cut pass x e d = go (within (length s) at n) refl
+  abbrev b : List Bool
+  b = take w rest
+
+  long : length b ≡ min w (length s * 8 - at)
+  long = length-take w rest ∙ ap (min w) (length-drop at (bitsOf s) ∙ ap (_- at) (length-bits s))
+
+  -- the bits that there are spell the number that is got
+  spelt : got s at (length b) ≡ valueOf b
+  unfolding fieldAt
+  spelt = go (leb at (length s * 8)) refl
     where
-      b : List Bool
-      b = take n (drop at (bitsOf s))
+      first : take (length b) rest ≡ b
+      first = sym (take-take (length b) w rest (omega (arith, long))) ∙ take-length b
 
-      here : q ≡ cond (within (length s) at n) (judgedAs g r) (grouped s n p r)
-      here = d ∙ ap (λ a. cond (within (length s) a n) (judgedAs g r) (grouped s n p r)) (e .here)
-
-      long : length b ≡ min n (length s * 8 - at)
-      long = length-take n (drop at (bitsOf s)) ∙ ap (min n) (length-drop at (bitsOf s) ∙ ap (_- at) (length-bits s))
-
-      short : within (length s) at n ≡ false → length b < n
-      short t =
-          let z : leb (at + n) (length s * 8) ≡ false = rw (le-leb n 32 small) at t in
-          omega (arith, leb-false (at + n) (length s * 8) z, long)
-
-      go : (t : Bool) → within (length s) at n ≡ t → Reading o all i s f (q .v ∷ h) (at + n) (λ vs. k (q .v ∷ vs)) q
-      go true t = step-there n some small reach (within-true (length s) at n t .1) x e (here ∙ rw t refl)
+      go : (t : Bool) → leb at (length s * 8) ≡ t → got s at (length b) ≡ valueOf b
+      go true t = got-fits s at (length b) (omega (arith, long)) (omega (arith, long, leb-true at (length s * 8) t)) ∙ ap valueOf first
       go false t =
-          let is : q ≡ grouped s n p r = here ∙ rw t refl in
-          let same = cut (short t) in
-          let v : q .v ≡ got s at n = ap (λ q. q .v) is ∙ ap (λ a. got s a n) (e .here) in
-          subst⁻¹ (λ v. Reading o all i s f (v ∷ h) (at + n) (λ vs. k (v ∷ vs)) q) v
-          (group-step p some small reach e (subst⁻¹ (λ x. Passes r x at p) same pass) (λ z. omega (arith, parts-there ps 0 h b (sym same ∙ z), all-wide, long, length-drop at (bitsOf s), length-bits s)) is)
+          let l = leb-false at (length s * 8) t in
+          let none : length b ≡ 0 = omega (arith, long) in
+          ap (λ x. cond x (fieldAt s at (length b)) 0) (outside (length b) l) ∙ sym (ap valueOf (sym first ∙ ap (λ n. take n rest) none) ∙ value-nil)
+        where
+          outside : (n : ℕ) → length s * 8 < at → within (length s) at n ≡ false
+          outside n l = rw (lt-leb (at + n) (length s * 8) (omega arith)) (and-false (leb n 32))
 
--- ---- its value and its offset, whichever way it was read
+  lying-is : lying s at w ≡ unpieced (length b) (valueOf b)
+  lying-is = ap (λ n. unpieced n (got s at n)) (sym long) ∙ ap (unpieced (length b)) spelt
 
-module _ (s : List ℕ) (n : ℕ) (g : Pieces) (p r : Walk) {q : Walk} where
-  pub parts-v : g .v ≡ got s (r .at) n → q ≡ partwise s n g p r → q .v ≡ got s (r .at) n
-  unfolding grouped onward
-  parts-v e d = ap (λ q. q .v) d ∙ go (within (length s) (r .at) n)
-    where
-      go : (t : Bool) → cond t (judgedAs g r) (grouped s n p r) .v ≡ got s (r .at) n
-      go true = e
-      go false = refl
+  module _ (j : List Bool → Fault) (J : Pieces → Pieces) (x : Matches j w J) where
+    abbrev g : Pieces
+    g = J (lying s at w)
 
-  pub parts-at : g .width ≡ n → q ≡ partwise s n g p r → q .at ≡ (r .at + n) % 2 ^ 64
-  unfolding grouped onward
-  parts-at e d = ap (λ q. q .at) d ∙ go (within (length s) (r .at) n)
-    where
-      go : (t : Bool) → cond t (judgedAs g r) (grouped s n p r) .at ≡ (r .at + n) % 2 ^ 64
-      go true = ap (λ w. (r .at + w) % 2 ^ 64) e
-      go false = refl
+    says : j b ≡ blamed (g .code) (g .into)
+    says =
+        ap j (sym (digits-value (length b) b refl)) ∙ x .so (length b) (valueOf b) (omega (arith, long)) (value-lt b)
+        ∙ ap (λ p. blamed (J p .code) (J p .into)) (sym lying-is)
 
--- ---- which way the code went
+    -- what is cut is refused by one of its parts
+    group-flaw : flaw w j rest ≡ blamed (g .code) (g .into)
+    group-flaw = go (leb w (length rest)) refl (j b) refl ∙ says
+      where
+        go : (t : Bool) → leb w (length rest) ≡ t → (y : Fault) → j b ≡ y → orElse y (orBad t 1) ≡ y
+        go t e (bad c i) d = refl
+        go true e good d = refl
+        go false e good d = absurd (omega (arith, x .there b d, leb-false w (length rest) e, length-take w rest))
 
-pub by-number : (z : Walk) {t : Bool} {x y : Walk} → t ≡ true → x ≡ y → x ≡ cond t y z
-by-number z {x = x} {y} e p = subst⁻¹ (λ t. x ≡ cond t y z) e p
+    group-holds : 0 < w → g .code ≡ 0 → got s at w ≡ valueOf b
+    unfolding fieldAt
+    group-holds some z =
+        let l = x .there b (says ∙ ap (λ c. blamed c (g .into)) z) in
+        got-fits s at w small (omega (arith, l, long))
 
-pub by-parts : (y : Walk) {t : Bool} {x z : Walk} → t ≡ false → x ≡ z → x ≡ cond t y z
-by-parts y {x = x} {z} e p = subst⁻¹ (λ t. x ≡ cond t y z) e p
+    group-into : g .into ≤ w
+    group-into = let l = x .inner (min w (length s * 8 - at)) (got s at (min w (length s * 8 - at))) in omega (arith, l)
+
+module _ {o : Out (List ℕ)} {all : Fmt} {i : ℕ} {s : List ℕ} {h : List ℕ} {at : ℕ} {k : List ℕ → List ℕ} {r q : Walk} {f : Fmt} {j : Judge} {J : Pieces → Pieces} (w : ℕ) where
+  pub step-group : 0 < w → w ≤ 32 → at + w < 2 ^ 64 → Matches (j h) w J → Reading o all i s (field w j free f) h at k r → q ≡ groupRead s w J r
+      → Reading o all i s f (q .v ∷ h) (at + w) (λ vs. k (q .v ∷ vs)) q
+  unfolding onward
+  step-group some small reach x e d =
+      let is : q ≡ grouped w (got s at w) (J (lying s at w)) r = d ∙ ap (λ a. grouped w (got s a w) (J (lying s a w)) r) (e .here) in
+      subst⁻¹ (λ q. Reading o all i s f (q .v ∷ h) (at + w) (λ vs. k (q .v ∷ vs)) q) is
+      (step (got s at w) e (record { findable = λ e. (some, small); reach = reach; into = group-into s at w small (j h) J x; same = group-flaw s at w small (j h) J x; holds = group-holds s at w small (j h) J x some }))
+
+  -- a field that is there, by its number
+  pub step-there : 0 < w → w ≤ 32 → at + w < 2 ^ 64 → at + w ≤ length s * 8 → Matches (j h) w J → Reading o all i s (field w j free f) h at k r → q ≡ groupJudged w J (got s (r .at) w) r
+      → Reading o all i s f (q .v ∷ h) (at + w) (λ vs. k (q .v ∷ vs)) q
+  step-there some small reach there x e d =
+      step-group some small reach x e (d ∙ ap (λ p. grouped w (got s (r .at) w) (J p) r) (sym (lying-whole s (r .at) w (omega (arith, there, e .here)))))
+
+-- ---- its value and its offset; a field that is there is judged by its number, one that is cut by the bits that there are
+
+module _ (s : List ℕ) (r : Walk) (n : ℕ) (J : Pieces → Pieces) {q : Walk} where
+  pub group-v : q ≡ groupRead s n J r → q .v ≡ got s (r .at) n
+  unfolding onward
+  group-v d = ap (λ q. q .v) d
+
+  pub group-at : r .at + n < 2 ^ 64 → q ≡ groupRead s n J r → q .at ≡ r .at + n
+  unfolding onward
+  group-at reach d = ap (λ q. q .at) d ∙ mod-eq-of-lt reach
+
+  group-fits : q ≡ groupRead s n J r → (q ≡ groupRead s n J r) × (q .v < 2 ^ n)
+  group-fits d = (d, got-lt s (r .at) n (group-v d))
+
+  module _ {there : Bool} (is : there ≡ within (length s) (r .at) n) where
+    pub group-whole : {v : ℕ} → there ≡ true → q ≡ groupJudged n J v r → v ≡ got s (r .at) n → (q ≡ groupRead s n J r) × (q .v < 2 ^ n)
+    group-whole t e x =
+        let whole = lying-whole s (r .at) n (within-true (length s) (r .at) n (sym is ∙ t) .1) in
+        group-fits (e ∙ ap (λ v. groupJudged n J v r) x ∙ ap (λ p. grouped n (got s (r .at) n) (J p) r) (sym whole))
+
+    pub group-cut : {g : Pieces} → there ≡ false → q ≡ grouped n 0 g r → g ≡ J (lying s (r .at) n) → (q ≡ groupRead s n J r) × (q .v < 2 ^ n)
+    group-cut t e x =
+        let none : 0 ≡ got s (r .at) n = sym (ap (λ b. cond b (fieldAt s (r .at) n) 0) (sym is ∙ t)) in
+        group-fits (e ∙ ap (λ g. grouped n 0 g r) x ∙ ap (λ v. grouped n v (J (lying s (r .at) n)) r) none)

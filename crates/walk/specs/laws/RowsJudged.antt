@@ -8,15 +8,18 @@ use native.Mathlib.Nat.{add-zero, mul-le-mul-right}
 use lib.Dec.{eqb}
 use lib.ListN.{drop, getD}
 use borrow.Author.Tests.{eqb-true, eqb-false}
-use Rattle.format.specs.Fmt.{Fmt}
+use Rattle.format.specs.Fmt.{Judge, Fmt, field}
 use Rattle.format.specs.Groups.{repeat, counted, Measure, thenOf, decidedOf, repeatOf, Telling, oneTold, thenTold, decidedTold, repeatTold}
-use Rattle.format.specs.Words.{_‥_, num, deciding}
+use Rattle.format.specs.Words.{_‥_, free, num, deciding}
 use Rattle.walk.specs.Judging.{valued}
+use Rattle.walk.specs.Reading.{groupJudged}
 use Rattle.walk.specs.Rows.{JudgeStep, oneJudged, thenJudged, decidedJudged, evenJudged, evenStep, countedJudged, repeatJudged}
 use Rattle.walk.specs.Walk.{onward}
 use Rattle.walk.specs.laws.Judging.{judge-num, judge-deciding, judge-refused, valued-between}
 use Rattle.walk.specs.laws.Loops.{JudgesAlong, going, judges-stay, judges-refused, judges-then, judges-under, step-near}
+use Rattle.walk.specs.laws.Pieces.{Matches, judge-group}
 use Rattle.walk.specs.laws.Step.{clean}
+use Rattle.walk.specs.declared.pieces.Pieces.{Pieces}
 use Rattle.walk.specs.declared.making.Stepped.{Stepped}
 use Rattle.walk.specs.declared.walk.Walk.{Walk}
 use Rattle.walk.specs.laws.Rows.{here, fronts, after-one, long-then, long-one}
@@ -53,6 +56,10 @@ step-good r w b u c i d z = clean (r .code) c (sym (ap (λ (q : Walk). q .code) 
 
 pub judges-number : (row : List ℕ) (g w lo hi : ℕ) → hi < 2 ^ w → Judges row (num w (lo ‥ hi)) (oneTold g) (λ l. 1) w (oneJudged row g (λ v. valued w v lo hi))
 judges-number row g w lo hi fits = judges-one g w (λ v. valued w v lo hi) (λ v r reach. record { on = λ x. going (judge-num w reach lo hi fits (x .is) refl) }) (λ v r. (step-near r w true v _ 0 refl, step-good r w true v _ 0 refl))
+
+-- a field made of parts
+pub judges-parted : (row : List ℕ) (g w : ℕ) {j : Judge} {J : Pieces → Pieces} → ((h : List ℕ) → Matches (j h) w J) → Judges row (field w j free) (oneTold g) (λ l. 1) w (oneJudged row g (groupJudged w J))
+judges-parted row g w {j} {J} x = judges-one g w (groupJudged w J) (λ v r reach. record { on = λ y. going (judge-group reach (x _) (y .is) refl) }) (λ v r. (step-near r w true v _ _ refl, step-good r w true v _ _ refl))
 
 -- one behind the other
 pub judges-next : {row : List ℕ} {a b : Fmt → Fmt} {ta tb : Telling} {la lb : Measure} {na nb : ℕ} {sa sb : JudgeStep} → Judges row a ta la na sa → Judges row b tb lb nb sb

@@ -1,7 +1,9 @@
 -- `judged_short` is the step over the number whose parts are judged.
+use mathlib.Core.List.{[]}
 use mathlib.Core.Path.{ap, _∙_}
-use Rattle.walk.specs.Reading.{judgedAs}
-use Rattle.ais_common.specs.Steps.{datePieced}
+use Rattle.walk.specs.Pieces.{piecewise}
+use Rattle.walk.specs.Reading.{grouped}
+use Rattle.ais_common.specs.Time.{dateParts}
 use borrow.Author.Needs.{needs}
 use Rattle.ais_common.proofs.time.judged_short.Statement.{statement}
 use Rattle.ais_common.proofs.time.judged_short.Tie as tie
@@ -11,7 +13,7 @@ returns c =
     let d = c .before in
     let o = d .before in
     let a = o .before .args in
-    c .group-value .ensures ∙ ap (λ g. judgedAs g (a .w)) (d .judged-date .ensures ∙ ap datePieced (o .of .ensures))
+    c .group .ensures ∙ ap (λ g. grouped 14 (a .v) g (a .w)) (d .judged-date .ensures ∙ ap (piecewise (dateParts []) []) (o .of .ensures))
 
 pub judged-short-spec : {M : Type 1} → statement M
 judged-short-spec =

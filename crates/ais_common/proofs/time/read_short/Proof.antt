@@ -1,6 +1,5 @@
 -- `read_short` judges the number that stands there.
 use mathlib.Core.Path.{ap, _∙_}
-use Rattle.walk.specs.Pieces.{pieced}
 use Rattle.walk.specs.Walk.{onward}
 use Rattle.walk.specs.laws.Reading.{got-lt}
 use Rattle.ais_common.specs.Steps.{shortJudged}
@@ -9,7 +8,7 @@ use Rattle.ais_common.proofs.time.read_short.Statement.{statement}
 use Rattle.ais_common.proofs.time.read_short.Tie as tie
 
 returns : tie.Need-returns
-unfolding pieced onward
+unfolding onward
 returns c =
     let get = c .before in
     let st = get .before .before in

@@ -1,32 +1,24 @@
--- `expiry` judges the number where it is there, else the parts and the whole past them.
-use mathlib.Core.Path.{sym, ap, _∙_}
-use Rattle.walk.specs.Reading.{grouped}
-use Rattle.walk.specs.laws.Parts.{by-number, by-parts}
-use Rattle.walk.specs.laws.Reading.{got-lt}
-use Rattle.notice_fields.specs.PartsSteps.{expiryJudged}
-use Rattle.notice_fields.specs.laws.PartsWalking.{expiry-v}
+-- `expiry` judges the number where it is there, else the bits that there are.
+use mathlib.Core.Path.{ap, _∙_}
+use Rattle.walk.specs.Pieces.{unlessZero}
+use Rattle.walk.specs.laws.Parts.{group-whole, group-cut}
 use borrow.Author.Needs.{needs}
+use Rattle.notice_fields.specs.PartsSteps.{expiryPieces}
 use Rattle.notice_fields.proofs.parts.expiry.Statement.{statement}
 use Rattle.notice_fields.proofs.parts.expiry.Tie as tie
 
 returns : tie.Need-returns
 returns c =
-    let get = c .before in
-    let f = get .before in
-    let holds = f .before in
-    let a = holds .before .before .args in
-    let e = by-number _ (sym (holds .holds .ensures) ∙ f .if1 .taken) (c .judged-expiry .ensures ∙ ap (λ v. expiryJudged v (a .w)) (get .get .ensures)) in
-    (e, got-lt (a .s .now) (a .w .at) 21 (expiry-v (a .s .now) (a .w) e))
+    let f = c .before .before in
+    let a = f .before .before .before .args in
+    group-whole (a .s .now) (a .w) 21 expiryPieces (f .before .holds .ensures) (f .if1 .taken) (c .judged-expiry .ensures) (c .before .get .ensures)
 
 returns-2 : tie.Need-returns-2
 returns-2 c =
-    let m = c .before in
-    let f = m .before in
-    let holds = f .before in
-    let a = holds .before .before .args in
-    let s = a .s .now in
-    let e = by-parts _ (sym (holds .holds .ensures) ∙ f .if1 .left) (c .group .ensures ∙ ap (λ p. grouped s 21 p (a .w)) (m .moment .ensures)) in
-    (e, got-lt s (a .w .at) 21 (expiry-v s (a .w) e))
+    let z = c .before in
+    let f = z .before .before in
+    let a = f .before .before .before .args in
+    group-cut (a .s .now) (a .w) 21 expiryPieces (f .before .holds .ensures) (f .if1 .left) (c .group .ensures) (z .or-zero .ensures ∙ ap (unlessZero 21) (z .before .cut-moment .ensures))
 
 pub expiry-spec : {M : Type 1} → statement M
 expiry-spec =
@@ -34,5 +26,5 @@ expiry-spec =
     (tie.spec
     (λ c κs. search needs) (λ c κs. search needs) (λ c κs. search needs)
     returns
-    (λ c κs. search needs) (λ c κs. search needs)
+    (λ c κs. search needs) (λ c κs. search needs) (λ c κs. search needs)
     returns-2)

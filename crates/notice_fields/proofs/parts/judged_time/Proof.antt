@@ -1,14 +1,18 @@
 -- `judged_time` is the step over the number whose parts are judged.
+use mathlib.Core.List.{[]}
 use mathlib.Core.Path.{ap, _∙_}
-use Rattle.walk.specs.Reading.{judgedAs}
+use Rattle.walk.specs.Pieces.{piecewise}
+use Rattle.walk.specs.Reading.{grouped}
 use borrow.Author.Needs.{needs}
+use Rattle.notice_fields.specs.Parts.{moment}
 use Rattle.notice_fields.proofs.parts.judged_time.Statement.{statement}
 use Rattle.notice_fields.proofs.parts.judged_time.Tie as tie
 
 returns : tie.Need-returns
 returns c =
     let m = c .before in
-    c .group-value .ensures ∙ ap (λ g. judgedAs g (m .before .args .w)) (m .judged-moment .ensures)
+    let a = m .before .before .args in
+    c .group .ensures ∙ ap (λ g. grouped 21 (a .v) g (a .w)) (m .moment .ensures ∙ ap (piecewise moment []) (m .before .of .ensures))
 
 pub judged-time-spec : {M : Type 1} → statement M
-judged-time-spec = tie.close (tie.spec (λ c κs. search needs) (λ c κs. search needs) returns)
+judged-time-spec = tie.close (tie.spec (λ c κs. search needs) (λ c κs. search needs) (λ c κs. search needs) returns)

@@ -1,7 +1,9 @@
--- `latitude` judges the number where it is there, else the parts and the whole past them.
+-- `latitude` judges the number where it is there, else the bits that there are.
+use mathlib.Core.List.{[]}
+use Rattle.walk.specs.Pieces.{piecewise}
+use Rattle.walk.specs.laws.Parts.{group-whole, group-cut}
 use borrow.Author.Needs.{needs}
-use Rattle.notice_fields.specs.Parts.{latitudeBits}
-use Rattle.notice_fields.specs.laws.PartsWalking.{angle-whole, angle-cut}
+use Rattle.notice_fields.specs.Parts.{angle, latitudeBits}
 use Rattle.notice_fields.proofs.parts.latitude.Statement.{statement}
 use Rattle.notice_fields.proofs.parts.latitude.Tie as tie
 
@@ -9,13 +11,13 @@ returns : tie.Need-returns
 returns c =
     let f = c .before .before in
     let a = f .before .before .before .args in
-    angle-whole (a .s .now) (a .w) latitudeBits 7 90 (f .before .holds .ensures) (f .if1 .taken) (c .judged-latitude .ensures) (c .before .get .ensures)
+    group-whole (a .s .now) (a .w) latitudeBits (piecewise (angle 7 90) []) (f .before .holds .ensures) (f .if1 .taken) (c .judged-latitude .ensures) (c .before .get .ensures)
 
 returns-2 : tie.Need-returns-2
 returns-2 c =
     let f = c .before .before in
     let a = f .before .before .before .args in
-    angle-cut (a .s .now) (a .w) latitudeBits 7 90 (f .before .holds .ensures) (f .if1 .left) (c .group .ensures) (c .before .cut-angle .ensures)
+    group-cut (a .s .now) (a .w) latitudeBits (piecewise (angle 7 90) []) (f .before .holds .ensures) (f .if1 .left) (c .group .ensures) (c .before .cut-angle .ensures)
 
 pub latitude-spec : {M : Type 1} → statement M
 latitude-spec =
@@ -23,5 +25,5 @@ latitude-spec =
     (tie.spec
     (λ c κs. search needs) (λ c κs. search needs) (λ c κs. search needs)
     returns
-    (λ c κs. search needs) (λ c κs. search needs)
+    (λ c. search needs) (λ c κs. search needs) (λ c κs. search needs)
     returns-2)
