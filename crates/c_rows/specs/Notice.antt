@@ -12,7 +12,7 @@ use Rattle.format.specs.Refusals.{bare}
 use Rattle.format.specs.declared.Refusal.{Refusal}
 use Rattle.format.specs.Promises.{readRecord, answered}
 use Rattle.c_rows.specs.Language.{spoken}
-use Rattle.notice.specs.Notice.{notices}
+use Rattle.notice.specs.Notice.{ours, notices}
 use Rattle.notice.specs.Record.{Whole, recordOf as wholeOf}
 use Rattle.notice.specs.Promises.{housed, toldOf}
 use Rattle.notice.specs.declared.reading.Notice.{Notice}
@@ -64,7 +64,7 @@ unroomed own = cond (eqb (own .code) 0) (bare 6) own
 
 -- the reading of the bytes s, for a row, areas and a text of these lengths
 abbrev pub reading : ℕ → List ℕ → (row areas text : ℕ) → Out Whole
-reading language s row areas text = spoken language (λ english. roomy row (housed areas text (readRecord (notices english) wholeOf s)))
+reading language s row areas text = spoken language (λ english. roomy row (housed areas text (readRecord (notices (ours english)) wholeOf s)))
 
 -- an answer's refusal, and what it leaves of the row, the areas and the text
 abbrev pub Lent : Out Whole → List ℤ → List ℕ → List ℕ → Refusal → List ℤ → List ℕ → List ℕ → Type 0

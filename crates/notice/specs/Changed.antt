@@ -6,6 +6,7 @@ use lib.Dec.{eqb, leb}
 use lib.ListN.{getD, set}
 use Rattle.format.specs.Fmt.{Spot, none, found}
 use Rattle.notice_fields.specs.Spots.{areaSpots}
+use Rattle.notice_fields.specs.Terms.{Point, ourPoint}
 use Rattle.notice.specs.Record.{Whole}
 
 -- the head's fields in bit order: where each that may be corrected stands, and its width
@@ -22,8 +23,11 @@ spots =
     ∷ []
 
 -- Where the field of number i stands, if it may be corrected: one of the head's, or a number of its areas, the first of which is at bit 63. The text stays.
-abbrev pub spotOf : Whole → ℕ → Spot
-spotOf x i = getD (spots ++ areaSpots (x .0 .count) (x .1 .0) 63) i none
+abbrev pub spotOf : Point → Whole → ℕ → Spot
+spotOf p x i = getD (spots ++ areaSpots (p .latitudeBits) (p .longitudeBits) (x .0 .count) (x .1 .0) 63) i none
+
+abbrev pub ourSpot : Whole → ℕ → Spot
+ourSpot = spotOf ourPoint
 
 -- how many areas there are, and the text, stay
 unfoldable pub changed : ℕ → ℕ → Whole → Whole

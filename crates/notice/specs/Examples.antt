@@ -12,7 +12,7 @@ use Rattle.format.specs.Words.{walk, wide, orZero}
 use Rattle.format.specs.Groups.{repeat, repeatOf, repeatTold}
 use Rattle.notice_fields.specs.Parts.{subtypes, subtype}
 use Rattle.text.specs.Text.{english, inLanguage}
-use Rattle.notice.specs.Notice.{notice, notices}
+use Rattle.notice.specs.Notice.{ours, notice, notices}
 use Rattle.notice.specs.Record.{Whole, valuesOf, headOf, textOf, recordOf}
 
 -- table 8: degrees, minutes and hundredths, below the mark of south or west
@@ -62,31 +62,31 @@ message =
     ∷ 0x48 ∷ 0xA8 ∷ 0x6D ∷ 0x0E ∷ 0x19 ∷ 0x26 ∷ 0x80 ∷ 0x3B ∷ 0x04 ∷ 0x0F ∷ 0xB3 ∷ 0x69 ∷ 0x6C ∷ 0xAC ∷ 0xAE ∷ 0x04 ∷ 0x06 ∷ 0x44 ∷ 0x0D ∷ 0xCD
     ∷ 0xA4 ∷ 0x0D ∷ 0xEC ∷ 0xCC ∷ 0xC0 ∷ []
 
-all-read : readRecord (notices true) recordOf message ≡ accepted warned
+all-read : readRecord (notices (ours true)) recordOf message ≡ accepted warned
 unfolding readMessage notices notice read readField walk wide orZero subtypes subtype repeat inLanguage english headOf textOf recordOf valueOf bit digits bitsOf bytesOf
 all-read = refl
 
-all-written : writeMessage (notices true) (valuesOf warned) ≡ accepted message
+all-written : writeMessage (notices (ours true)) (valuesOf warned) ≡ accepted message
 unfolding writeMessage notices notice write writeField sized walk wide orZero subtypes subtype repeat repeatOf repeatTold inLanguage english valuesOf valueOf bit digits bitsOf bytesOf
 all-written = refl
 
 -- the sea area's code, field 9, is corrected to 74
-code-corrected : correctMessage (notices true) message 9 74 ≡ accepted (set (set message 8 0x12) 9 0x88)
+code-corrected : correctMessage (notices (ours true)) message 9 74 ≡ accepted (set (set message 8 0x12) 9 0x88)
 unfolding correctMessage readMessage writeMessage notices notice read readField write writeField sized spot walk wide orZero subtypes subtype repeat inLanguage english valueOf bit digits bitsOf bytesOf
 code-corrected = refl
 
 -- the circle's radius, field 23, to 986
-radius-corrected : correctMessage (notices true) message 23 986 ≡ accepted (set (set message 33 0xED) 34 0x50)
+radius-corrected : correctMessage (notices (ours true)) message 23 986 ≡ accepted (set (set message 33 0xED) 34 0x50)
 unfolding correctMessage readMessage writeMessage notices notice read readField write writeField sized spot walk wide orZero subtypes subtype repeat inLanguage english valueOf bit digits bitsOf bytesOf
 radius-corrected = refl
 
 -- the longitude of the polygon's second point, field 30, to W 57°09.81'
-longitude-corrected : correctMessage (notices true) message 30 (W (angle 57 9 81)) ≡ accepted (set (set (set message 43 0x27) 44 0x24) 45 0xD1)
+longitude-corrected : correctMessage (notices (ours true)) message 30 (W (angle 57 9 81)) ≡ accepted (set (set (set message 43 0x27) 44 0x24) 45 0xD1)
 unfolding correctMessage readMessage writeMessage notices notice read readField write writeField sized spot walk wide orZero subtypes subtype repeat inLanguage english valueOf bit digits bitsOf bytesOf
 longitude-corrected = refl
 
 -- a kind and a count of points stay: the circle's and the polygon's
-kind-kept : (correctMessage (notices true) message 20 3 ≡ refused 10 0) × (correctMessage (notices true) message 26 3 ≡ refused 10 0)
+kind-kept : (correctMessage (notices (ours true)) message 20 3 ≡ refused 10 0) × (correctMessage (notices (ours true)) message 26 3 ≡ refused 10 0)
 unfolding correctMessage readMessage writeMessage notices notice read readField write writeField sized spot walk wide orZero subtypes subtype repeat inLanguage english valueOf bit digits bitsOf bytesOf
 kind-kept = (refl, refl)
 
@@ -94,41 +94,41 @@ kind-kept = (refl, refl)
 
 -- The head: a source of 0, at bit 0; a station of 0, at 5; month 13 in the expiry, behind the bit of next year at 38.
 head-refused :
-    (told (readMessage (notices true) (set message 0 0x01)) ≡ record { code = 4; bit = 0 })
-    × (told (readMessage (notices true) (set message 0 0x68)) ≡ record { code = 4; bit = 5 })
-    × (told (readMessage (notices true) (set (set message 4 0x2F) 5 0xBB)) ≡ record { code = 4; bit = 39 })
+    (told (readMessage (notices (ours true)) (set message 0 0x01)) ≡ record { code = 4; bit = 0 })
+    × (told (readMessage (notices (ours true)) (set message 0 0x68)) ≡ record { code = 4; bit = 5 })
+    × (told (readMessage (notices (ours true)) (set (set message 4 0x2F) 5 0xBB)) ≡ record { code = 4; bit = 39 })
 unfolding readMessage notices notice read readField walk orZero subtypes subtype valueOf bit digits bitsOf
 head-refused = (refl, refl, refl)
 
 -- The first area, at bit 63: its kind is 5.
-kind-refused : told (readMessage (notices true) (set (set message 7 0x8B) 8 0x67)) ≡ record { code = 4; bit = 63 }
+kind-refused : told (readMessage (notices (ours true)) (set (set message 7 0x8B) 8 0x67)) ≡ record { code = 4; bit = 63 }
 unfolding readMessage notices notice read readField walk orZero subtypes subtype repeat valueOf bit digits bitsOf
 kind-refused = refl
 
 -- One area, a point at N 31°61.57' E 121°30.84': kind at 63, how many at 66, south at 70, degrees at 71, minutes at 78.
-minutes-refused : told (readMessage (notices true) (0x69 ∷ 0x21 ∷ 0xC2 ∷ 0x69 ∷ 0x2E ∷ 0x7B ∷ 0x76 ∷ 0x82 ∷ 0x44 ∷ 0x7F ∷ 0xD7 ∷ 0x27 ∷ 0x97 ∷ 0xAA ∷ 0x25 ∷ 0x80 ∷ [])) ≡ record { code = 4; bit = 78 }
+minutes-refused : told (readMessage (notices (ours true)) (0x69 ∷ 0x21 ∷ 0xC2 ∷ 0x69 ∷ 0x2E ∷ 0x7B ∷ 0x76 ∷ 0x82 ∷ 0x44 ∷ 0x7F ∷ 0xD7 ∷ 0x27 ∷ 0x97 ∷ 0xAA ∷ 0x25 ∷ 0x80 ∷ [])) ≡ record { code = 4; bit = 78 }
 unfolding readMessage notices notice read readField walk wide orZero subtypes subtype repeat valueOf bit digits bitsOf
 minutes-refused = refl
 
 -- A text is refused at its first bit, whichever byte of it is bad: no area and the text `AB` with a line feed behind it, at 63;
-text-refused : told (readMessage (notices true) (0x69 ∷ 0x21 ∷ 0xC2 ∷ 0x69 ∷ 0x2E ∷ 0x7B ∷ 0x76 ∷ 0x80 ∷ 0x82 ∷ 0x84 ∷ 0x14 ∷ [])) ≡ record { code = 4; bit = 63 }
+text-refused : told (readMessage (notices (ours true)) (0x69 ∷ 0x21 ∷ 0xC2 ∷ 0x69 ∷ 0x2E ∷ 0x7B ∷ 0x76 ∷ 0x80 ∷ 0x82 ∷ 0x84 ∷ 0x14 ∷ [])) ≡ record { code = 4; bit = 63 }
 unfolding readMessage notices notice read readField walk orZero subtypes subtype repeat inLanguage english valueOf bit digits bitsOf bytesOf
 text-refused = refl
 
 -- behind areas of 11, 50, 93, 58 and 136 bits, the last of its 13 bytes being 0x7F, at 411; and the fill behind it, five bits that are not zero, at 515.
-end-refused : (told (readMessage (notices true) (set (set message 63 0xCF) 64 0xE0)) ≡ record { code = 4; bit = 411 }) × (told (readMessage (notices true) (set message 64 0xC1)) ≡ record { code = 5; bit = 515 })
+end-refused : (told (readMessage (notices (ours true)) (set (set message 63 0xCF) 64 0xE0)) ≡ record { code = 4; bit = 411 }) × (told (readMessage (notices (ours true)) (set message 64 0xC1)) ≡ record { code = 5; bit = 515 })
 unfolding readMessage notices notice read readField walk wide orZero subtypes subtype repeat inLanguage english valueOf bit digits bitsOf bytesOf
 end-refused = (refl, refl)
 
 -- The same text written.
-text-unwritten : told (writeMessage (notices true) (valuesOf (warned .0, (warned .1 .0, set (warned .1 .1) 12 0x7F)))) ≡ record { code = 4; bit = 411 }
+text-unwritten : told (writeMessage (notices (ours true)) (valuesOf (warned .0, (warned .1 .0, set (warned .1 .1) 12 0x7F)))) ≡ record { code = 4; bit = 411 }
 unfolding writeMessage notices notice write writeField sized walk wide orZero subtypes subtype repeat repeatOf repeatTold inLanguage english valuesOf valueOf bit digits bitsOf bytesOf
 text-unwritten = refl
 
 -- Corrected: type 2, at bit 30, has no subtype 11, at 34; month 13 in the expiry, at 39; a year that 7 bits do not spell, at 23.
 corrections-refused :
-    (told (correctMessage (notices true) message 4 2) ≡ record { code = 4; bit = 34 })
-    × (told (correctMessage (notices true) message 6 ((((1 * 16 + 13) * 32 + 27) * 32 + 14) * 64 + 52)) ≡ record { code = 4; bit = 39 })
-    × (told (correctMessage (notices true) message 3 128) ≡ record { code = 4; bit = 23 })
+    (told (correctMessage (notices (ours true)) message 4 2) ≡ record { code = 4; bit = 34 })
+    × (told (correctMessage (notices (ours true)) message 6 ((((1 * 16 + 13) * 32 + 27) * 32 + 14) * 64 + 52)) ≡ record { code = 4; bit = 39 })
+    × (told (correctMessage (notices (ours true)) message 3 128) ≡ record { code = 4; bit = 23 })
 unfolding correctMessage readMessage writeMessage notices notice read readField write writeField sized spot walk wide orZero subtypes subtype repeat inLanguage english valueOf bit digits bitsOf bytesOf
 corrections-refused = (refl, refl, refl)

@@ -10,6 +10,7 @@ use Rattle.format.specs.Message.{ahead}
 use Rattle.format.specs.Promises.{answered, readRecord, tested}
 use Rattle.format.specs.Refusals.{bare}
 use Rattle.format.specs.declared.Refusal.{Refusal}
+use Rattle.notice_fields.specs.Terms.{Terms}
 use Rattle.notice.specs.Notice.{notices}
 use Rattle.notice.specs.Record.{Whole, recordOf}
 use Rattle.notice.specs.declared.reading.Told.{Told}
@@ -34,8 +35,8 @@ refusalOf (Good r) = bare 0
 refusalOf (Refused c) = c
 
 -- the answer, and what is left of the row and the buffer
-abbrev pub Reads : Bool → List ℕ → List ℕ → List ℕ → Answer → List ℕ → List ℕ → Type 0
-Reads english s areas text a areas′ text′ = let o = housed (length areas) (length text) (readRecord (notices english) recordOf s) in
+abbrev pub Reads : Terms → List ℕ → List ℕ → List ℕ → Answer → List ℕ → List ℕ → Type 0
+Reads c s areas text a areas′ text′ = let o = housed (length areas) (length text) (readRecord (notices c) recordOf s) in
     (a ≡ answerOf o)
     × (areas′ ≡ answered (λ x. ahead (x .1 .0) areas) (λ c. areas) o)
     × (text′ ≡ answered (λ x. ahead (x .1 .1) text) (λ c. text) o)

@@ -14,14 +14,14 @@ use Rattle.walk.specs.declared.walk.Walk.{Walk}
 use Rattle.notice_fields.specs.Steps.{areasWalked}
 use Rattle.notice_fields.specs.PartsSteps.{leastSubtype, mostSubtype, expiryRead}
 use Rattle.text.specs.Text.{inLanguage}
-use Rattle.notice.specs.Notice.{notice, sizes}
+use Rattle.notice.specs.Notice.{ours, notice, sizes}
 use Rattle.notice.specs.declared.reading.Opening.{Opening}
 use Rattle.notice.specs.declared.reading.Ending.{Ending}
 use Rattle.notice.specs.declared.reading.Course.{Course}
 
 -- what reading the fields of s answers
 abbrev pub fieldsRead : Bool → List ℕ → Out (List ℕ)
-fieldsRead english s = read (notice english) [] 0 (bitsOf s)
+fieldsRead english s = read (notice (ours english)) [] 0 (bitsOf s)
 
 -- up to the areas, with field i sought
 unfoldable pub openingOf : ℕ → List ℕ → Opening

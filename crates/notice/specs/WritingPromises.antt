@@ -8,6 +8,7 @@ use Rattle.format.specs.Message.{writeMessage}
 use Rattle.format.specs.Promises.{Lays}
 use Rattle.format.specs.declared.Refusal.{Refusal}
 use Rattle.notice_fields.specs.Row.{areasLong}
+use Rattle.notice_fields.specs.Terms.{Terms}
 use Rattle.notice.specs.Notice.{notices}
 use Rattle.notice.specs.Record.{valuesOf}
 use Rattle.notice.specs.declared.reading.Notice.{Notice}
@@ -16,5 +17,5 @@ use Rattle.notice.specs.declared.reading.Notice.{Notice}
 abbrev pub enough : Notice → List ℕ → Bool
 enough r areas = leb (areasLong (r .count) areas) (length areas)
 
-abbrev pub NoticeWrites : Bool → List ℕ → Notice → List ℕ → List ℕ → Refusal → List ℕ → Type 0
-NoticeWrites english s r areas text = Lays (enough r areas) (writeMessage (notices english) (valuesOf (r, (areas, text)))) s
+abbrev pub NoticeWrites : Terms → List ℕ → Notice → List ℕ → List ℕ → Refusal → List ℕ → Type 0
+NoticeWrites c s r areas text = Lays (enough r areas) (writeMessage (notices c) (valuesOf (r, (areas, text)))) s

@@ -7,7 +7,7 @@ ghost use Rattle.format.specs.Correcting.{standing, StandsAt};
 ghost use Rattle.format.specs.Fmt.{none};
 ghost use Rattle.format.specs.Promises.{Corrects};
 ghost use Rattle.notice.specs.Changed.{spots};
-ghost use Rattle.notice.specs.Notice.{notices};
+ghost use Rattle.notice.specs.Notice.{ours, notices};
 use crate::reading::Notice;
 use crate::reading::fields;
 use change::correcting::Spot;
@@ -35,7 +35,7 @@ impl Notice {
 
 // Makes field number `field` of the notice be `value`, or leaves every byte.
 pub fn correct(buf: &mut [u8], english: bool, field: usize, value: u64) -> Refusal
-    ensures { λ refusal. ⌜ Corrects (notices english) (now (buf .entry)) field value refusal (now (buf .exit)) ⌝ }
+    ensures { λ refusal. ⌜ Corrects (notices (ours english)) (now (buf .entry)) field value refusal (now (buf .exit)) ⌝ }
 {
     let was = fields(buf, field, english);
     let walk = was.walk;

@@ -3,7 +3,7 @@ ghost use mathlib.Core.Path.{_≡_};
 ghost use Prim.Native.Nat.{_≤_};
 ghost use lib.ListN.{length};
 ghost use Rattle.format.specs.Message.{told, readMessage};
-ghost use Rattle.notice.specs.Notice.{notices, sizes};
+ghost use Rattle.notice.specs.Notice.{ours, notices, sizes};
 ghost use Rattle.notice.specs.Promises.{Reads};
 ghost use Rattle.notice.specs.Steps.{openingOf, endingOf, unreadBy, courseOf};
 ghost use Rattle.packet.specs.Packet.{joined};
@@ -75,7 +75,7 @@ pub struct Course {
 
 // Reads a notice: its record, the numbers of its areas into the front of the row, its text into the front of the buffer.
 pub fn read(s: &[u8], english: bool, areas: &mut [u32], text: &mut [u8]) -> Answer
-    ensures { λ r. ⌜ Reads english (now (s .entry)) (now (areas .entry)) (now (text .entry)) r (now (areas .exit)) (now (text .exit)) ⌝ }
+    ensures { λ r. ⌜ Reads (ours english) (now (s .entry)) (now (areas .entry)) (now (text .entry)) r (now (areas .exit)) (now (text .exit)) ⌝ }
 {
     let f = fields(s, 0, english);
     let walk = f.walk;
@@ -103,7 +103,7 @@ pub fn read(s: &[u8], english: bool, areas: &mut [u32], text: &mut [u8]) -> Answ
 
 // What reading a notice answers, where room is enough: its refusal, or none.
 pub fn refusal(s: &[u8], english: bool) -> Refusal
-    ensures { λ r. ⌜ r ≡ told (readMessage (notices english) (now (s .entry))) ⌝ }
+    ensures { λ r. ⌜ r ≡ told (readMessage (notices (ours english)) (now (s .entry))) ⌝ }
 {
     let course = fields(s, 0, english);
     let walk = course.walk;

@@ -5,7 +5,7 @@ use lib.Dec.{eqb}
 use Rattle.format.specs.Fmt.{Fmt}
 use Rattle.format.specs.Groups.{repeat, counted}
 use Rattle.format.specs.Words.{_‥_, _▹_, num, deciding}
-use Rattle.notice_fields.specs.Parts.{latitude, longitude}
+use Rattle.notice_fields.specs.Terms.{Point, pointOf}
 
 -- what an area is, by its number: 0 a sea area; 3 a circle; 1 points, 2 a line, 4 a polygon, which have so many points at least
 pub data Kind : Type 0 where
@@ -20,18 +20,15 @@ leastOf k = cond (eqb k 1) 1 (cond (eqb k 2) 2 3)
 abbrev pub kindOf : ℕ → Kind
 kindOf k = cond (eqb k 0) sea (cond (eqb k 3) circle (several (leastOf k)))
 
-abbrev pub point : Fmt → Fmt
-point f = latitude ▹ longitude ▹ f
-
--- what an area holds: a code; its middle, radius and unit; or its points, counted
-abbrev pub inside : Kind → Fmt → Fmt
-inside sea f = num 8 (0 ‥ 255) f
-inside circle f = point ▹ num 10 (0 ‥ 1_023) ▹ num 2 (0 ‥ 3) ▹ f
-inside (several least) f = counted 4 (least ‥ 15) point f
+-- what an area of such points holds: a code; its middle, radius and unit; or its points, counted
+abbrev pub inside : Point → Kind → Fmt → Fmt
+inside p sea f = num 8 (0 ‥ 255) f
+inside p circle f = pointOf p ▹ num 10 (0 ‥ 1_023) ▹ num 2 (0 ‥ 3) ▹ f
+inside p (several least) f = counted 4 (least ‥ 15) (pointOf p) f
 
 -- its kind decides
-abbrev pub area : Fmt → Fmt
-area f = deciding 3 (0 ‥ 4) λ k. inside (kindOf k) f
+abbrev pub area : Point → Fmt → Fmt
+area p f = deciding 3 (0 ‥ 4) λ k. inside p (kindOf k) f
 
-abbrev pub areas : ℕ → Fmt → Fmt
-areas n = repeat n area
+abbrev pub areas : Point → ℕ → Fmt → Fmt
+areas p n = repeat n (area p)

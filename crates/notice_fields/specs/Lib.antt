@@ -5,6 +5,7 @@ pub mod Row
 pub mod Spots
 pub mod Standing
 pub mod Steps
+pub mod Terms
 pub mod PartsSteps
 pub mod Shapes
 pub mod Making

@@ -59,12 +59,20 @@ fn moment(g: Pieces) -> Pieces
     day.piece(5, 0, 23).piece(6, 0, 59)
 }
 
-// South or west, degrees of d bits and no more than `most`, minutes, hundredths.
+// South or west, degrees of d bits and no more than `most`, minutes, hundredths. A refused part is left at once: the rest
+// would say nothing more, and so the good way keeps no refusal.
 fn angle(g: Pieces, d: usize, most: u64) -> Pieces
     ensures { λ r. ⌜ r ≡ piecewise (angle d most) [] g ⌝ }
 {
     let degrees = g.piece(1, 0, 1).piece(d, 0, most);
-    degrees.piece(6, 0, MINUTES).piece(7, 0, HUNDREDTHS)
+    if degrees.code != 0 {
+        return degrees;
+    }
+    let minutes = degrees.piece(6, 0, MINUTES);
+    if minutes.code != 0 {
+        return minutes;
+    }
+    minutes.piece(7, 0, HUNDREDTHS)
 }
 
 // ---- reading: by its number where it is there, so that the bytes are looked at once

@@ -13,7 +13,7 @@ use Rattle.gljc.specs.Gljc.{gljcs, recordOf as gljcOf}
 use Rattle.distress.specs.Report.{reports, reportOf, valuesOf as reportValues}
 use Rattle.distress.specs.Changed.{changed}
 use Rattle.distress.specs.declared.reading.Report.{Report}
-use Rattle.notice.specs.Notice.{notices}
+use Rattle.notice.specs.Notice.{ours, notices}
 use Rattle.notice.specs.Record.{Whole, headed, recordOf as noticeOf, valuesOf as noticeValues}
 use Rattle.packet.specs.Packet.{packets, valuesOf as packetValues, recordOf as packetRecord}
 use Rattle.places.specs.declared.Reply.{Reply}
@@ -95,14 +95,14 @@ noticeBytes fourth = 0x20 ∷ 0x80 ∷ 0x02 ∷ fourth ∷ 0x18 ∷ 0x00 ∷ 0x0
 
 -- G has no text: it is the same in either language
 abbrev pub noticeWritten : Bool → ℕ → List ℕ
-noticeWritten english year = bytes (writeMessage (notices english) (noticeValues (noticeWith year 0 [])))
+noticeWritten english year = bytes (writeMessage (notices (ours english)) (noticeValues (noticeWith year 0 [])))
 
 abbrev pub noticeRead : Bool → ℕ → List ℕ
-noticeRead english fourth = told (λ x. headed (x .0) (x .1 .0 ++ x .1 .1)) (readRecord (notices english) noticeOf (noticeBytes fourth))
+noticeRead english fourth = told (λ x. headed (x .0) (x .1 .0 ++ x .1 .1)) (readRecord (notices (ours english)) noticeOf (noticeBytes fourth))
 
 -- the year is field 3
 abbrev pub yearCorrected : Bool → ℕ → ℕ → List ℕ
-yearCorrected english fourth year = bytes (correctMessage (notices english) (noticeBytes fourth) 3 year)
+yearCorrected english fourth year = bytes (correctMessage (notices (ours english)) (noticeBytes fourth) 3 year)
 
 -- ---- I and J: packets and the desk
 
@@ -165,4 +165,4 @@ west = spelt 8 1 180 60 99
 
 -- both as a point of G's notice, which is written and drawn
 abbrev pub outlined : List ℕ
-outlined = told signs (after (writeMessage (notices true) (noticeValues (noticeWith 24 1 (1 ∷ 1 ∷ south ∷ west ∷ [])))) (λ s. drawn true s (pos 0 ∷ pos 0 ∷ [])))
+outlined = told signs (after (writeMessage (notices (ours true)) (noticeValues (noticeWith 24 1 (1 ∷ 1 ∷ south ∷ west ∷ [])))) (λ s. drawn true s (pos 0 ∷ pos 0 ∷ [])))

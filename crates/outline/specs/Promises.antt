@@ -7,7 +7,7 @@ use lib.IntN.{ℤ}
 use Rattle.format.specs.Fmt.{Out, accepted, also}
 use Rattle.format.specs.Message.{leaves, into}
 use Rattle.format.specs.Promises.{answered, refusedBy, readRecord}
-use Rattle.notice.specs.Notice.{notices}
+use Rattle.notice.specs.Notice.{ours, notices}
 use Rattle.notice.specs.Record.{Whole, recordOf}
 use Rattle.outline.specs.Outline.{outlineOf, pointCount}
 use Rattle.outline.specs.declared.Answer.{Answer}
@@ -15,7 +15,7 @@ use Rattle.outline.specs.declared.Answer.the-variants.{Good, Refused}
 
 -- the notice that the bytes are read as
 abbrev pub told : Bool → List ℕ → Out Whole
-told english s = readRecord (notices english) recordOf s
+told english s = readRecord (notices (ours english)) recordOf s
 
 -- a notice's points, and how many they are
 abbrev pub outlineIn : Whole → List ℤ

@@ -8,7 +8,7 @@ use Rattle.format.specs.Fmt.{Fmt, end}
 use Rattle.format.specs.Groups.{repeat, counted}
 use Rattle.format.specs.Message.{Layout}
 use Rattle.format.specs.Words.{Test, _‥_, _▹_, num, deciding, ago}
-use Rattle.notice_fields.specs.Areas.{point}
+use Rattle.notice_fields.specs.Terms.{point}
 use Rattle.notice_fields.specs.Parts.{time}
 
 -- by the position type: a port's code, which is carried, or a point, which is the notice's

@@ -14,8 +14,8 @@ use Rattle.format.specs.Refusals.{bare}
 use Rattle.format.specs.declared.Refusal.{Refusal}
 use Rattle.format.specs.Settled.{Stays, SettledBy}
 use Rattle.format.specs.laws.Settled.{settled-with}
-use Rattle.notice.specs.Changed.{spotOf, changed}
-use Rattle.notice.specs.Notice.{notices}
+use Rattle.notice.specs.Changed.{ourSpot, changed}
+use Rattle.notice.specs.Notice.{ours, notices}
 use Rattle.notice.specs.Record.{Whole, valuesOf}
 use Rattle.format.specs.Promises.{Lays}
 use Rattle.notice.specs.WritingPromises.{enough, NoticeWrites}
@@ -42,7 +42,7 @@ one-txhz s b address receiver count c d t u = one-answer (λ c. leaves (txhzInto
 
 pub one-writing : (language : ℕ) (s : List ℕ) (r : Notice) (row text : List ℕ) (c d : Refusal) (t u : List ℕ) → WritesIn language s r row text c t → WritesIn language s r row text d u → (c ≡ d) × (t ≡ u)
 one-writing language s r row text c d t u =
-    let o = spoken language (λ english. writeMessage (notices english) (valuesOf (r, (row, text)))) in
+    let o = spoken language (λ english. writeMessage (notices (ours english)) (valuesOf (r, (row, text)))) in
     one-answer (λ c. cond (enough r row) (leaves (into s o) s) s)
 
 pub one-notice : (language : ℕ) (s : List ℕ) (row : List ℤ) (areas text : List ℕ) (c d : Refusal) (row₁ row₂ : List ℤ) (areas₁ text₁ areas₂ text₂ : List ℕ)
@@ -56,7 +56,7 @@ one-notice language s row areas text c d row₁ row₂ areas₁ text₁ areas₂
 pub corrected : (language : ℕ) (s : List ℕ) (row : List ℤ) (areas text : List ℕ) (c : Refusal) (row′ : List ℤ) (areas′ text′ : List ℕ) → Bytes s → NoticeFills language s row areas text c row′ areas′ text′ → (c .code ≡ 6 → ⊥)
     → (i v : ℕ) (code : Refusal) (t : List ℕ) → CorrectsIn language s i v code t
     → cond (leb language 1)
-    (SettledBy (λ x u d y. let z = changed i v x in WritesIn language u (z .0) (z .1 .0) (z .1 .1) d y) (λ x. spotOf x i) false s (check (fault (c .code)) (c .bit) (accepted (wholeOf (toldIn row′) areas′ text′))) v code t)
+    (SettledBy (λ x u d y. let z = changed i v x in WritesIn language u (z .0) (z .1 .0) (z .1 .1) d y) (λ x. ourSpot x i) false s (check (fault (c .code)) (c .bit) (accepted (wholeOf (toldIn row′) areas′ text′))) v code t)
     (Stays (bare 4) s code t)
 corrected language s row areas text c row′ areas′ text′ fine fills roomed i v code t corrects = go (leb language 1) refl corrects
   where
@@ -66,12 +66,12 @@ corrected language s row areas text c row′ areas′ text′ fine fills roomed 
     o : Out Whole
     o = check (fault (c .code)) (c .bit) (accepted (wholeOf (toldIn row′) areas′ text′))
 
-    go : (b : Bool) → leb language 1 ≡ b → (code ≡ told (check (orBad b 4) 0 (correctMessage (notices english) s i v))) × (t ≡ leaves (check (orBad b 4) 0 (correctMessage (notices english) s i v)) s)
-        → cond b (SettledBy (λ x u d y. let z = changed i v x in WritesIn language u (z .0) (z .1 .0) (z .1 .1) d y) (λ x. spotOf x i) false s o v code t) (Stays (bare 4) s code t)
+    go : (b : Bool) → leb language 1 ≡ b → (code ≡ told (check (orBad b 4) 0 (correctMessage (notices (ours english)) s i v))) × (t ≡ leaves (check (orBad b 4) 0 (correctMessage (notices (ours english)) s i v)) s)
+        → cond b (SettledBy (λ x u d y. let z = changed i v x in WritesIn language u (z .0) (z .1 .0) (z .1 .1) d y) (λ x. ourSpot x i) false s o v code t) (Stays (bare 4) s code t)
     go false e x = x
     go true e x =
         let (own, reads) = told-in language s row areas text (leb-true language 1 e) fills roomed in
-        settled-with (λ x. spotOf x i) false s v (λ x u d y. let z = changed i v x in NoticeWrites english u (z .0) (z .1 .0) (z .1 .1) d y) _ o code t
+        settled-with (λ x. ourSpot x i) false s v (λ x u d y. let z = changed i v x in NoticeWrites (ours english) u (z .0) (z .1 .0) (z .1 .1) d y) _ o code t
         (λ x p w is there u d y. let z = changed i v x in
-        subst (λ b. Lays (enough (z .0) (z .1 .0)) (check (orBad b 4) 0 (writeMessage (notices english) (valuesOf z))) u d y) e)
-        (corrected-notice english s areas text (toldIn row′) areas′ text′ fine c own reads i v code t x)
+        subst (λ b. Lays (enough (z .0) (z .1 .0)) (check (orBad b 4) 0 (writeMessage (notices (ours english)) (valuesOf z))) u d y) e)
+        (corrected-notice (ours english) s areas text (toldIn row′) areas′ text′ fine c own reads i v code t x)

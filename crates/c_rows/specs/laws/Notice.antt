@@ -16,7 +16,7 @@ use Rattle.format.specs.Promises.{readRecord, answered}
 use Rattle.format.specs.laws.Zero.{read-zero-message}
 use Rattle.c_rows.specs.Row.{Fills}
 use Rattle.c_rows.specs.laws.Row.{row-full, one-filling}
-use Rattle.notice.specs.Notice.{notices}
+use Rattle.notice.specs.Notice.{ours, notices}
 use Rattle.notice.specs.Record.{Whole, recordOf as wholeOf}
 use Rattle.notice.specs.Promises.{housed, toldOf, answerOf, Reads}
 use Rattle.notice.specs.laws.Sound.{judged}
@@ -31,14 +31,14 @@ refused-lent (accepted x) row areas text c row′ areas′ text′ l n = absurd 
 refused-lent (refused d p) row areas text c row′ areas′ text′ l n = (l .1, l .2, l .3)
 
 -- no notice is refused by 0
-named : (english : Bool) (s : List ℕ) (p : ℕ) → readMessage (notices english) s ≡ refused 0 p → ⊥
+named : (english : Bool) (s : List ℕ) (p : ℕ) → readMessage (notices (ours english)) s ≡ refused 0 p → ⊥
 unfolding notices
-named english s p = read-zero-message (notices english) s p (judged english)
+named english s p = read-zero-message (notices (ours english)) s p (judged (ours english))
 
 -- a good notice found room for its areas and its text
-pub good-rooms : (english : Bool) (s areas text : List ℕ) {r : Told} → Good r ≡ answerOf (housed (length areas) (length text) (readRecord (notices english) wholeOf s))
+pub good-rooms : (english : Bool) (s areas text : List ℕ) {r : Told} → Good r ≡ answerOf (housed (length areas) (length text) (readRecord (notices (ours english)) wholeOf s))
     → (r .numbers ≤ length areas) × (r .text ≤ length text)
-good-rooms english s areas text {r} = go (readRecord (notices english) wholeOf s)
+good-rooms english s areas text {r} = go (readRecord (notices (ours english)) wholeOf s)
   where
     fits : (x : Whole) (m n : Bool) → leb (length (x .1 .0)) (length areas) ≡ m → leb (length (x .1 .1)) (length text) ≡ n
         → Good r ≡ answerOf (check (orBad (m && n) 6) 0 (accepted x)) → (r .numbers ≤ length areas) × (r .text ≤ length text)
@@ -60,7 +60,7 @@ module _ (language : ℕ) (s : List ℕ) (row : List ℤ) (areas text : List ℕ
 
   module _ (either : language ≤ 1) where
     abbrev found : Out (List ℕ)
-    found = readMessage (notices (eqb language 1)) s
+    found = readMessage (notices (ours (eqb language 1))) s
 
     abbrev housing : Out Whole → Out Whole
     housing = housed (length areas) (length text)
@@ -82,7 +82,7 @@ module _ (language : ℕ) (s : List ℕ) (row : List ℤ) (areas text : List ℕ
             none false = (refl, refl, refl, refl)
 
     module _ {areas′ text′ : List ℕ} (ten : 10 ≤ length row) where
-      pub lent-good : {r : Told} {c : Refusal} {row′ : List ℤ} → Reads (eqb language 1) s areas text (Good r) areas′ text′ → Fills (accepted (rowOf r)) row c row′ → NoticeFills language s row areas text c row′ areas′ text′
+      pub lent-good : {r : Told} {c : Refusal} {row′ : List ℤ} → Reads (ours (eqb language 1)) s areas text (Good r) areas′ text′ → Fills (accepted (rowOf r)) row c row′ → NoticeFills language s row areas text c row′ areas′ text′
       lent-good {r} {c} {row′} (e, a, t) f = fills-in (go (housing (also wholeOf found)) e a t)
         where
           go : (o : Out Whole) → Good r ≡ answerOf o → areas′ ≡ answered (λ x. ahead (x .1 .0) areas) (λ c. areas) o → text′ ≡ answered (λ x. ahead (x .1 .1) text) (λ c. text) o
@@ -93,7 +93,7 @@ module _ (language : ℕ) (s : List ℕ) (row : List ℤ) (areas text : List ℕ
               let full = one-filling f (row-full {o = accepted (rowOf r)} row {xs = rowOf r} refl ten) in
               rw (le-leb 10 (length row) ten) (full .0, full .1 ∙ ap (λ r. rowOf r ++ drop 10 row) is, a, t)
 
-      pub lent-bad : {d : Refusal} → Reads (eqb language 1) s areas text (Refused d) areas′ text′ → NoticeFills language s row areas text d row areas′ text′
+      pub lent-bad : {d : Refusal} → Reads (ours (eqb language 1)) s areas text (Refused d) areas′ text′ → NoticeFills language s row areas text d row areas′ text′
       lent-bad {d} (e, a, t) = fills-in (go (housing (also wholeOf found)) e a t)
         where
           go : (o : Out Whole) → Refused d ≡ answerOf o → areas′ ≡ answered (λ x. ahead (x .1 .0) areas) (λ c. areas) o → text′ ≡ answered (λ x. ahead (x .1 .1) text) (λ c. text) o
@@ -103,7 +103,7 @@ module _ (language : ℕ) (s : List ℕ) (row : List ℤ) (areas text : List ℕ
 
     -- A reading that did not want for room answers by the notice's own refusal; where that is none, the row tells what was read.
     pub told-in : {c : Refusal} {row′ : List ℤ} {areas′ text′ : List ℕ} → NoticeFills language s row areas text c row′ areas′ text′ → (c .code ≡ 6 → ⊥)
-        → (c ≡ told found) × (c .code ≡ 0 → Reads (eqb language 1) s areas text (Good (toldIn row′)) areas′ text′)
+        → (c ≡ told found) × (c .code ≡ 0 → Reads (ours (eqb language 1)) s areas text (Good (toldIn row′)) areas′ text′)
     told-in {c} {row′} {areas′} {text′} fills roomed =
         go found (named (eqb language 1) s) (subst (λ b. Lent (check (orBad b 4) 0 (roomy (length row) (housing (also wholeOf found)))) row areas text c row′ areas′ text′) (le-leb language 1 either) fills)
       where

@@ -19,7 +19,7 @@ use Rattle.format.specs.laws.Round.{clash}
 use Rattle.ais.specs.Slots.{firstOf, slotsIn, slotsFor, addressed, broadcast}
 use Rattle.ais.specs.laws.Slots.{first-none}
 use Rattle.distress.specs.declared.reading.Report.{Report}
-use Rattle.notice.specs.Notice.{notices}
+use Rattle.notice.specs.Notice.{ours, notices}
 use Rattle.notice.specs.Promises.{housed, toldOf}
 use Rattle.notice.specs.Record.{Whole, recordOf as wholeOf, valuesOf as noticeValues}
 use Rattle.notice.specs.WritingPromises.{enough, NoticeWrites}
@@ -82,9 +82,9 @@ module _ (language : ℕ) (s : List ℕ) where
     pub refused-correcting : (code .code ≡ 0 → ⊥) → t ≡ s
     refused-correcting = refused-stands (correcting language s i v) s t code (e .0) (e .1)
 
-    pub zero-correcting : code .code ≡ 0 → (language ≤ 1) × Corrects (notices (eqb language 1)) s i v code t
+    pub zero-correcting : code .code ≡ 0 → (language ≤ 1) × Corrects (notices (ours (eqb language 1))) s i v code t
     zero-correcting z =
-        let o : Bool → Out (List ℕ) = λ english. correctMessage (notices english) s i v in
+        let o : Bool → Out (List ℕ) = λ english. correctMessage (notices (ours english)) s i v in
         let l = spoken-zero language o told code refl (e .0) z in
         let is = spoken-good language o l in
         (leb-true language 1 l, (e .0 ∙ ap told is, e .1 ∙ ap (λ o. leaves o s) is))
@@ -104,12 +104,12 @@ module _ (language : ℕ) (s : List ℕ) where
   -- writing a notice
   module _ (r : Notice) (areas text : List ℕ) (code : Refusal) (t : List ℕ) (e : WritesIn language s r areas text code t) where
     abbrev written : Bool → Out (List ℕ)
-    written english = writeMessage (notices english) (noticeValues (r, (areas, text)))
+    written english = writeMessage (notices (ours english)) (noticeValues (r, (areas, text)))
 
     pub refused-notice-writing : (code .code ≡ 0 → ⊥) → t ≡ s
     refused-notice-writing = refused-laying (enough r areas) (spoken language written) s code t e
 
-    pub zero-notice-writing : code .code ≡ 0 → (language ≤ 1) × NoticeWrites (eqb language 1) s r areas text code t
+    pub zero-notice-writing : code .code ≡ 0 → (language ≤ 1) × NoticeWrites (ours (eqb language 1)) s r areas text code t
     zero-notice-writing z =
         let l = spoken-zero language written (λ o. told (into (cond (enough r areas) s []) o)) code refl (e .0) z in
         (leb-true language 1 l, subst (λ o. Lays (enough r areas) o s code t) (spoken-good language written l) e)
@@ -117,18 +117,18 @@ module _ (language : ℕ) (s : List ℕ) where
   -- reading a notice (a refusal: Notice `refused-lent`)
   module _ (row : List ℤ) (areas text : List ℕ) (code : Refusal) (row′ : List ℤ) (areas′ text′ : List ℕ) (e : NoticeFills language s row areas text code row′ areas′ text′) where
     abbrev found : Bool → Out Whole
-    found english = readRecord (notices english) wholeOf s
+    found english = readRecord (notices (ours english)) wholeOf s
 
     abbrev fits : Whole → Bool
     fits x = leb (length (x .1 .0)) (length areas) && leb (length (x .1 .1)) (length text)
 
     pub zero-notice : code .code ≡ 0
-        → (language ≤ 1) × (10 ≤ length row) × (x : Whole) × (readRecord (notices (eqb language 1)) wholeOf s ≡ accepted x) × (row′ ≡ rowOf (toldOf x) ++ drop 10 row) × (areas′ ≡ ahead (x .1 .0) areas) × (text′ ≡ ahead (x .1 .1) text)
+        → (language ≤ 1) × (10 ≤ length row) × (x : Whole) × (readRecord (notices (ours (eqb language 1))) wholeOf s ≡ accepted x) × (row′ ≡ rowOf (toldOf x) ++ drop 10 row) × (areas′ ≡ ahead (x .1 .0) areas) × (text′ ≡ ahead (x .1 .1) text)
     zero-notice z =
         let o : Bool → Out Whole = λ english. roomy (length row) (housed (length areas) (length text) (found english)) in
         let l = spoken-zero language o told code refl (e .0) z in
         let is = spoken-good language o l in
-        let never = never-read (noticeFamily (eqb language 1)) s in
+        let never = never-read (noticeFamily (ours (eqb language 1))) s in
         let (y, there, ten, whole) = tested-zero (λ x. leb 10 (length row)) (tested fits (found (eqb language 1))) (tested-never fits (found (eqb language 1)) never) (ap (λ o. told o .code) (sym is) ∙ ap (λ r. r .code) (sym (e .0)) ∙ z) in
         let (x, reads, _, inside) = tested-zero fits (found (eqb language 1)) never (ap (λ o. told o .code) there) in
         let all = is ∙ whole ∙ sym there ∙ inside in (

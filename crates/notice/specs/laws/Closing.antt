@@ -25,7 +25,7 @@ use Rattle.walk.specs.laws.Walked.{Walked, finish, same-values}
 use Rattle.walk.specs.declared.walk.Walk.{Walk}
 use Rattle.packet.specs.Packet.{joined}
 use Rattle.text.specs.Text.{inLanguage}
-use Rattle.notice.specs.Notice.{text}
+use Rattle.notice.specs.Notice.{ours, text}
 use Rattle.notice.specs.Record.{texted}
 use Rattle.notice.specs.Steps.{textWalked, endingOf}
 use Rattle.notice.specs.declared.reading.Ending.{Ending}
@@ -61,7 +61,7 @@ text-steps english s at n h c fits small is = record {
 
 -- the text from r on, and the end
 pub record ClosedIs (english : Bool) (s : List ℕ) (r : Walk) (t : Ending) : Type 0 where
-  pub on : {o : Out (List ℕ)} {all : Fmt} {i : ℕ} {us : List ℕ} → Going o all i s (text english ▹ end) us r → Walked o all i (us ++ texted (bytesAt s (r .at) (t .text))) (t .walk)
+  pub on : {o : Out (List ℕ)} {all : Fmt} {i : ℕ} {us : List ℕ} → Going o all i s (text (ours english) ▹ end) us r → Walked o all i (us ++ texted (bytesAt s (r .at) (t .text))) (t .walk)
   pub fits : t .walk .code ≡ 0 → (r .code ≡ 0) × (r .at ≤ length s * 8 → r .at + t .text * 8 ≤ length s * 8)
 
 module _ (english : Bool) (s : List ℕ) (r : Walk) where

@@ -19,6 +19,7 @@ use Rattle.notice_fields.specs.Row.{areasLong, areasTold}
 use Rattle.notice_fields.specs.Spots.{areaSpots}
 use Rattle.notice_fields.specs.laws.Spots.{areas-spots}
 use Rattle.notice.specs.Changed.{spots, spotOf, changed}
+use Rattle.notice_fields.specs.Terms.{Point, Terms}
 use Rattle.notice.specs.Notice.{text, rest, notice}
 use Rattle.notice.specs.Record.{Whole, headed, texted, valuesOf}
 use Rattle.notice.specs.declared.reading.Notice.{Notice}
@@ -31,11 +32,11 @@ Lent x = (areasLong (x .0 .count) (x .1 .0) ≡ length (x .1 .0)) × Bytes (x .1
 -- ---- where fields stand
 
 -- the head's, the same whatever follows
-pub head-stands : (english : Bool) (r : Notice) (us : List ℕ) (i : ℕ) → i < 8 → spot (notice english) [] (headed r us) i ≡ getD spots i none
+pub head-stands : (terms : Terms) (r : Notice) (us : List ℕ) (i : ℕ) → i < 8 → spot (notice terms) [] (headed r us) i ≡ getD spots i none
 unfolding notice spotsAlong
-head-stands english r us i l =
+head-stands terms r us i l =
     let before = r .count ∷ r .expiry ∷ r .subtype ∷ r .kind ∷ r .year ∷ r .serial ∷ r .station ∷ r .source ∷ [] in
-    spot-along (notice english) (headed r us) i ∙ List·getD-append spots (spotsAlong (rest english (r .count)) before us 63) none i l
+    spot-along (notice terms) (headed r us) i ∙ List·getD-append spots (spotsAlong (rest terms (r .count)) before us 63) none i l
 
 -- a number that names none of them is one behind it, or finds nothing
 pub not-head : (i : ℕ) (x : Spot) → Unnamed Unit spots 0 i → cond (ltb i 8) (getD spots i none) x ≡ cond (ltb i 8) none x
@@ -50,47 +51,48 @@ unplaced (x ∷ l) zero = refl
 unplaced (x ∷ l) (suc i) = unplaced l i
 
 -- Which fields of a notice may be corrected, and where they stand: those of the paper's table, whatever the notice.
-pub spotted : (english : Bool) (x : Whole) (i : ℕ) → spot (notice english) [] (valuesOf x) i ≡ spotOf x i
+pub spotted : (terms : Terms) (x : Whole) (i : ℕ) → spot (notice terms) [] (valuesOf x) i ≡ spotOf (terms .point) x i
 unfolding notice valuesOf spotsAlong
-spotted english x i =
+spotted terms x i =
     let r = x .0 in
     let before = r .count ∷ r .expiry ∷ r .subtype ∷ r .kind ∷ r .year ∷ r .serial ∷ r .station ∷ r .source ∷ [] in
-    let places = areaSpots (r .count) (x .1 .0) 63 in
-    spot-along (notice english) (valuesOf x) i
-    ∙ ap (λ l. getD (spots ++ l) i none) (areas-spots (r .count) (x .1 .0) (text english end) before (texted (x .1 .1)) 63 (none ∷ none ∷ []) (λ h at. refl))
+    let p = terms .point in
+    let places = areaSpots (p .latitudeBits) (p .longitudeBits) (r .count) (x .1 .0) 63 in
+    spot-along (notice terms) (valuesOf x) i
+    ∙ ap (λ l. getD (spots ++ l) i none) (areas-spots p (r .count) (x .1 .0) (text terms end) before (texted (x .1 .1)) 63 (none ∷ none ∷ []) (λ h at. refl))
     ∙ unplaced (spots ++ places) i
 
 -- the head's, the same in every notice
-pub head-spotted : (english : Bool) (x : Whole) (i : ℕ) → i < 8 → spot (notice english) [] (valuesOf x) i ≡ getD spots i none
-head-spotted english x i l = spotted english x i ∙ List·getD-append spots (areaSpots (x .0 .count) (x .1 .0) 63) none i l
+pub head-spotted : (terms : Terms) (x : Whole) (i : ℕ) → i < 8 → spot (notice terms) [] (valuesOf x) i ≡ getD spots i none
+head-spotted terms x i l = spotted terms x i ∙ List·getD-append spots (areaSpots (terms .point .latitudeBits) (terms .point .longitudeBits) (x .0 .count) (x .1 .0) 63) none i l
 
 -- a text may not be corrected
-text-kept : (english : Bool) (t h : List ℕ) (k : ℕ) → spot (text english end) h (texted t) k ≡ none
+text-kept : (terms : Terms) (t h : List ℕ) (k : ℕ) → spot (text terms end) h (texted t) k ≡ none
 unfolding spot
-text-kept english t h zero = refl
-text-kept english t h (suc zero) = refl
-text-kept english t h (suc (suc k)) = refl
+text-kept terms t h zero = refl
+text-kept terms t h (suc zero) = refl
+text-kept terms t h (suc (suc k)) = refl
 
 -- ---- a number of the row
 
 -- what opens a longer row exactly is an exact row
-opening : (n : ℕ) (row us : List ℕ) → areasLong n (row ++ us) ≡ length row → areasLong n row ≡ length row
-opening n row us e =
+opening : (p : Point) (n : ℕ) (row us : List ℕ) → areasLong n (row ++ us) ≡ length row → areasLong n row ≡ length row
+opening p n row us e =
     let all = row ++ us in
     let a = areasLong n all in
-    let is : areasTold n all ≡ row = some-areas n .fits all (omega (arith, e, length-append row us)) ∙ take-at row us a (sym e) in
-    subst (λ l. areasLong n l ≡ length l) is (exact-told (some-areas n) all)
+    let is : areasTold n all ≡ row = some-areas p n .fits all (omega (arith, e, length-append row us)) ∙ take-at row us a (sym e) in
+    subst (λ l. areasLong n l ≡ length l) is (exact-told (some-areas p n) all)
 
-module _ (english : Bool) (n : ℕ) (h row t : List ℕ) (j v : ℕ) {p w : ℕ} (exact : areasLong n row ≡ length row) (there : spot (rest english n) h (row ++ texted t) j ≡ found p w) where
-  behind : Past (rest english n) row (text english end)
-  behind = subst (λ l. Past (rest english n) l (text english end)) (told-exact (some-areas n) row exact) (some-areas n .past row (text english end))
+module _ (terms : Terms) (n : ℕ) (h row t : List ℕ) (j v : ℕ) {p w : ℕ} (exact : areasLong n row ≡ length row) (there : spot (rest terms n) h (row ++ texted t) j ≡ found p w) where
+  behind : Past (rest terms n) row (text terms end)
+  behind = subst (λ l. Past (rest terms n) l (text terms end)) (told-exact (some-areas (terms .point) n) row exact) (some-areas (terms .point) n .past row (text terms end))
 
   -- it is one,
   in-row : j < length row
   in-row = go (leb (length row) j) refl
     where
       go : (x : Bool) → leb (length row) j ≡ x → j < length row
-      go true e = let (h′, q, z) = past-found (rest english n) (text english end) h row (texted t) j behind (leb-true (length row) j e) there in none-clash (sym (text-kept english t h′ (j - length row)) ∙ z)
+      go true e = let (h′, q, z) = past-found (rest terms n) (text terms end) h row (texted t) j behind (leb-true (length row) j e) there in none-clash (sym (text-kept terms t h′ (j - length row)) ∙ z)
       go false e = leb-false (length row) j e
 
   -- and the changed row has as many
@@ -98,40 +100,40 @@ module _ (english : Bool) (n : ℕ) (h row t : List ℕ) (j v : ℕ) {p w : ℕ}
   row-set =
       let all = set (row ++ texted t) j v in
       let is : all ≡ set row j v ++ texted t = set-append-left row (texted t) j v in-row in
-      let (enough, y) = some-areas n .filled all (text english end) (filled-set (rest english n) h (row ++ texted t) j v (past-filled (rest english n) (text english end) row (texted t) behind tt) there) in
-      let (a, b, last) = two english (drop (areasLong n all) all) y in
+      let (enough, y) = some-areas (terms .point) n .filled all (text terms end) (filled-set (rest terms n) h (row ++ texted t) j v (past-filled (rest terms n) (text terms end) row (texted t) behind tt) there) in
+      let (a, b, last) = two terms (drop (areasLong n all) all) y in
       let long : areasLong n all ≡ length (set row j v) =
       omega (arith, enough, ap length last, length-drop (areasLong n all) all, length-set (row ++ texted t) j v, length-append row (texted t), length-set row j v) in
-      (opening n (set row j v) (texted t) (ap (areasLong n) (sym is) ∙ long), is)
+      (opening (terms .point) n (set row j v) (texted t) (ap (areasLong n) (sym is) ∙ long), is)
 
 -- ---- the record
 
 -- the row, changed or not
-row-changed : (english : Bool) (x : Whole) (i v p w : ℕ) (b : Bool) → leb 8 i ≡ b → areasLong (x .0 .count) (x .1 .0) ≡ length (x .1 .0) → spot (notice english) [] (valuesOf x) i ≡ found p w
+row-changed : (terms : Terms) (x : Whole) (i v p w : ℕ) (b : Bool) → leb 8 i ≡ b → areasLong (x .0 .count) (x .1 .0) ≡ length (x .1 .0) → spot (notice terms) [] (valuesOf x) i ≡ found p w
     → let n = x .0 .count in let row = cond b (set (x .1 .0) (i - 8) v) (x .1 .0) in
     (areasTold n row ++ texted (x .1 .1) ≡ eachAt i v 8 (areasTold n (x .1 .0) ++ texted (x .1 .1))) × (areasLong n row ≡ length row)
 unfolding notice valuesOf
-row-changed english x i v p w false k exact e = (sym (each-past i v 8 _ (leb-false 8 i k)), exact)
-row-changed english x i v p w true k exact e =
+row-changed terms x i v p w false k exact e = (sym (each-past i v 8 _ (leb-false 8 i k)), exact)
+row-changed terms x i v p w true k exact e =
     let r = x .0 in
     let n = r .count in
     let row = x .1 .0 in
     let t = texted (x .1 .1) in
     let j = i - 8 in
-    let told : areasTold n row ≡ row = told-exact (some-areas n) row exact in
-    let (h, q, there) = past-found (notice english) (rest english n) [] (headed r []) (areasTold n row ++ t) i refl (leb-true 8 i k) e in
-    let (exact′, is) = row-set english n h row (x .1 .1) j v exact (subst (λ l. spot (rest english n) h (l ++ t) j ≡ found q w) told there) in
+    let told : areasTold n row ≡ row = told-exact (some-areas (terms .point) n) row exact in
+    let (h, q, there) = past-found (notice terms) (rest terms n) [] (headed r []) (areasTold n row ++ t) i refl (leb-true 8 i k) e in
+    let (exact′, is) = row-set terms n h row (x .1 .1) j v exact (subst (λ l. spot (rest terms n) h (l ++ t) j ≡ found q w) told there) in
     let back : 8 + j ≡ i = omega (arith, leb-true 8 i k) in
-    (ap (_++ t) (told-exact (some-areas n) (set row j v) exact′) ∙ sym is ∙ ap (λ l. set (l ++ t) j v) (sym told) ∙ sym (each-from j v 8 (areasTold n row ++ t)) ∙ ap (λ i. eachAt i v 8 (areasTold n row ++ t)) back, exact′)
+    (ap (_++ t) (told-exact (some-areas (terms .point) n) (set row j v) exact′) ∙ sym is ∙ ap (λ l. set (l ++ t) j v) (sym told) ∙ sym (each-from j v 8 (areasTold n row ++ t)) ∙ ap (λ i. eachAt i v 8 (areasTold n row ++ t)) back, exact′)
 
 -- The changed record has the changed list of values.
-pub changes : (english : Bool) (x : Whole) (i v p w : ℕ) → Lent x → spot (notice english) [] (valuesOf x) i ≡ found p w → (valuesOf (changed i v x) ≡ set (valuesOf x) i v) × Lent (changed i v x)
+pub changes : (terms : Terms) (x : Whole) (i v p w : ℕ) → Lent x → spot (notice terms) [] (valuesOf x) i ≡ found p w → (valuesOf (changed i v x) ≡ set (valuesOf x) i v) × Lent (changed i v x)
 unfolding valuesOf changed eachAt
-changes english x i v p w (exact, fine) e =
+changes terms x i v p w (exact, fine) e =
     let r = x .0 in
-    let (rest, exact′) = row-changed english x i v p w (leb 8 i) refl exact e in
+    let (rest, exact′) = row-changed terms x i v p w (leb 8 i) refl exact e in
     let f : ℕ → ℕ → ℕ = λ k old. cond (eqb i k) v old in
-    let count = kept-entry (λ i. spot (notice english) [] (valuesOf x) i) i v e 7 (r .count) (head-spotted english x 7 (lit< tt)) in (
+    let count = kept-entry (λ i. spot (notice terms) [] (valuesOf x) i) i v e 7 (r .count) (head-spotted terms x 7 (lit< tt)) in (
       (λ y. f 0 (r .source) ∷ f 1 (r .station) ∷ f 2 (r .serial) ∷ f 3 (r .year) ∷ f 4 (r .kind) ∷ f 5 (r .subtype) ∷ f 6 (r .expiry) ∷ count y ∷ rest y) ∙ sym (set-each i v (valuesOf x)),
       (exact′, fine),
     )

@@ -26,7 +26,7 @@ use Rattle.walk.specs.declared.walk.Walk.{Walk}
 use Rattle.text.specs.Text.{inLanguage}
 use Rattle.notice_fields.specs.PartsSteps.{bare}
 use Rattle.notice_fields.specs.Standing.{front}
-use Rattle.notice.specs.Notice.{text}
+use Rattle.notice.specs.Notice.{ours, text}
 use Rattle.notice.specs.Record.{texted}
 
 -- the fault of a text's number is its language's
@@ -71,7 +71,7 @@ same-judged {o} w c r small x = record {
     go false e = rw (e, e) (ap (λ a. refused k (cond (eqb (r .code) 0) a (r .offset))) (sym here))
 
 pub text-judged : {o : Out (List Bool)} (english : Bool) (t : List ℕ) (c : ℕ) {r q : Walk} → Bytes t → r .at < 2 ^ 64 → c ≡ cond (inLanguage english t) 0 4 → q ≡ onward 0 false 0 c 0 r
-    → Going o (text english end) (texted t) r → Judged o (beyond (length t * 8) 0 q)
+    → Going o (text (ours english) end) (texted t) r → Judged o (beyond (length t * 8) 0 q)
 text-judged {o} english t c {r} {q} fine small is d x =
     let n = length t in
     let y = judge-bytes (omega arith) (x .is) in

@@ -11,18 +11,18 @@ use Rattle.walk.specs.Walk.{begun, onward}
 use Rattle.walk.specs.laws.Along.{Going, going}
 use Rattle.walk.specs.laws.Reading.{start, step-num, step-limits, step-decide, got-lt}
 use Rattle.notice_fields.specs.Standing.{front}
-use Rattle.notice_fields.specs.Parts.{subtype}
+use Rattle.notice_fields.specs.Parts.{subtypes, subtype}
 use Rattle.notice_fields.specs.PartsSteps.{leastSubtype, mostSubtype, expiryRead}
 use Rattle.notice_fields.specs.laws.Subtypes.{subtype-limits}
 use Rattle.notice_fields.specs.laws.PartsWalking.{expiry-read}
-use Rattle.notice.specs.Notice.{rest, notice}
+use Rattle.notice.specs.Notice.{ours, rest, notice}
 use Rattle.notice.specs.Record.{headed}
 use Rattle.notice.specs.Steps.{fieldsRead, openingOf}
 use Rattle.notice.specs.declared.reading.Opening.{Opening}
 
 -- reading stands at the areas
 pub record HeadIs (english : Bool) (i : ℕ) (s : List ℕ) (h : Opening) : Type 0 where
-  pub going : Going (fieldsRead english s) (notice english) i s (rest english (h .notice .count)) (headed (h .notice) []) (h .walk)
+  pub going : Going (fieldsRead english s) (notice (ours english)) i s (rest (ours english) (h .notice .count)) (headed (h .notice) []) (h .walk)
   pub here : h .walk .at ≡ front
   pub few : h .notice .count ≤ 15
 
@@ -36,13 +36,13 @@ opened english i s =
     let w5 = ranged s 4 true 1 8 4 w4 in
     let w6 = ranged s 4 true (leastSubtype (w5 .v)) (mostSubtype (w5 .v)) 4 w5 in
     let w7 = expiryRead s w6 in
-    let r0 = start (notice english) i 0 s refl in
+    let r0 = start (notice (ours english)) i 0 s refl in
     let r1 = step-num 5 (lit< tt) (lit≤ tt) (lit< tt) 1 21 r0 refl in
     let r2 = step-num 4 (lit< tt) (lit≤ tt) (lit< tt) 1 3 r1 refl in
     let r3 = step-num 14 (lit< tt) (lit≤ tt) (lit< tt) 1 9_999 r2 refl in
     let r4 = step-num 7 (lit< tt) (lit≤ tt) (lit< tt) 0 99 r3 refl in
     let r5 = step-num 4 (lit< tt) (lit≤ tt) (lit< tt) 1 8 r4 refl in
-    let r6 = step-limits 4 (lit< tt) (lit≤ tt) (lit< tt) 3 _ _ subtype (λ v. subtype-limits (w5 .v) _ v) r5 refl in
+    let r6 = step-limits 4 (lit< tt) (lit≤ tt) (lit< tt) 3 _ _ (subtype subtypes) (λ v. subtype-limits (w5 .v) _ v) r5 refl in
     let r7 = expiry-read (lit< tt) r6 refl in
     let r8 = step-decide 4 (lit< tt) (lit≤ tt) (lit< tt) 3 0 15 (0 ‥ 15) (λ v. refl) r7 refl in
     record {

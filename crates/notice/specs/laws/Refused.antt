@@ -11,16 +11,16 @@ use Rattle.format.specs.Message.{told, ahead}
 use Rattle.format.specs.Promises.{answered, readRecord}
 use Rattle.format.specs.laws.Family.{never-read}
 use Rattle.format.specs.laws.Lent.{tested-zero}
-use Rattle.notice.specs.Notice.{notices}
+use Rattle.notice.specs.Notice.{ours, notices}
 use Rattle.notice.specs.Promises.{housed, toldOf, answerOf, refusalOf, Reads}
 use Rattle.notice.specs.Record.{Whole, recordOf}
 use Rattle.notice.specs.declared.reading.Answer.{Answer}
 use Rattle.notice.specs.declared.reading.Answer.the-variants.{Good}
 use Rattle.notice.specs.laws.Demands.{family}
 
-module _ (english : Bool) (s areas text : List ℕ) (a : Answer) (areas′ text′ : List ℕ) (e : Reads english s areas text a areas′ text′) where
+module _ (english : Bool) (s areas text : List ℕ) (a : Answer) (areas′ text′ : List ℕ) (e : Reads (ours english) s areas text a areas′ text′) where
   abbrev read : Out Whole
-  read = housed (length areas) (length text) (readRecord (notices english) recordOf s)
+  read = housed (length areas) (length text) (readRecord (notices (ours english)) recordOf s)
 
   -- A refusal leaves the row and the buffer.
   pub refused-reading : (refusalOf a .code ≡ 0 → ⊥) → (areas′ ≡ areas) × (text′ ≡ text)
@@ -32,9 +32,9 @@ module _ (english : Bool) (s areas text : List ℕ) (a : Answer) (areas′ text�
 
   -- No refusal: the notice is read, its numbers and its text find room, and stand in front.
   pub zero-reading : refusalOf a .code ≡ 0
-      → (x : Whole) × (readRecord (notices english) recordOf s ≡ accepted x) × (length (x .1 .0) ≤ length areas) × (length (x .1 .1) ≤ length text) × (a ≡ Good (toldOf x)) × (areas′ ≡ ahead (x .1 .0) areas) × (text′ ≡ ahead (x .1 .1) text)
+      → (x : Whole) × (readRecord (notices (ours english)) recordOf s ≡ accepted x) × (length (x .1 .0) ≤ length areas) × (length (x .1 .1) ≤ length text) × (a ≡ Good (toldOf x)) × (areas′ ≡ ahead (x .1 .0) areas) × (text′ ≡ ahead (x .1 .1) text)
   zero-reading z =
-      let (x, is, fits, all) = tested-zero (λ x. leb (length (x .1 .0)) (length areas) && leb (length (x .1 .1)) (length text)) (readRecord (notices english) recordOf s) (never-read (family english) s) (number read (ap (λ a. refusalOf a .code) (sym (e .0)) ∙ z)) in
+      let (x, is, fits, all) = tested-zero (λ x. leb (length (x .1 .0)) (length areas) && leb (length (x .1 .1)) (length text)) (readRecord (notices (ours english)) recordOf s) (never-read (family (ours english)) s) (number read (ap (λ a. refusalOf a .code) (sym (e .0)) ∙ z)) in
       let (m, n) = and-eq-true-iff (leb (length (x .1 .0)) (length areas)) (leb (length (x .1 .1)) (length text)) .0 fits in (
         x,
         is,

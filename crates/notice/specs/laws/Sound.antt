@@ -14,12 +14,12 @@ use Rattle.format.specs.laws.Zero.{Numbered, Judged, only-numbered}
 use Rattle.notice_fields.specs.laws.Instances.{some-areas}
 use Rattle.notice_fields.specs.laws.PartsWalking.{expiry-numbered}
 use Rattle.packet.specs.Packet.{joined}
-use Rattle.text.specs.Text.{inLanguage}
+use Rattle.notice_fields.specs.Terms.{Terms}
 use Rattle.notice.specs.Notice.{text, notice, notices}
 
-pub sound : (english : Bool) → Sound (notices english)
+pub sound : (terms : Terms) → Sound (notices terms)
 unfolding notices
-sound english = record {
+sound terms = record {
   sized = λ s vs e. first (leb 8 (length s)) (leb (length s) joined);
   kinds = λ b vs e. refl;
   stays = λ vs i v p w e. refl;
@@ -32,8 +32,8 @@ sound english = record {
 
 -- ---- every judge refuses by a number of the paper
 
-spoken : (english : Bool) (n : ℕ) → Numbered (λ h b. unless (inLanguage english (bytesOf n b)) 4 0)
-spoken english n = (λ h b i. named (inLanguage english (bytesOf n b)), λ h b c i. points (inLanguage english (bytesOf n b)) b c i)
+spoken : (terms : Terms) (n : ℕ) → Numbered (λ h b. unless (terms .text (bytesOf n b)) 4 0)
+spoken terms n = (λ h b i. named (terms .text (bytesOf n b)), λ h b c i. points (terms .text (bytesOf n b)) b c i)
   where
     named : (x : Bool) {i : ℕ} → unless x 4 0 ≡ bad 0 i → ⊥
     named true e = let z : _≡_ {A = ℕ} 0 1 = cc in omega arith
@@ -43,9 +43,9 @@ spoken english n = (λ h b i. named (inLanguage english (bytesOf n b)), λ h b c
     points true b c i e = let z : _≡_ {A = ℕ} 0 1 = cc in absurd (omega arith)
     points false b c i e = let z : _≡_ {A = ℕ} 0 i = cc in omega arith
 
-pub judged : (english : Bool) → Judged (notice english)
+pub judged : (terms : Terms) → Judged (notice terms)
 unfolding notice
-judged english = (
+judged terms = (
   only-numbered 5 3 _,
   (
     only-numbered 4 3 _,
@@ -53,7 +53,7 @@ judged english = (
       only-numbered 14 3 _,
       (
         only-numbered 7 3 _,
-        (only-numbered 4 3 _, (only-numbered 4 3 _, (expiry-numbered, (only-numbered 4 3 _, λ n. some-areas n .judged (text english end) (λ m. (spoken english m, tt)))))),
+        (only-numbered 4 3 _, (only-numbered 4 3 _, (expiry-numbered, (only-numbered 4 3 _, λ n. some-areas (terms .point) n .judged (text terms end) (λ m. (spoken terms m, tt)))))),
       ),
     ),
   ),

@@ -1,6 +1,6 @@
 -- The record of a head's, areas' and text's values is these; the three ways in which reading answers; and what the walk over a notice is: reading's answer. Assumes nothing.
 use mathlib.Core.Path.{_≡_, refl, sym, ap, _∙_, subst⁻¹}
-use mathlib.Core.Bool.{Bool, true, false, cond, _&&_}
+use mathlib.Core.Bool.{Bool, true, false, cond, _&&_, and-false}
 use mathlib.Core.List.{List, [], _∷_, _++_}
 use Prim.Native.Nat.{ℕ, _+_, _-_, _*_, _≤_, _<_}
 use native.Mathlib.Omega.{arith}
@@ -30,7 +30,8 @@ use Rattle.notice_fields.specs.Steps.{areasWalked}
 use Rattle.notice_fields.specs.laws.Walking.{areas-along}
 use Rattle.notice_fields.specs.Shapes.{filled}
 use Rattle.packet.specs.Packet.{joined}
-use Rattle.notice.specs.Notice.{notice, notices, sizes}
+use Rattle.notice_fields.specs.Terms.{Terms}
+use Rattle.notice.specs.Notice.{ours, notice, notices, sizes}
 use Rattle.notice.specs.Steps.{fieldsRead, openingOf, endingOf, unreadBy, behind, courseOf}
 use Rattle.notice.specs.Changed.{spots}
 use Rattle.notice.specs.laws.Correction.{head-stands}
@@ -59,22 +60,18 @@ pub told : (r : Notice) (xs t : List ℕ) → Bytes t → recordOf (headed r (xs
 unfolding textOf
 told r xs t fine = recorded r xs (length t) (valueOf (bitsOf t)) ∙ ap (λ t. (r, (xs, t))) (run-again t fine)
 
-and-false : (b : Bool) → (b && false) ≡ false
-and-false true = refl
-and-false false = refl
-
-module _ (english : Bool) (s a t : List ℕ) where
-  pub reads-refused : {c p : ℕ} {r : Refusal} → r ≡ shown c p → readRecord (notices english) recordOf s ≡ refused c p → Reads english s a t (Refused r) a t
+module _ (terms : Terms) (s a t : List ℕ) where
+  pub reads-refused : {c p : ℕ} {r : Refusal} → r ≡ shown c p → readRecord (notices terms) recordOf s ≡ refused c p → Reads terms s a t (Refused r) a t
   reads-refused is e = rw e (ap Refused is, refl, refl)
 
-  module _ {x : Whole} (e : readRecord (notices english) recordOf s ≡ accepted x) where
-    pub reads-few : length a < length (x .1 .0) → Reads english s a t (Refused (bare 6)) a t
+  module _ {x : Whole} (e : readRecord (notices terms) recordOf s ≡ accepted x) where
+    pub reads-few : length a < length (x .1 .0) → Reads terms s a t (Refused (bare 6)) a t
     reads-few l = rw (e, lt-leb (length (x .1 .0)) (length a) l) (refl, refl, refl)
 
-    pub reads-short : length t < length (x .1 .1) → Reads english s a t (Refused (bare 6)) a t
+    pub reads-short : length t < length (x .1 .1) → Reads terms s a t (Refused (bare 6)) a t
     reads-short l = rw (e, lt-leb (length (x .1 .1)) (length t) l, and-false (leb (length (x .1 .0)) (length a))) (refl, refl, refl)
 
-    pub reads-good : length (x .1 .0) ≤ length a → length (x .1 .1) ≤ length t → Reads english s a t (Good (toldOf x)) (ahead (x .1 .0) a) (ahead (x .1 .1) t)
+    pub reads-good : length (x .1 .0) ≤ length a → length (x .1 .1) ≤ length t → Reads terms s a t (Good (toldOf x)) (ahead (x .1 .0) a) (ahead (x .1 .1) t)
     reads-good k l = rw (e, le-leb (length (x .1 .0)) (length a) k, le-leb (length (x .1 .1)) (length t) l) (refl, refl, refl)
 
 -- ---- what goes into what is lent
@@ -101,13 +98,13 @@ sizes-small s = go (leb 8 (length s)) (leb (length s) joined) refl
     go true false e z = absurd (omega (arith, z))
     go false false e z = absurd (omega (arith, z))
 
-read-on : (english : Bool) (s : List ℕ) → sizes s ≡ 0 → readMessage (notices english) s ≡ fieldsRead english s
+read-on : (english : Bool) (s : List ℕ) → sizes s ≡ 0 → readMessage (notices (ours english)) s ≡ fieldsRead english s
 unfolding notices
-read-on english s z = read-first (notices english) s refl ∙ ap (λ c. check (fault c) 0 (fieldsRead english s)) z
+read-on english s z = read-first (notices (ours english)) s refl ∙ ap (λ c. check (fault c) 0 (fieldsRead english s)) z
 
 -- a walk over the whole notice, sought for field i: the values that reading has, and where the text stands
 pub record FieldsAre (english : Bool) (i : ℕ) (s : List ℕ) (f : Course) : Type 0 where
-  pub walked : Walked (readMessage (notices english) s) (notice english) i (headed (f .notice) (areasAt s (f .notice .count) front ++ texted (bytesAt s (f .at) (f .text)))) (f .walk)
+  pub walked : Walked (readMessage (notices (ours english)) s) (notice (ours english)) i (headed (f .notice) (areasAt s (f .notice .count) front ++ texted (bytesAt s (f .at) (f .text)))) (f .walk)
   pub few : f .notice .count ≤ 15
   pub fits : f .walk .code ≡ 0 → f .at + f .text * 8 ≤ length s * 8
 
@@ -132,7 +129,7 @@ module _ (english : Bool) (i : ℕ) (s : List ℕ) where
   fields-not : (sizes s ≡ 0 → ⊥) → FieldsAre english i s (unreadBy (sizes s))
   unfolding notices
   fields-not n = record {
-    walked = record { so = read-first (notices english) s refl ∙ held-back (sizes s) (fieldsRead english s) n ∙ sym (stuck (begun (sizes s) 0) _ n); spots = λ z. absurd (n z); slim = omega arith };
+    walked = record { so = read-first (notices (ours english)) s refl ∙ held-back (sizes s) (fieldsRead english s) n ∙ sym (stuck (begun (sizes s) 0) _ n); spots = λ z. absurd (n z); slim = omega arith };
     few = omega arith;
     fits = λ z. absurd (n z);
   }
@@ -150,42 +147,42 @@ module _ (english : Bool) (i : ℕ) (s : List ℕ) (f : Course) (d : f ≡ cours
   x : FieldsAre english i s f
   x = fields-are english i s d
 
-  pub walked-good : f .walk .code ≡ 0 → readRecord (notices english) recordOf s ≡ accepted (f .notice, (areasAt s (f .notice .count) front, bytesAt s (f .at) (f .text)))
+  pub walked-good : f .walk .code ≡ 0 → readRecord (notices (ours english)) recordOf s ≡ accepted (f .notice, (areasAt s (f .notice .count) front, bytesAt s (f .at) (f .text)))
   walked-good k =
       ap (also recordOf) (x .walked .so ∙ clear (f .walk) _ k)
       ∙ ap accepted (told (f .notice) (areasAt s (f .notice .count) front) (bytesAt s (f .at) (f .text)) (bytes-run s (f .at) (f .text)))
 
-  pub walked-bad : (f .walk .code ≡ 0 → ⊥) → readMessage (notices english) s ≡ refused (f .walk .code) (f .walk .offset)
+  pub walked-bad : (f .walk .code ≡ 0 → ⊥) → readMessage (notices (ours english)) s ≡ refused (f .walk .code) (f .walk .offset)
   walked-bad n = x .walked .so ∙ stuck (f .walk) _ n
 
   -- what reading tells is what the walk's refusal tells
-  pub walked-refusal : {r : Refusal} → r ≡ shown (f .walk .code) (f .walk .offset) → r ≡ Message·told (readMessage (notices english) s)
+  pub walked-refusal : {r : Refusal} → r ≡ shown (f .walk .code) (f .walk .offset) → r ≡ Message·told (readMessage (notices (ours english)) s)
   walked-refusal is = is ∙ go (eqb (f .walk .code) 0) refl
     where
-      go : (t : Bool) → eqb (f .walk .code) 0 ≡ t → shown (f .walk .code) (f .walk .offset) ≡ Message·told (readMessage (notices english) s)
+      go : (t : Bool) → eqb (f .walk .code) 0 ≡ t → shown (f .walk .code) (f .walk .offset) ≡ Message·told (readMessage (notices (ours english)) s)
       go true t = let z = eqb-true (f .walk .code) 0 t in ap (λ c. shown c (f .walk .offset)) z ∙ sym (ap Message·told (x .walked .so ∙ clear (f .walk) _ z))
       go false t = sym (ap Message·told (walked-bad (eqb-false (f .walk .code) 0 t)))
 
-  walked-code : f .walk .code ≡ Message·told (readMessage (notices english) s) .code
+  walked-code : f .walk .code ≡ Message·told (readMessage (notices (ours english)) s) .code
   walked-code = ap (λ r. r .code) (walked-refusal refl)
 
   -- where the field i of a notice that was read stands: in the head, or where the walk found it
-  pub stands : (vs : List ℕ) → readMessage (notices english) s ≡ accepted vs → spot (notice english) [] vs i ≡ cond (ltb i 8) (getD spots i none) (standing (f .walk .spot) (f .walk .width))
+  pub stands : (vs : List ℕ) → readMessage (notices (ours english)) s ≡ accepted vs → spot (notice (ours english)) [] vs i ≡ cond (ltb i 8) (getD spots i none) (standing (f .walk .spot) (f .walk .width))
   stands vs a =
       let c : f .walk .code ≡ 0 = walked-code ∙ ap (λ o. Message·told o .code) a in
       let same = accepted-inj (sym (x .walked .so ∙ clear (f .walk) _ c) ∙ a) in
-      ap (λ vs. spot (notice english) [] vs i) (sym same) ∙ go c (ltb i 8) refl
+      ap (λ vs. spot (notice (ours english)) [] vs i) (sym same) ∙ go c (ltb i 8) refl
     where
       whole : List ℕ
       whole = headed (f .notice) (areasAt s (f .notice .count) front ++ texted (bytesAt s (f .at) (f .text)))
 
-      go : f .walk .code ≡ 0 → (b : Bool) → ltb i 8 ≡ b → spot (notice english) [] whole i ≡ cond b (getD spots i none) (standing (f .walk .spot) (f .walk .width))
-      go c true e = head-stands english (f .notice) _ i (ltb-true i 8 e)
+      go : f .walk .code ≡ 0 → (b : Bool) → ltb i 8 ≡ b → spot (notice (ours english)) [] whole i ≡ cond b (getD spots i none) (standing (f .walk .spot) (f .walk .width))
+      go c true e = head-stands (ours english) (f .notice) _ i (ltb-true i 8 e)
       go c false e = x .walked .spots c
 
   -- what was read has a good size, and so has all that is as long
-  pub fields-again : f .walk .code ≡ 0 → (t : List ℕ) → length t ≡ length s → readMessage (notices english) t ≡ fieldsRead english t
+  pub fields-again : f .walk .code ≡ 0 → (t : List ℕ) → length t ≡ length s → readMessage (notices (ours english)) t ≡ fieldsRead english t
   unfolding notices
   fields-again z t e =
-      let size : sizes s ≡ 0 = read-led (notices english) s (sym walked-code ∙ z) in
+      let size : sizes s ≡ 0 = read-led (notices (ours english)) s (sym walked-code ∙ z) in
       read-on english t (ap (λ n. cond (leb 8 n) (cond (between 8 joined n) 0 1) 1) e ∙ size)

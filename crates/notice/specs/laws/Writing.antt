@@ -18,7 +18,7 @@ use Rattle.walk.specs.laws.Step.{clear}
 use Rattle.walk.specs.declared.walk.Walk.{Walk}
 use Rattle.notice_fields.specs.Row.{areasLong}
 use Rattle.packet.specs.Packet.{joined}
-use Rattle.notice.specs.Notice.{notice, notices}
+use Rattle.notice.specs.Notice.{ours, notice, notices}
 use Rattle.notice.specs.Record.{valuesOf}
 use Rattle.notice.specs.declared.reading.Notice.{Notice}
 use Rattle.walk.specs.declared.making.Stepped.{Stepped}
@@ -45,21 +45,21 @@ module _ (english : Bool) (s : List ℕ) (r : Notice) (areas text : List ℕ) (s
   asked : all .code ≡ 0 → st .next ≡ areasLong (r .count) areas
   asked z = x .asked (before-text (length text * 8) (st .walk) z)
 
-  pub notice-refused : (code .code ≡ 0 → ⊥) → NoticeWrites english s r areas text code s
+  pub notice-refused : (code .code ≡ 0 → ⊥) → NoticeWrites (ours english) s r areas text code s
   unfolding notices
-  notice-refused = row-refused (notices english) values s all (x .judged) refl (omega arith) (length areas) (st .next) (areasLong (r .count) areas) asked is e
+  notice-refused = row-refused (notices (ours english)) values s all (x .judged) refl (omega arith) (length areas) (st .next) (areasLong (r .count) areas) asked is e
 
   -- an accepted notice: its values were written, and their size and room are good
   notice-fits : code .code ≡ 0 → Closes 8 joined room all
   notice-fits z = closes 8 joined room all (ap (λ r. r .code) (sym e) ∙ z)
 
-  pub notice-laid : code .code ≡ 0 → write (notice english) [] 0 values ≡ accepted (x .judged .laid)
+  pub notice-laid : code .code ≡ 0 → write (notice (ours english)) [] 0 values ≡ accepted (x .judged .laid)
   notice-laid z = x .judged .so ∙ clear all (accepted (x .judged .laid)) (notice-fits z .clean)
 
   pub text-small : code .code ≡ 0 → length text ≤ joined
   unfolding beyond
   text-small z = omega (arith, notice-fits z .small)
 
-  pub notice-stands : {t : List ℕ} → code .code ≡ 0 → Puts (notice english) values s t → NoticeWrites english s r areas text (bare 0) t
+  pub notice-stands : {t : List ℕ} → code .code ≡ 0 → Puts (notice (ours english)) values s t → NoticeWrites (ours english) s r areas text (bare 0) t
   unfolding notices
-  notice-stands = row-stands (notices english) values s all (x .judged) refl (omega arith) (length areas) (st .next) (areasLong (r .count) areas) asked is e
+  notice-stands = row-stands (notices (ours english)) values s all (x .judged) refl (omega arith) (length areas) (st .next) (areasLong (r .count) areas) asked is e

@@ -1,21 +1,19 @@
--- Points and areas are stretches of fields that a row tells: the laws on counted groups are theirs. Assumes nothing.
+-- Points and areas, of any kind of point, are stretches of fields that a row tells: the laws on counted groups are theirs. Assumes nothing.
 use Prim.Native.Nat.{ℕ}
-use Rattle.format.specs.Words.{wide}
+use Rattle.format.specs.laws.Zero.{walk-numbered}
 use Rattle.format.specs.laws.Groups.{Item, one, a-number, a-decider, next, counted-evenly, repeated}
-use Rattle.notice_fields.specs.Areas.{Kind, sea, circle, several, kindOf, point, inside, areas}
-use Rattle.notice_fields.specs.Parts.{latitudeBits, longitudeBits}
+use Rattle.notice_fields.specs.Areas.{Kind, sea, circle, several, kindOf, inside, areas}
+use Rattle.notice_fields.specs.Terms.{Point, pointOf}
 use Rattle.notice_fields.specs.Row.{insideLong, areasLong, pointTold, insideTold, areasTold}
-use Rattle.notice_fields.specs.laws.PartsWalking.{latitude-numbered, longitude-numbered}
 
 -- a point takes two numbers
-pub a-point : Item point pointTold (λ row. 2)
-unfolding wide
-a-point = next (one 0 latitudeBits _ _ latitude-numbered) (one 0 longitudeBits _ _ longitude-numbered)
+pub a-point : (p : Point) → Item (pointOf p) pointTold (λ row. 2)
+a-point p = next (one 0 (p .latitudeBits) _ _ (walk-numbered (p .latitude) (p .coded .0))) (one 0 (p .longitudeBits) _ _ (walk-numbered (p .longitude) (p .coded .1)))
 
-an-inside : (k : Kind) → Item (inside k) (insideTold k) (insideLong k)
-an-inside sea = a-number 0 8 _
-an-inside circle = next a-point (next (a-number 0 10 _) (a-number 0 2 _))
-an-inside (several least) = counted-evenly 0 4 _ a-point
+an-inside : (p : Point) (k : Kind) → Item (inside p k) (insideTold k) (insideLong k)
+an-inside p sea = a-number 0 8 _
+an-inside p circle = next (a-point p) (next (a-number 0 10 _) (a-number 0 2 _))
+an-inside p (several least) = counted-evenly 0 4 _ (a-point p)
 
-pub some-areas : (n : ℕ) → Item (areas n) (areasTold n) (areasLong n)
-some-areas n = repeated (a-decider 0 3 _ (λ k. an-inside (kindOf k))) n
+pub some-areas : (p : Point) (n : ℕ) → Item (areas p n) (areasTold n) (areasLong n)
+some-areas p n = repeated (a-decider 0 3 _ (λ k. an-inside p (kindOf k))) n

@@ -8,14 +8,14 @@ use lib.Dec.{eqb, lit<, lit≤}
 use lib.ListN.{getD}
 use borrow.Author.Tests.{eqb-true}
 use Rattle.format.specs.Groups.{repeat, repeatTold}
-use Rattle.format.specs.Words.{wide}
 use Rattle.walk.specs.Judging.{valued}
 use Rattle.walk.specs.Rows.{evenStep}
 use Rattle.walk.specs.laws.Judging.{valued-between}
 use Rattle.walk.specs.laws.RowsJudged.{Judges, judges-number, judges-parted, judges-next, judges-decided, judges-counted, judges-most, judges-as, judges-evenly, judges-repeated, even-judged-turn}
 use Rattle.walk.specs.declared.making.Stepped.{Stepped}
 use Rattle.walk.specs.declared.walk.Walk.{Walk}
-use Rattle.notice_fields.specs.Areas.{Kind, sea, circle, several, kindOf, point, inside, area, areas}
+use Rattle.notice_fields.specs.Areas.{Kind, sea, circle, several, kindOf, inside, area, areas}
+use Rattle.notice_fields.specs.Terms.{ourPoint, point}
 use Rattle.notice_fields.specs.Parts.{latitudeBits, longitudeBits, pointBits}
 use Rattle.notice_fields.specs.PartsSteps.{latitudeJudged, longitudeJudged}
 use Rattle.notice_fields.specs.Row.{insideLong, areaLong, longMost, areasLong, pointTold, insideTold, areaTold, areasTold}
@@ -25,20 +25,19 @@ use Rattle.notice_fields.specs.laws.PartsWalking.{latitude-parts, longit
 
 module _ (row : List ℕ) where
   pub a-point-judged : Judges row point pointTold (λ r. 2) pointBits (λ k r. record { walk = pointJudged row k r; next = k + 2 })
-  unfolding wide
   a-point-judged = judges-as (λ k r. let two : k + 1 + 1 ≡ k + 2 = omega arith in ap (λ n. record { walk = pointJudged row k r; next = n }) two)
       (judges-next (judges-parted row 0 latitudeBits latitude-parts) (judges-parted row 0 longitudeBits longitude-parts))
 
-  an-inside-judged : (j : Kind) → Judges row (inside j) (insideTold j) (insideLong j) insideMost (insideJudged row j)
+  an-inside-judged : (j : Kind) → Judges row (inside ourPoint j) (insideTold j) (insideLong j) insideMost (insideJudged row j)
   unfolding repeat repeatTold
   an-inside-judged sea = judges-most insideMost (lit≤ tt) (judges-number row 0 8 0 255 (lit< tt))
   an-inside-judged circle = judges-most insideMost (lit≤ tt) (judges-next (judges-evenly a-point-judged 1) (judges-next (judges-number row 0 10 0 1_023 (lit< tt)) (judges-number row 0 2 0 3 (lit< tt))))
   an-inside-judged (several least) = judges-counted row 0 4 least 15 (lit< tt) a-point-judged
 
-  an-area-judged : Judges row area areaTold areaLong areaMost (areaJudged row)
+  an-area-judged : Judges row (area ourPoint) areaTold areaLong areaMost (areaJudged row)
   an-area-judged = judges-decided row 0 3 0 4 (lit< tt) insideMost (λ k. an-inside-judged (kindOf k))
 
-  pub areas-judged : (n : ℕ) → Judges row (areas n) (areasTold n) (areasLong n) (n * areaMost) (areasJudged row n)
+  pub areas-judged : (n : ℕ) → Judges row (areas ourPoint n) (areasTold n) (areasLong n) (n * areaMost) (areasJudged row n)
   areas-judged n = judges-repeated an-area-judged n
 
 -- ---- turns of the loops

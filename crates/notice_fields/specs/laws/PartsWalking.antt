@@ -22,7 +22,8 @@ use Rattle.walk.specs.laws.Reading.{got-lt}
 use Rattle.walk.specs.laws.Step.{Reading}
 use Rattle.walk.specs.declared.pieces.Pieces.{Pieces}
 use Rattle.walk.specs.declared.walk.Walk.{Walk}
-use Rattle.notice_fields.specs.Parts.{moment, expiry, time, angle, latitude, longitude, latitudeBits, longitudeBits}
+use Rattle.notice_fields.specs.Parts.{moment, expiry, angle, latitudeBits, longitudeBits}
+use Rattle.notice_fields.specs.Terms.{angle-coded}
 use Rattle.notice_fields.specs.PartsSteps.{expiryPieces, expiryJudged, timeJudged, expiryRead, timeRead, latitudeRead, longitudeRead, latitudeJudged, longitudeJudged}
 
 -- ---- their refusals are numbers of the paper
@@ -30,20 +31,11 @@ use Rattle.notice_fields.specs.PartsSteps.{expiryPieces, expiryJudged, t
 moment-coded : Coded moment
 moment-coded = ((λ z. omega arith), ((λ z. omega arith), ((λ z. omega arith), ((λ z. omega arith), ((λ z. omega arith), tt)))))
 
-angle-coded : (d most : ℕ) → Coded (angle d most)
-angle-coded d most = ((λ z. omega arith), ((λ z. omega arith), ((λ z. omega arith), ((λ z. omega arith), tt))))
-
 pub time-numbered : Numbered (walk moment 0)
 time-numbered = walk-numbered moment moment-coded
 
 pub expiry-numbered : Numbered (orZero 21 (walk moment 0))
 expiry-numbered = zero-numbered 21 (walk moment 0) time-numbered
-
-pub latitude-numbered : Numbered (walk (angle 7 90) 0)
-latitude-numbered = walk-numbered (angle 7 90) (angle-coded 7 90)
-
-pub longitude-numbered : Numbered (walk (angle 8 180) 0)
-longitude-numbered = walk-numbered (angle 8 180) (angle-coded 8 180)
 
 -- ---- their parts judged; they look at no value before them
 

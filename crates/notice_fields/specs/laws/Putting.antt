@@ -7,10 +7,10 @@ use lib.Dec.{lit≤}
 use lib.ListN.{getD}
 use Rattle.format.specs.Correcting.{putIn}
 use Rattle.format.specs.Groups.{repeat, repeatTold}
-use Rattle.format.specs.Words.{wide}
 use Rattle.walk.specs.Rows.{Put, evenPutStep}
 use Rattle.walk.specs.laws.RowsPut.{Puts, puts-one, puts-next, puts-decided, puts-as, puts-evenly, puts-counted, puts-repeated, puts-near, even-put-turn}
-use Rattle.notice_fields.specs.Areas.{Kind, sea, circle, several, kindOf, point, inside, areas}
+use Rattle.notice_fields.specs.Areas.{Kind, sea, circle, several, kindOf, inside, areas}
+use Rattle.notice_fields.specs.Terms.{ourPoint, point}
 use Rattle.notice_fields.specs.Parts.{latitudeBits, longitudeBits, pointBits}
 use Rattle.notice_fields.specs.Row.{insideLong, longMost, areasLong, pointTold, insideTold, areasTold}
 use Rattle.notice_fields.specs.Standing.{areaMost}
@@ -18,7 +18,6 @@ use Rattle.notice_fields.specs.Making.{pointPut, pointsPut, insidePut, a
 
 module _ (row : List ℕ) where
   pub a-point-put : Puts row point pointTold (λ r. 2) (λ k at t. (record { at = at + pointBits; next = k + 2 }, pointPut row k at t))
-  unfolding wide
   a-point-put = puts-as
       (λ k at t.
       let two : k + 1 + 1 ≡ k + 2 = omega arith in
@@ -26,13 +25,13 @@ module _ (row : List ℕ) where
       λ i. (record { at = all i; next = two i }, pointPut row k at t))
       (puts-next (puts-one 0 latitudeBits _ _ (lit≤ tt)) (puts-one 0 longitudeBits _ _ (lit≤ tt)))
 
-  an-inside-put : (j : Kind) → Puts row (inside j) (insideTold j) (insideLong j) (insidePut row j)
+  an-inside-put : (j : Kind) → Puts row (inside ourPoint j) (insideTold j) (insideLong j) (insidePut row j)
   unfolding repeat repeatTold
   an-inside-put sea = puts-one 0 8 _ _ (lit≤ tt)
   an-inside-put circle = puts-next (puts-evenly pointBits a-point-put 1) (puts-next (puts-one 0 10 _ _ (lit≤ tt)) (puts-one 0 2 _ _ (lit≤ tt)))
   an-inside-put (several least) = puts-counted row 0 4 (lit≤ tt) _ pointBits a-point-put
 
-  pub areas-put : (n : ℕ) → Puts row (areas n) (areasTold n) (areasLong n) (areasPut row n)
+  pub areas-put : (n : ℕ) → Puts row (areas ourPoint n) (areasTold n) (areasLong n) (areasPut row n)
   areas-put n = puts-repeated (puts-decided row 0 3 (lit≤ tt) _ (λ k. an-inside-put (kindOf k))) n
 
 -- ---- turns of the loops

@@ -8,7 +8,7 @@ use Rattle.format.specs.Words.{_‥_}
 use Rattle.notice_fields.specs.Parts.{subtypes, subtype}
 use Rattle.notice_fields.specs.PartsSteps.{leastSubtype, mostSubtype}
 
-pub subtype-limits : (t : ℕ) (h : List ℕ) (v : ℕ) → subtype (t ∷ h) v ≡ (leastSubtype t ‥ mostSubtype t) (t ∷ h) v
+pub subtype-limits : (t : ℕ) (h : List ℕ) (v : ℕ) → subtype subtypes (t ∷ h) v ≡ (leastSubtype t ‥ mostSubtype t) (t ∷ h) v
 unfolding subtype subtypes leastSubtype mostSubtype
 subtype-limits t h v = go (eqb t 1) (eqb t 4 || eqb t 6) (eqb t 5)
   where

@@ -6,42 +6,40 @@ use mathlib.Core.List.{List, [], _∷_, append-nil}
 use lib.Dec.{eqb, lit<, lit≤}
 use Rattle.bits.specs.Answers.{got}
 use Rattle.format.specs.Groups.{repeat}
-use Rattle.format.specs.Words.{wide}
 use Rattle.walk.specs.Groups.{single, repeatWalked, repeatAt}
 use Rattle.walk.specs.laws.Along.{Along, stay}
-use Rattle.walk.specs.laws.Groups.{Stretch, valued, number, parted, guard, follows, decides, repeats, at-most, evenly, counts-evenly, walk-turn}
+use Rattle.walk.specs.laws.Groups.{Stretch, valued, number, parted as Groups·parted, guard, follows, decides, repeats, at-most, evenly, counts-evenly, walk-turn}
 use Rattle.walk.specs.Reading.{ranged}
 use Rattle.walk.specs.declared.walk.Walk.{Walk}
 use Rattle.notice_fields.specs.declared.areas.Opened.{Opened}
-use Rattle.notice_fields.specs.Areas.{Kind, sea, circle, several, kindOf, point, inside, area, areas}
-use Rattle.notice_fields.specs.Parts.{latitude, longitude, latitudeBits, longitudeBits, pointBits}
+use Rattle.notice_fields.specs.Areas.{Kind, sea, circle, several, kindOf, inside, area, areas}
+use Rattle.notice_fields.specs.Parts.{parted, angle, latitudeBits, longitudeBits, pointBits}
+use Rattle.notice_fields.specs.Terms.{ourPoint, point}
 use Rattle.notice_fields.specs.PartsSteps.{latitudeRead, longitudeRead}
 use Rattle.notice_fields.specs.Standing.{pointAt, insideAt, insideWide, insideMost, areaAt, areaWide, areaMost, areasAt}
 use Rattle.notice_fields.specs.Steps.{openedAs, closedAs, pointStep, insideStep, areaStep, areasWalked}
 use Rattle.notice_fields.specs.laws.PartsWalking.{latitude-parts, longitude-parts}
 
 module _ (s : List ℕ) where
-  pub latitude-field : Stretch s latitude (λ at. got s at latitudeBits ∷ []) (λ at. latitudeBits) latitudeBits (single (latitudeRead s))
-  unfolding wide
-  latitude-field = parted s latitudeBits (lit< tt) (lit≤ tt) latitude-parts
+  pub latitude-field : Stretch s (parted latitudeBits (angle 7 90)) (λ at. got s at latitudeBits ∷ []) (λ at. latitudeBits) latitudeBits (single (latitudeRead s))
+  latitude-field = Groups·parted s latitudeBits (lit< tt) (lit≤ tt) latitude-parts
 
-  pub longitude-field : Stretch s longitude (λ at. got s at longitudeBits ∷ []) (λ at. longitudeBits) longitudeBits (single (longitudeRead s))
-  unfolding wide
-  longitude-field = parted s longitudeBits (lit< tt) (lit≤ tt) longitude-parts
+  pub longitude-field : Stretch s (parted longitudeBits (angle 8 180)) (λ at. got s at longitudeBits ∷ []) (λ at. longitudeBits) longitudeBits (single (longitudeRead s))
+  longitude-field = Groups·parted s longitudeBits (lit< tt) (lit≤ tt) longitude-parts
 
   pub a-point-walked : Stretch s point (pointAt s) (λ at. pointBits) pointBits (pointStep s)
   a-point-walked = follows latitude-field (follows longitude-field guard)
 
-  an-inside : (k : Kind) → Stretch s (inside k) (insideAt k s) (insideWide k s) insideMost (insideStep s k)
+  an-inside : (k : Kind) → Stretch s (inside ourPoint k) (insideAt k s) (insideWide k s) insideMost (insideStep s k)
   unfolding openedAs closedAs repeat repeatAt repeatWalked
   an-inside sea = at-most insideMost (lit≤ tt) (number s 8 (lit< tt) (lit≤ tt) 0 255)
   an-inside circle = at-most insideMost (lit≤ tt) (follows (evenly a-point-walked 1) (follows (number s 10 (lit< tt) (lit≤ tt) 0 1_023) (number s 2 (lit< tt) (lit≤ tt) 0 3)))
   an-inside (several least) = counts-evenly s 4 15 (lit< tt) (lit≤ tt) least 15 refl a-point-walked
 
-  an-area : Stretch s area (areaAt s) (areaWide s) areaMost (areaStep s)
+  an-area : Stretch s (area ourPoint) (areaAt s) (areaWide s) areaMost (areaStep s)
   an-area = decides s 3 (lit< tt) (lit≤ tt) 0 4 insideMost (λ k l. an-inside (kindOf k))
 
-  pub areas-along : (n : ℕ) (r : Walk) → r .at + n * areaMost < 2 ^ 64 → Along s (areas n) (λ f. f) r (areasAt s n (r .at)) (areasWalked s n r)
+  pub areas-along : (n : ℕ) (r : Walk) → r .at + n * areaMost < 2 ^ 64 → Along s (areas ourPoint n) (λ f. f) r (areasAt s n (r .at)) (areasWalked s n r)
   areas-along n r reach = valued (append-nil (areasAt s n (r .at))) (repeats an-area n .on (λ w. w) r reach (λ w e. stay))
 
 -- ---- turns of the loops

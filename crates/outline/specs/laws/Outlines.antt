@@ -15,7 +15,7 @@ use Rattle.format.specs.Message.{readMessage, leaves, into}
 use Rattle.format.specs.Refusals.{shown, bare}
 use Rattle.format.specs.declared.Refusal.{Refusal}
 use Rattle.format.specs.laws.Zero.{read-zero-message}
-use Rattle.notice.specs.Notice.{notices}
+use Rattle.notice.specs.Notice.{ours, notices}
 use Rattle.notice.specs.Record.{Whole, recordOf}
 use Rattle.notice.specs.laws.Sound.{judged}
 use Rattle.outline.specs.Promises.{told, outlineIn, countIn, pointsTold, drawn, answerOf, Outlines}
@@ -53,12 +53,12 @@ module _ (english : Bool) (s : List ℕ) (row : List ℤ) where
   -- no refusal has the number 0
   pub no-zero-outline : (c : Refusal) (t : List ℤ) → c .code ≡ 0 → Outlines english s row (Refused c) t → ⊥
   unfolding notices
-  no-zero-outline c t z f = go (readMessage (notices english) s) refl (f .0)
+  no-zero-outline c t z f = go (readMessage (notices (ours english)) s) refl (f .0)
     where
       full : (b : Bool) (u : List ℤ) → Refused c ≡ answerOf (also (λ t. pointsTold english s) (check (orBad b 6) 0 (accepted u))) → ⊥
       full true u a = let k : _≡_ {A = ℕ} 0 1 = cc in omega (arith, k)
       full false u a = let k : c ≡ bare 6 = cc in omega (arith, z, ap (λ r. r .code) k)
 
-      go : (o : Out (List ℕ)) → readMessage (notices english) s ≡ o → Refused c ≡ answerOf (also (λ t. pointsTold english s) (into row (also outlineIn (also recordOf o)))) → ⊥
+      go : (o : Out (List ℕ)) → readMessage (notices (ours english)) s ≡ o → Refused c ≡ answerOf (also (λ t. pointsTold english s) (into row (also outlineIn (also recordOf o)))) → ⊥
       go (accepted vs) m a = full (leb (length (outlineIn (recordOf vs))) (length row)) _ a
-      go (refused d p) m a = let k : c ≡ shown d p = cc in read-zero-message (notices english) s p (judged english) (m ∙ ap (λ d. refused d p) (ap (λ r. r .code) (sym k) ∙ z))
+      go (refused d p) m a = let k : c ≡ shown d p = cc in read-zero-message (notices (ours english)) s p (judged (ours english)) (m ∙ ap (λ d. refused d p) (ap (λ r. r .code) (sym k) ∙ z))

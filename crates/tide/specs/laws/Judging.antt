@@ -19,7 +19,7 @@ use Rattle.walk.specs.laws.Rows.{here}
 use Rattle.walk.specs.laws.RowsJudged.{Judges, step-good, judges-number, judges-next, judges-decided, judges-counted, judges-most, judges-repeated}
 use Rattle.walk.specs.declared.making.Stepped.{Stepped}
 use Rattle.walk.specs.declared.walk.Walk.{Walk}
-use Rattle.notice_fields.specs.Areas.{point}
+use Rattle.notice_fields.specs.Terms.{point}
 use Rattle.notice_fields.specs.Making.{pointJudged}
 use Rattle.notice_fields.specs.Parts.{pointBits}
 use Rattle.notice_fields.specs.PartsSteps.{timeJudged}

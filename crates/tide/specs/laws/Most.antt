@@ -22,7 +22,7 @@ use Rattle.format.specs.laws.Groups.{even, told-long}
 use Rattle.format.specs.laws.Legal.{Legal, passed, ranged}
 use Rattle.format.specs.laws.Round.{read-write}
 use Rattle.format.specs.laws.Whole.{was, within-sizes}
-use Rattle.notice_fields.specs.Areas.{point}
+use Rattle.notice_fields.specs.Terms.{point}
 use Rattle.tide.specs.Heights.{entryOf, entriesOf, heightsOf}
 use Rattle.tide.specs.HeightsPromises.{heightsIn, heightsRead, answerOf as heightsAnswer, Shows}
 use Rattle.tide.specs.Limits.{mostNumbers, mostHeights}

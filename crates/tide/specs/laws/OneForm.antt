@@ -19,7 +19,7 @@ use Rattle.format.specs.laws.Family.{read-values}
 use Rattle.format.specs.laws.Legal.{Legal, legal, passed, ranged}
 use Rattle.format.specs.laws.Round.{read-write, accepted-inj}
 use Rattle.format.specs.laws.Whole.{was, read-write-message}
-use Rattle.notice_fields.specs.Areas.{point}
+use Rattle.notice_fields.specs.Terms.{point}
 use Rattle.tide.specs.Heights.{heightOf}
 use Rattle.tide.specs.Promises.{Reads}
 use Rattle.tide.specs.Record.{Whole, valuesOf, recordOf}

@@ -11,7 +11,7 @@ use Rattle.format.specs.Groups.{repeat, oneTold}
 use Rattle.format.specs.Words.{_‥_, num, wide}
 use Rattle.walk.specs.Rows.{Put, onePut, evenPutStep}
 use Rattle.walk.specs.laws.RowsPut.{Puts, puts-one, puts-next, puts-decided, puts-as, puts-counted, puts-repeated}
-use Rattle.notice_fields.specs.Areas.{point}
+use Rattle.notice_fields.specs.Terms.{point}
 use Rattle.notice_fields.specs.Making.{pointPut}
 use Rattle.notice_fields.specs.Parts.{pointBits}
 use Rattle.notice_fields.specs.Row.{pointTold}

@@ -11,7 +11,7 @@ use Rattle.format.specs.Words.{_‥_, wide, num}
 use Rattle.format.specs.laws.Codes.{codes-judged, headed-sound}
 use Rattle.format.specs.laws.Groups.{Item, one, a-number, a-decider, next, repeated, counted-evenly}
 use Rattle.format.specs.laws.Zero.{Judged}
-use Rattle.notice_fields.specs.Areas.{point}
+use Rattle.notice_fields.specs.Terms.{ourPoint, point}
 use Rattle.notice_fields.specs.Row.{pointTold}
 use Rattle.notice_fields.specs.laws.Instances.{a-point}
 use Rattle.notice_fields.specs.laws.PartsWalking.{time-numbered}
@@ -31,7 +31,7 @@ a-place k = go (eqb k 0)
   where
     go : (x : Bool) → Item (λ f. cond x (num 6 (0 ‥ 63) f) (point f)) (cond x (oneTold 0) pointTold) (λ row. cond x 1 2)
     go true = a-number 0 6 _
-    go false = a-point
+    go false = a-point ourPoint
 
 an-entry : Item entry entryTold (λ row. 3)
 unfolding wide

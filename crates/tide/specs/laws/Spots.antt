@@ -12,7 +12,7 @@ use Rattle.format.specs.Fmt.{Fmt, end, Spot, none, found, spot}
 use Rattle.format.specs.Groups.{repeat, counted, Telling, oneTold, thenTold, decidedTold, repeatTold}
 use Rattle.format.specs.Words.{_‥_, num, wide}
 use Rattle.format.specs.laws.Spots.{spotsAlong, spot-along}
-use Rattle.notice_fields.specs.Areas.{point}
+use Rattle.notice_fields.specs.Terms.{point}
 use Rattle.notice_fields.specs.Row.{pointTold}
 use Rattle.tide.specs.Changed.{entrySpots, recordSpots, spotOf}
 use Rattle.tide.specs.Record.{Whole, valuesOf}

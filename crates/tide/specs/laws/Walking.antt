@@ -16,7 +16,7 @@ use Rattle.walk.specs.laws.Along.{Along, Going, going, fronted, stay, then, und
 use Rattle.walk.specs.laws.Groups.{Stretch, valued, one-field, number, parted, guard, follows, decides, repeats, evenly, at-most}
 use Rattle.walk.specs.laws.Reading.{step-num, step-limits}
 use Rattle.walk.specs.declared.walk.Walk.{Walk}
-use Rattle.notice_fields.specs.Areas.{point}
+use Rattle.notice_fields.specs.Terms.{point}
 use Rattle.notice_fields.specs.Parts.{time, latitudeBits, longitudeBits, pointBits}
 use Rattle.notice_fields.specs.PartsSteps.{timeRead, latitudeRead, longitudeRead}
 use Rattle.notice_fields.specs.laws.PartsWalking.{moment-parts}

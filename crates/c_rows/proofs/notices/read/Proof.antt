@@ -4,6 +4,7 @@ use native.Mathlib.Omega.{arith}
 use lib.Dec.{eqb}
 use Rattle.format.specs.Fmt.{accepted}
 use Rattle.c_rows.specs.Row.{Fills}
+use Rattle.notice.specs.Notice.{ours}
 use Rattle.notice.specs.Promises.{Reads}
 use Rattle.c_rows.specs.Notice.{unroomed, NoticeFills}
 use Rattle.c_rows.specs.laws.Notice.{good-rooms, lent-not, lent-short, lent-good, lent-bad}
@@ -43,7 +44,7 @@ returns-3 c =
     let wide = read .before .before .before in
     let test = wide .before in
     let a = test .before .before .before .before .args in
-    let known = subst (λ x. Reads (eqb (a .language) 1) (a .s .now) (a .areas .now) (a .text .now) x (read .read .last .1 .1 .0) (read .read .last .1 .1 .1 .0)) (m .answer .given .1) (read .read .ensures) in
+    let known = subst (λ x. Reads (ours (eqb (a .language) 1)) (a .s .now) (a .areas .now) (a .text .now) x (read .read .last .1 .1 .0) (read .read .last .1 .1 .1 .0)) (m .answer .given .1) (read .read .ensures) in
     let stored = subst (λ xs. Fills (accepted xs) (a .row .now) (fill .fill .result) (fill .fill .last .0)) (numbers .numbers .ensures) (fill .fill .ensures) in
     lent-good (a .language) (a .s .now) (a .row .now) (a .areas .now) (a .text .now) (omega (arith, test .if1 .left)) (omega (arith, wide .if2 .left)) known stored
 
@@ -54,7 +55,7 @@ returns-4 c =
     let wide = read .before .before .before in
     let test = wide .before in
     let a = test .before .before .before .before .args in
-    let known = subst (λ x. Reads (eqb (a .language) 1) (a .s .now) (a .areas .now) (a .text .now) x (read .read .last .1 .1 .0) (read .read .last .1 .1 .1 .0)) (m .answer2 .given .1) (read .read .ensures) in
+    let known = subst (λ x. Reads (ours (eqb (a .language) 1)) (a .s .now) (a .areas .now) (a .text .now) x (read .read .last .1 .1 .0) (read .read .last .1 .1 .1 .0)) (m .answer2 .given .1) (read .read .ensures) in
     lent-bad (a .language) (a .s .now) (a .row .now) (a .areas .now) (a .text .now) (omega (arith, test .if1 .left)) (omega (arith, wide .if2 .left)) known
 
 pub read-spec : {M : Type 1} → statement M

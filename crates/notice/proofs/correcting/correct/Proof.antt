@@ -2,7 +2,7 @@
 use mathlib.Core.Path.{sym, ap, _∙_}
 use Rattle.format.specs.Message.{told}
 use Rattle.format.specs.laws.Correcting.{in-place}
-use Rattle.notice.specs.Notice.{notices}
+use Rattle.notice.specs.Notice.{ours, notices}
 use Rattle.notice.specs.laws.Sound.{sound, judged}
 use Rattle.notice.specs.laws.Told.{walked-refusal, stands, fields-again, fields-are}
 use borrow.Author.Needs.{needs}
@@ -31,7 +31,7 @@ returns c =
     let r = f .fields .result in
     let x = f .fields .ensures in
     let (there, slim) = look .stands .ensures in
-    in-place (notices e) (sound e) (judged e) s i (a .value) (look .stands .result .at) (look .stands .result .width) (walked-refusal e i s r x (own .refusal .ensures)) (λ vs z. stands e i s r x vs z ∙ there) slim (λ i. known .slice-known .given i .fits)
+    in-place (notices (ours e)) (sound (ours e)) (judged (ours e)) s i (a .value) (look .stands .result .at) (look .stands .result .width) (walked-refusal e i s r x (own .refusal .ensures)) (λ vs z. stands e i s r x vs z ∙ there) slim (λ i. known .slice-known .given i .fits)
     (begin .begin .ensures) (λ z same. walked-refusal e 0 _ (g .fields2 .result) (g .fields2 .ensures) (again .refusal2 .ensures) ∙ ap told (fields-again e i s r x (ap (λ r. r .code) (sym (own .refusal .ensures)) ∙ z) _ same)) (finish .finish .ensures)
 
 pub correct-spec : {M : Type 1} → statement M

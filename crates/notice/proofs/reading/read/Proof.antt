@@ -12,6 +12,7 @@ use Rattle.notice.specs.Record.{recordOf}
 use Rattle.notice.specs.laws.Told.{reads-refused, reads-few, reads-short, reads-good, stored, kept-row, copied, walked-good, walked-bad, fields-are}
 use Rattle.notice.specs.declared.reading.Answer.the-variants.{Good}
 use borrow.Author.Needs.{needs}
+use Rattle.notice.specs.Notice.{ours}
 use Rattle.notice.proofs.reading.read.Statement.{statement}
 use Rattle.notice.proofs.reading.read.Tie as tie
 
@@ -21,7 +22,7 @@ returns c = let test = c .before in
     let a = f .before .before .before .before .args in
     let s = a .s .now in
     let r = f .fields .result in
-    reads-refused (a .english) s (a .areas .now) (a .text .now) (c .refusal .ensures) (ap (also recordOf) (walked-bad (a .english) 0 s r (f .fields .ensures) (test .if1 .taken)))
+    reads-refused (ours (a .english)) s (a .areas .now) (a .text .now) (c .refusal .ensures) (ap (also recordOf) (walked-bad (a .english) 0 s r (f .fields .ensures) (test .if1 .taken)))
 
 returns-2 : tie.Need-returns-2
 returns-2 c = let f = c .before .before .before .before in
@@ -30,7 +31,7 @@ returns-2 c = let f = c .before .before .before .before in
     let r = f .fields .result in
     let good = walked-good (a .english) 0 s r (f .fields .ensures) (c .before .before .if1 .left) in
     let t = length-run s (r .at) (r .text) in
-    reads-short (a .english) s (a .areas .now) (a .text .now) good (omega (arith, t, c .if2 .taken))
+    reads-short (ours (a .english)) s (a .areas .now) (a .text .now) good (omega (arith, t, c .if2 .taken))
 
 returns-3 : tie.Need-returns-3
 returns-3 c = let f = c .before .before .before .before .before .before .before .before .before in
@@ -40,7 +41,7 @@ returns-3 c = let f = c .before .before .before .before .before .before .before 
     let good = walked-good (a .english) 0 s r (f .fields .ensures) (c .before .before .before .before .before .before .before .if1 .left) in
     let x = c .before .before .before .fill .ensures in
     let few : length (a .areas .now) < length (areasAt s (r .notice .count) front) = omega (arith, x .0, c .if3 .taken, c .before .before .before .fill .kept .1 .1 .0) in
-    let is = reads-few (a .english) s (a .areas .now) (a .text .now) good few in
+    let is = reads-few (ours (a .english)) s (a .areas .now) (a .text .now) good few in
     (is .0, x .1 ∙ kept-row (a .areas .now) (areasAt s (r .notice .count) front) few ∙ is .1, is .2)
 
 returns-4 : tie.Need-returns-4
@@ -59,7 +60,7 @@ returns-4 c = let g = c .before .before in
     let t = length-run s (r .at) (r .text) in
     let enough : length xs ≤ length (a .areas .now) = omega (arith, x .0, i3 .if3 .left, fl .fill .kept .1 .1 .0) in
     let room : length (bytesAt s (r .at) (r .text)) ≤ length (a .text .now) = omega (arith, t, i2 .if2 .left) in
-    let is = reads-good (a .english) s (a .areas .now) (a .text .now) good enough room in
+    let is = reads-good (ours (a .english)) s (a .areas .now) (a .text .now) good enough room in
     let answer : Good (record { notice = r .notice; numbers = fl .fill .result; text = r .text }) ≡ Good (record { notice = r .notice; numbers = length xs; text = length (bytesAt s (r .at) (r .text)) }) =
     ap₂ (λ n t. Good (record { notice = r .notice; numbers = n; text = t })) (x .0) (sym t) in
     (answer ∙ is .0, x .1 ∙ stored (a .areas .now) xs enough ∙ is .1, copied s (r .at) (r .text) (a .text .now) (fields-are (a .english) 0 s (f .fields .ensures) .fits (i1 .if1 .left)) (i2 .if2 .left) (g .get-bytes .ensures) ∙ is .2)

@@ -4,7 +4,7 @@ use mathlib.Core.List.{[]}
 use native.Mathlib.Omega.{arith}
 use borrow.Author.Needs.{needs}
 use Rattle.format.specs.laws.Legal.{legal}
-use Rattle.notice.specs.Notice.{notice as Notice·notice}
+use Rattle.notice.specs.Notice.{ours, notice as Notice·notice}
 use Rattle.notice.specs.Record.{valuesOf}
 use Rattle.notice.specs.laws.Writing.{notice-refused, notice-laid, text-small, notice-stands}
 use Rattle.notice.proofs.writing.write.Statement.{statement}
@@ -28,7 +28,7 @@ put-requires c κs =
     let a = j .before .before .before .before .args in
     let r = a .r in
     let laid = notice-laid (a .english) (a .buf .now) r (a .areas .now) (a .text .now) (j .judged .result) (j .judged .ensures) (m .room .ensures) (k .closes-before .ensures) (i .if1 .left) in
-    let h = legal (Notice·notice (a .english)) [] 0 (valuesOf (r, (a .areas .now, a .text .now))) _ laid in
+    let h = legal (Notice·notice (ours (a .english))) [] 0 (valuesOf (r, (a .areas .now, a .text .now))) _ laid in
     let count = h .2 .2 .2 .2 .2 .2 .2 in (
       omega (arith, count .0),
       text-small (a .english) (a .buf .now) r (a .areas .now) (a .text .now) (j .judged .result) (j .judged .ensures) (m .room .ensures) (k .closes-before .ensures) (i .if1 .left),

@@ -6,11 +6,11 @@ use lib.Dec.{lit<}
 use borrow.Author.Needs.{needs}
 use Rattle.walk.specs.Judging.{valued}
 use Rattle.walk.specs.laws.Judging.{judge-start, judge-num, judge-limits, judge-deciding, valued-between}
-use Rattle.notice_fields.specs.Parts.{subtype}
+use Rattle.notice_fields.specs.Parts.{subtypes, subtype}
 use Rattle.notice_fields.specs.PartsSteps.{leastSubtype, mostSubtype}
 use Rattle.notice_fields.specs.laws.Subtypes.{subtype-limits, most-subtype-fits}
 use Rattle.notice_fields.specs.laws.PartsWalking.{expiry-judged}
-use Rattle.notice.specs.Notice.{notice as Notice·notice}
+use Rattle.notice.specs.Notice.{ours, notice as Notice·notice}
 use Rattle.notice.specs.Record.{headed}
 use Rattle.notice.proofs.writing.making.judged_head.Statement.{statement}
 use Rattle.notice.proofs.writing.making.judged_head.Tie as tie
@@ -34,13 +34,13 @@ returns c =
     record {
       past = r .count ∷ r .expiry ∷ r .subtype ∷ kind ∷ r .year ∷ r .serial ∷ r .station ∷ r .source ∷ [];
       is = λ english vs.
-          let r0 = judge-start (Notice·notice english) 0 0 (headed r vs) (b .begin .ensures) in
+          let r0 = judge-start (Notice·notice (ours english)) 0 0 (headed r vs) (b .begin .ensures) in
           let r1 = judge-num 5 (lit< tt) 1 21 (lit< tt) r0 (v1 .value .ensures) in
           let r2 = judge-num 4 (lit< tt) 1 3 (lit< tt) r1 (v2 .value2 .ensures) in
           let r3 = judge-num 14 (lit< tt) 1 9_999 (lit< tt) r2 (v3 .value3 .ensures) in
           let r4 = judge-num 7 (lit< tt) 0 99 (lit< tt) r3 (v4 .value4 .ensures) in
           let r5 = judge-num 4 (lit< tt) 1 8 (lit< tt) r4 (v5 .value5 .ensures) in
-          let r6 = judge-limits 4 (lit< tt) subtype (leastSubtype kind) (mostSubtype kind) (most-subtype-fits kind) (λ _. subtype-limits kind _ (r .subtype)) r5 limits in
+          let r6 = judge-limits 4 (lit< tt) (subtype subtypes) (leastSubtype kind) (mostSubtype kind) (most-subtype-fits kind) (λ _. subtype-limits kind _ (r .subtype)) r5 limits in
           let r7 = expiry-judged (lit< tt) r6 (x .judged-expiry .ensures) in
           judge-deciding 4 (lit< tt) 0 15 (lit< tt) r7 (c .value7 .ensures);
       few = λ z. valued-between (x .judged-expiry .result) 4 (r .count) 0 15 (c .value7 .ensures) z .1;

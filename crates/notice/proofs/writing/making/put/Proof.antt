@@ -12,6 +12,7 @@ use Rattle.walk.specs.laws.Loops.{PutsAlong}
 use Rattle.notice_fields.specs.Making.{areasPut}
 use Rattle.notice_fields.specs.laws.Putting.{areas-put, areas-near}
 use Rattle.notice_fields.specs.Areas.{areas}
+use Rattle.notice_fields.specs.Terms.{ourPoint}
 use Rattle.notice_fields.specs.Row.{areasTold}
 use Rattle.notice_fields.specs.Standing.{front}
 use Rattle.notice.specs.Record.{texted, valuesOf}
@@ -40,7 +41,7 @@ returns c =
     λ english b e l.
     let r0 = h .put-head .ensures english (areasTold (a .r .count) (a .areas .now) ++ texted x) b fine e l in
     let o = areasPut (a .areas .now) (a .r .count) 0 front (h .put-head .last .0) in
-    let r1 = subst⁻¹ (λ (x : ℕ × List ℕ). PutsAlong (areas (a .r .count)) (λ f. f) front (areasTold (a .r .count) (a .areas .now)) (h .put-head .last .0) (x .0) (x .1)) {y = (o .0 .at, o .1)} (λ i. (p .put .ensures .0 i, p .put .ensures .1 i))
+    let r1 = subst⁻¹ (λ (x : ℕ × List ℕ). PutsAlong (areas ourPoint (a .r .count)) (λ f. f) front (areasTold (a .r .count) (a .areas .now)) (h .put-head .last .0) (x .0) (x .1)) {y = (o .0 .at, o .1)} (λ i. (p .put .ensures .0 i, p .put .ensures .1 i))
     (areas-put (a .areas .now) (a .r .count) .along 0 front (h .put-head .last .0)) .on r0 in
     let r2 = put-run x (run-bits x) (begins opens-field) (put-bytes r1) (t .put-bytes .ensures) in
     let r3 = put-fill r2 (f .fill .ensures) in

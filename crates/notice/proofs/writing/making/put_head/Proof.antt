@@ -4,7 +4,7 @@ use mathlib.Core.Path.{_∙_}
 use lib.Dec.{lit≤}
 use borrow.Author.Needs.{needs}
 use Rattle.format.specs.laws.Putting.{put-start, put-step, put-choice}
-use Rattle.notice.specs.Notice.{notice as Notice·notice}
+use Rattle.notice.specs.Notice.{ours, notice as Notice·notice}
 use Rattle.notice.specs.Record.{headed}
 use Rattle.notice.proofs.writing.making.put_head.Statement.{statement}
 use Rattle.notice.proofs.writing.making.put_head.Tie as tie
@@ -34,7 +34,7 @@ returns c =
     let p1 = p2 .before .before .before .before .before in
     let a = p1 .before .before .before .before .args in
     λ english vs b fine e l.
-    let r0 = put-start (a .buf .now) (Notice·notice english) (headed (a .r) vs) b fine l e in
+    let r0 = put-start (a .buf .now) (Notice·notice (ours english)) (headed (a .r) vs) b fine l e in
     let r1 = put-step 5 (lit≤ tt) r0 (p1 .put .ensures) in
     let r2 = put-step 4 (lit≤ tt) r1 (p2 .put2 .ensures) in
     let r3 = put-step 14 (lit≤ tt) r2 (p3 .put3 .ensures) in
