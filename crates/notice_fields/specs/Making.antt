@@ -1,5 +1,6 @@
 -- What judging and putting the areas that a row of numbers tells gives: over points, one area by its kind, and all of them. Assumes nothing.
 use Prim.Native.Nat.{ℕ, _+_}
+use mathlib.Core.Bool.{false}
 use mathlib.Core.List.{List}
 use lib.ListN.{getD}
 use Rattle.format.specs.Correcting.{putIn}
@@ -8,9 +9,14 @@ use Rattle.walk.specs.Rows.{JudgeStep, oneJudged, thenJudged, decidedJudged, ev
 use Rattle.walk.specs.declared.walk.Walk.{Walk}
 use Rattle.notice_fields.specs.Areas.{Kind, sea, circle, several, kindOf}
 use Rattle.notice_fields.specs.Parts.{latitudeBits, longitudeBits, pointBits}
+use Rattle.notice_fields.specs.Standing.{front}
 use Rattle.notice_fields.specs.PartsSteps.{latitudeJudged, longitudeJudged}
 
 -- ---- judged
+
+-- a walk at the first area: nothing is refused, and no field is sought
+abbrev pub fresh : Walk
+fresh = record { at = front; code = 0; offset = 0; v = 0; seek = false; left = 0; spot = 0; width = 0 }
 
 -- the point that begins with number k of the row
 abbrev pub pointJudged : List ℕ → ℕ → Walk → Walk

@@ -1,6 +1,6 @@
 -- What the code answers: a subtype's limits, and its steps over an expiry, a time and an angle, read and judged. Assumes nothing.
 use Prim.Native.Nat.{ℕ}
-use mathlib.Core.Bool.{false, _||_, cond}
+use mathlib.Core.Bool.{_||_, cond}
 use mathlib.Core.List.{List, []}
 use lib.Dec.{eqb}
 use Rattle.walk.specs.Pieces.{piecewise, unlessZero}
@@ -46,8 +46,3 @@ latitudeJudged v r = groupJudged latitudeBits (piecewise (angle 7 90) []) v r
 
 abbrev pub longitudeJudged : ℕ → Walk → Walk
 longitudeJudged v r = groupJudged longitudeBits (piecewise (angle 8 180) []) v r
-
--- ---- a walk at the bit `at`, with the refusal `code` at `offset`, that has no value and seeks nothing
-
-abbrev pub bare : ℕ → ℕ → ℕ → Walk
-bare at code offset = record { at = at; code = code; offset = offset; v = 0; seek = false; left = 0; spot = 0; width = 0 }

@@ -1,10 +1,9 @@
 // Writing a notice's areas from a row of numbers (paper 01, "Notice and packet"): judged in bit order, then put.
 ghost use mathlib.Core.Path.{_≡_};
 ghost use Prim.Native.Nat.{_+_, _*_, _≤_};
-ghost use Rattle.notice_fields.specs.Making.{pointsJudged, areaJudged, areasJudged, pointsPut, areaPut, areasPut};
+ghost use Rattle.notice_fields.specs.Making.{fresh, pointsJudged, areaJudged, areasJudged, pointsPut, areaPut, areasPut};
 ghost use Rattle.notice_fields.specs.Row.{longMost};
 ghost use Rattle.notice_fields.specs.Standing.{front, areaMost};
-ghost use Rattle.notice_fields.specs.PartsSteps.{bare};
 use crate::areas::CIRCLE;
 use crate::areas::FRONT;
 use crate::areas::SEA;
@@ -21,12 +20,28 @@ const COUNTS: u64 = 16;
 
 // ---- judging
 
+// A walk at the first area: nothing is refused, and no field is sought.
+fn fresh() -> Walk
+    ensures { λ r. ⌜ r ≡ fresh ⌝ }
+{
+    Walk {
+        at: FRONT as usize,
+        code: 0,
+        offset: 0,
+        v: 0,
+        seek: false,
+        left: 0,
+        spot: 0,
+        width: 0,
+    }
+}
+
 // The numbers of a notice's first `count` areas, where nothing was refused in front of them; a refused count of points is not walked.
 pub fn judge(row: &[u32], count: u8) -> Stepped
-    ensures { λ r. ⌜ r ≡ areasJudged (now (row .entry)) count 0 (bare front 0 0) ⌝ }
+    ensures { λ r. ⌜ r ≡ areasJudged (now (row .entry)) count 0 fresh ⌝ }
 {
     let most = count as usize;
-    let mut w = crate::parts::unsought(FRONT as usize, 0, 0);
+    let mut w = fresh();
     let mut k: usize = 0;
     let mut i: usize = 0;
     while i < most {

@@ -4,7 +4,7 @@ ghost use mathlib.Core.Path.{_≡_};
 ghost use Prim.Native.Nat.{_^_, _<_};
 ghost use Rattle.walk.specs.Pieces.{lying, piecewise};
 ghost use Rattle.notice_fields.specs.Parts.{moment, angle, latitudeBits, longitudeBits};
-ghost use Rattle.notice_fields.specs.PartsSteps.{leastSubtype, mostSubtype, bare, expiryRead, timeRead, latitudeRead, longitudeRead, expiryJudged, timeJudged, latitudeJudged, longitudeJudged};
+ghost use Rattle.notice_fields.specs.PartsSteps.{leastSubtype, mostSubtype, expiryRead, timeRead, latitudeRead, longitudeRead, expiryJudged, timeJudged, latitudeJudged, longitudeJudged};
 use walk::pieces::Pieces;
 use walk::walk::Walk;
 
@@ -130,22 +130,6 @@ fn cut_angle(s: &[u8], at: usize, n: u32, d: usize, most: u64) -> Pieces
     ensures { λ r. ⌜ r ≡ piecewise (angle d most) [] (lying (now (s .entry)) at n) ⌝ }
 {
     angle(Pieces::at(s, at, n), d, most)
-}
-
-// A walk at bit `at`, where `code` was refused at `offset`, that seeks no field.
-pub fn unsought(at: usize, code: u8, offset: usize) -> Walk
-    ensures { λ r. ⌜ r ≡ bare at code offset ⌝ }
-{
-    Walk {
-        at,
-        code,
-        offset,
-        v: 0,
-        seek: false,
-        left: 0,
-        spot: 0,
-        width: 0,
-    }
 }
 
 // ---- judging what a record spells

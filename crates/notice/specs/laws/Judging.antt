@@ -24,7 +24,7 @@ use Rattle.walk.specs.laws.Loops.{Going}
 use Rattle.walk.specs.laws.Step.{clear, stuck}
 use Rattle.walk.specs.declared.walk.Walk.{Walk}
 use Rattle.text.specs.Text.{inLanguage}
-use Rattle.notice_fields.specs.PartsSteps.{bare}
+use Rattle.notice_fields.specs.Making.{fresh}
 use Rattle.notice_fields.specs.Standing.{front}
 use Rattle.notice.specs.Notice.{ours, text}
 use Rattle.notice.specs.Record.{texted}
@@ -79,7 +79,7 @@ text-judged {o} english t c {r} {q} fine small is d x =
     subst⁻¹ (λ q. Judged o (beyond (n * 8) 0 q)) d (same-judged (n * 8) c r small (judge-end z))
 
 -- nothing was refused in front of the areas: they are judged by a walk of their own
-pub from-front : {o : Out (List Bool)} {f : Fmt} {h vs : List ℕ} {w : Walk} → w .code ≡ 0 → Judging o f h front vs w → Going o f vs (bare front 0 0)
+pub from-front : {o : Out (List Bool)} {f : Fmt} {h vs : List ℕ} {w : Walk} → w .code ≡ 0 → Judging o f h front vs w → Going o f vs fresh
 from-front {h = h} {w = w} z x = record { before = h; is = record { k = x .k; so = x .so ∙ clear w _ z; here = λ _. refl; long = λ _. x .long z } }
 
 -- after a refusal nothing more is judged

@@ -7,8 +7,7 @@ use native.Mathlib.Omega.{arith}
 use borrow.Author.Needs.{needs}
 use Rattle.notice_fields.specs.Row.{longMost}
 use Rattle.notice_fields.specs.Standing.{front}
-use Rattle.notice_fields.specs.PartsSteps.{bare}
-use Rattle.notice_fields.specs.Making.{areaJudged, areasJudged}
+use Rattle.notice_fields.specs.Making.{fresh, areaJudged, areasJudged}
 use Rattle.notice_fields.specs.laws.Judging.{area-small}
 use Rattle.walk.specs.Rows.{repeatJudged}
 use Rattle.walk.specs.laws.RowsJudged.{repeat-judged-turn}
@@ -16,22 +15,19 @@ use Rattle.notice_fields.proofs.making.judge.Statement.{statement}
 use Rattle.notice_fields.proofs.making.judge.Tie as tie
 
 abbrev Inv-loop : tie.InvT-loop
-Inv-loop row count most w₀ k₀ i₀ w k i = (i ≤ count) × (areasJudged row count 0 (bare front 0 0) ≡ areasJudged row (count - i) k w) × (k ≤ i * longMost)
+Inv-loop row count most w₀ k₀ i₀ w k i = (i ≤ count) × (areasJudged row count 0 fresh ≡ areasJudged row (count - i) k w) × (k ≤ i * longMost)
 
 abbrev μ-loop : tie.MeasureT-loop
 μ-loop row count most w₀ k₀ i₀ w k i = count - i
 
-cast-unsought : tie.Need-cast-unsought Inv-loop μ-loop
-cast-unsought c = omega arith
-
-unsought-requires : tie.Need-unsought-requires Inv-loop μ-loop
-unsought-requires c κs = search needs
+fresh-requires : tie.Need-fresh-requires Inv-loop μ-loop
+fresh-requires c κs = search needs
 
 loop-holds : tie.Need-loop-holds Inv-loop μ-loop
 loop-holds c =
     let a = c .before .before .args in
     let m : a .count ≡ a .count - 0 = omega arith in
-    (omega arith, ap₂ (λ m w. areasJudged (a .row .now) m 0 w) m (sym (c .unsought .ensures)), omega arith)
+    (omega arith, ap₂ (λ m w. areasJudged (a .row .now) m 0 w) m (sym (c .fresh .ensures)), omega arith)
 
 judge-area-requires : tie.Need-judge-area-requires Inv-loop μ-loop
 judge-area-requires c κs = omega arith
@@ -79,8 +75,7 @@ judge-spec =
     (tie.spec
     Inv-loop
     μ-loop
-    cast-unsought
-    unsought-requires
+    fresh-requires
     loop-holds
     judge-area-requires
     add-i

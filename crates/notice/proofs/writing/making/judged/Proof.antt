@@ -14,11 +14,10 @@ use Rattle.walk.specs.laws.Step.{clean}
 use Rattle.walk.specs.declared.making.Stepped.{Stepped}
 use Rattle.notice_fields.specs.Areas.{areas}
 use Rattle.notice_fields.specs.Terms.{ourPoint}
-use Rattle.notice_fields.specs.Making.{areasJudged}
+use Rattle.notice_fields.specs.Making.{fresh, areasJudged}
 use Rattle.notice_fields.specs.laws.Judging.{areas-judged}
 use Rattle.notice_fields.specs.Row.{areasTold}
 use Rattle.notice_fields.specs.Standing.{front}
-use Rattle.notice_fields.specs.PartsSteps.{bare}
 use Rattle.notice.specs.Record.{texted, valuesOf}
 use Rattle.notice.specs.laws.Judging.{spoken-whole, text-judged, from-front, refused-judged}
 use Rattle.notice.proofs.writing.making.judged.Statement.{statement}
@@ -52,13 +51,13 @@ returns-2 c =
     let row = a .areas .now in
     let n = a .r .count in
     let y = areas-judged row n in
-    let all = areasJudged row n 0 (bare front 0 0) in
+    let all = areasJudged row n 0 fresh in
     let is : j .judge .result ≡ all = j .judge .ensures in
     let near = ap (λ (r : Stepped). r .walk .at) is in
-    let g = subst⁻¹ (λ (r : Stepped). JudgesAlong (areas ourPoint n) (λ f. f) (bare front 0 0) (areasTold n row) (r .walk)) is (y .along 0 (bare front 0 0) (omega (arith, few))) .on (from-front (i .if1 .left) (x .is (a .english) (areasTold (a .r .count) (a .areas .now) ++ texted t))) in
+    let g = subst⁻¹ (λ (r : Stepped). JudgesAlong (areas ourPoint n) (λ f. f) fresh (areasTold n row) (r .walk)) is (y .along 0 fresh (omega (arith, few))) .on (from-front (i .if1 .left) (x .is (a .english) (areasTold (a .r .count) (a .areas .now) ++ texted t))) in
     record {
-      judged = text-judged (a .english) t (ch .choose-code .result) fine (omega (arith, near, y .near 0 (bare front 0 0), few)) (ch .choose-code .ensures ∙ ap (λ b. cond b 0 4) (sp .in-language .ensures ∙ spoken-whole (a .english) t fine)) (c .wide .ensures) g;
-      asked = λ z. ap (λ (r : Stepped). r .next) is ∙ y .next 0 (bare front 0 0) (ap (λ (r : Stepped). r .walk .code) (sym is) ∙ clean (j .judge .result .walk .code) (ch .choose-code .result) (ap (λ (w : Walk). w .code) (sym (c .wide .ensures)) ∙ z) .0) ∙ omega arith;
+      judged = text-judged (a .english) t (ch .choose-code .result) fine (omega (arith, near, y .near 0 fresh, few)) (ch .choose-code .ensures ∙ ap (λ b. cond b 0 4) (sp .in-language .ensures ∙ spoken-whole (a .english) t fine)) (c .wide .ensures) g;
+      asked = λ z. ap (λ (r : Stepped). r .next) is ∙ y .next 0 fresh (ap (λ (r : Stepped). r .walk .code) (sym is) ∙ clean (j .judge .result .walk .code) (ch .choose-code .result) (ap (λ (w : Walk). w .code) (sym (c .wide .ensures)) ∙ z) .0) ∙ omega arith;
     }
 
 pub judged-spec : {M : Type 1} → statement M
