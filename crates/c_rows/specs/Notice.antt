@@ -1,5 +1,5 @@
 -- Reading a notice as numbers (paper 01, "Notice and packet"): ten of them in a lent row, those of its areas in a second, its text as bytes. Assumes nothing.
-use Prim.Native.Nat.{ℕ, zero, suc}
+use Prim.Native.Nat.{ℕ}
 use mathlib.Core.Path.{_≡_}
 use mathlib.Core.Bool.{cond}
 use mathlib.Core.List.{List, [], _∷_, _++_}

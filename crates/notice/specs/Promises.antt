@@ -1,6 +1,6 @@
 -- What reading a notice promises of the bytes s, the row and the buffer that it is lent; writing and correcting promise what every layout's do (format/specs/Promises). Assumes nothing.
 use mathlib.Core.Path.{_≡_}
-use mathlib.Core.Bool.{Bool, _&&_}
+use mathlib.Core.Bool.{_&&_}
 use mathlib.Core.List.{List}
 use Prim.Native.Nat.{ℕ}
 use lib.Dec.{leb}

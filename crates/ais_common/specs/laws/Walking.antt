@@ -6,7 +6,7 @@ use Prim.Native.Nat.{ℕ, _+_, _*_, _≤_, _<_, _^_}
 use native.Mathlib.Omega.{arith}
 use lib.Dec.{lit<, lit≤}
 use lib.ListN.{length}
-use Rattle.bits.specs.Answers.{got, puttable}
+use Rattle.bits.specs.Answers.{puttable}
 use Rattle.bits.specs.Bits.{putAt}
 use Rattle.format.specs.Correcting.{putIn, put-in}
 use Rattle.format.specs.Fmt.{Out, Judge, Fmt}

@@ -1,30 +1,22 @@
 -- An expiry, a time and an angle, read and judged: where the code stands behind it, its value and its offset. Each is a list of parts, and the laws on parts are theirs. Assumes nothing.
-use mathlib.Core.Path.{_≡_, refl, sym, ap, _∙_}
-use mathlib.Core.Bool.{Bool, true, false, cond}
+use mathlib.Core.Path.{_≡_, refl}
+use mathlib.Core.Bool.{Bool}
 use mathlib.Core.List.{List, [], _∷_}
-use Prim.Native.Nat.{ℕ, _+_, _%_, _<_, _^_}
+use Prim.Native.Nat.{ℕ, _+_, _<_, _^_}
 use native.Mathlib.Omega.{arith}
 use lib.Dec.{lit<, lit≤}
-use lib.ListN.{length}
-use Rattle.bits.specs.Answers.{within, got}
-use Rattle.bits.specs.Bits.{fieldAt}
-use Rattle.bits.specs.laws.Answers.{within-true}
 use Rattle.format.specs.Fmt.{Out, Fmt}
-use Rattle.format.specs.Words.{Part, walk, wide, orZero}
+use Rattle.format.specs.Words.{walk, wide, orZero}
 use Rattle.format.specs.laws.Zero.{Numbered, Coded, walk-numbered, zero-numbered}
-use Rattle.walk.specs.Pieces.{lying, piecewise}
-use Rattle.walk.specs.Reading.{grouped, groupRead, groupJudged}
-use Rattle.walk.specs.Walk.{onward}
+use Rattle.walk.specs.Pieces.{piecewise}
 use Rattle.walk.specs.laws.Judging.{Judging}
-use Rattle.walk.specs.laws.Parts.{lying-whole, step-group}
+use Rattle.walk.specs.laws.Parts.{step-group}
 use Rattle.walk.specs.laws.Pieces.{Matches, parts-match, zero-match, piecewise-v, piecewise-width, judge-group}
-use Rattle.walk.specs.laws.Reading.{got-lt}
 use Rattle.walk.specs.laws.Step.{Reading}
-use Rattle.walk.specs.declared.pieces.Pieces.{Pieces}
 use Rattle.walk.specs.declared.walk.Walk.{Walk}
 use Rattle.notice_fields.specs.Parts.{moment, expiry, angle, latitudeBits, longitudeBits}
 use Rattle.notice_fields.specs.Terms.{angle-coded}
-use Rattle.notice_fields.specs.PartsSteps.{expiryPieces, expiryJudged, timeJudged, expiryRead, timeRead, latitudeRead, longitudeRead, latitudeJudged, longitudeJudged}
+use Rattle.notice_fields.specs.PartsSteps.{expiryPieces, expiryJudged, expiryRead}
 
 -- ---- their refusals are numbers of the paper
 

@@ -13,7 +13,7 @@ use Rattle.format.specs.Words.{_‥_, wide, num}
 use Rattle.walk.specs.Groups.{Step, single, thenStep, unlessRefused, Standing, Width}
 use Rattle.walk.specs.Reading.{ranged}
 use Rattle.walk.specs.laws.Along.{Along, Going, going, fronted, stay, then, under, ranged-v, ranged-at}
-use Rattle.walk.specs.laws.Groups.{Stretch, valued, one-field, number, parted, guard, follows, decides, repeats, evenly, at-most}
+use Rattle.walk.specs.laws.Groups.{Stretch, valued, number, parted, guard, follows, decides, repeats, evenly, at-most}
 use Rattle.walk.specs.laws.Reading.{step-num, step-limits}
 use Rattle.walk.specs.declared.walk.Walk.{Walk}
 use Rattle.notice_fields.specs.Terms.{point}

@@ -1,5 +1,5 @@
 -- A field made of parts, read: its judge sees the bits that there are, cut or whole, and the walk stands behind it with its value. Assumes nothing.
-use mathlib.Core.Path.{_≡_, refl, sym, ap, ap₂, _∙_, subst⁻¹}
+use mathlib.Core.Path.{_≡_, refl, sym, ap, _∙_, subst⁻¹}
 use mathlib.Core.Bool.{Bool, true, false, cond, and-false}
 use mathlib.Core.List.{List, _∷_}
 use Prim.Native.Nat.{ℕ, _+_, _-_, _*_, _≤_, _<_, _^_, min}
@@ -7,10 +7,10 @@ use native.Mathlib.Omega.{arith}
 use native.Mathlib.Nat.{min-eq-left, mod-eq-of-lt}
 use lib.Dec.{leb}
 use lib.ListN.{length, take, drop, length-take, length-drop}
-use lib.Seq.{take-all, take-length, take-take}
-use borrow.Author.Tests.{le-leb, lt-leb, leb-true, leb-false}
+use lib.Seq.{take-length, take-take}
+use borrow.Author.Tests.{lt-leb, leb-true, leb-false}
 use Rattle.bits.specs.Answers.{within, got}
-use Rattle.bits.specs.Bits.{valueOf, digits, bitsOf, fieldAt}
+use Rattle.bits.specs.Bits.{valueOf, bitsOf, fieldAt}
 use Rattle.bits.specs.laws.Answers.{within-true, got-fits}
 use Rattle.bits.specs.laws.Bytes.{length-bits}
 use Rattle.bits.specs.laws.Digits.{digits-value, value-lt, value-nil}

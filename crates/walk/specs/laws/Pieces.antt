@@ -1,16 +1,16 @@
 -- The code judges a field made of parts as the layout's judge does, by the bits that there are: part by part from the highest bits down, up to the first refusal. Assumes nothing.
-use mathlib.Core.Path.{_≡_, refl, sym, ap, ap₂, _∙_, subst⁻¹}
+use mathlib.Core.Path.{_≡_, refl, sym, ap, ap₂, _∙_}
 use mathlib.Core.Bool.{Bool, true, false, cond, _&&_, and-false, false≢true}
 use mathlib.Core.List.{List, [], _∷_}
-use Prim.Native.Nat.{ℕ, zero, suc, _+_, _-_, _*_, _/_, _%_, _≤_, _<_, _^_, min}
+use Prim.Native.Nat.{ℕ, zero, suc, _+_, _-_, _/_, _%_, _≤_, _<_, _^_}
 use native.Mathlib.Omega.{arith}
 use lib.Dec.{leb, ltb, eqb}
-use lib.ListN.{length, take, drop, length-take, length-drop}
+use lib.ListN.{length, take, drop, length-drop}
 use lib.Pow.{pow-pos}
 use lib.Seq.{take-at, drop-at}
-use borrow.Author.Tests.{le-leb, le-ltb, lt-ltb, leb-true, leb-false, ltb-true, ltb-false, eq-eqb, ne-eqb, eqb-true, eqb-false}
+use borrow.Author.Tests.{le-leb, le-ltb, lt-ltb, leb-true, ltb-true, ltb-false, ne-eqb, eqb-true}
 use Rattle.bits.specs.Bits.{valueOf, digits}
-use Rattle.bits.specs.laws.Digits.{length-digits, digits-add, digits-value, value-digits, value-digits-mod, value-lt}
+use Rattle.bits.specs.laws.Digits.{length-digits, digits-add, value-digits, value-digits-mod}
 use Rattle.format.specs.Fmt.{Out, Fault, good, bad, orBad, Judge, Fmt, field}
 use Rattle.format.specs.Words.{Part, part, walk, wide, orElse, unless, orZero}
 use Rattle.format.specs.laws.Extent.{opens-field}

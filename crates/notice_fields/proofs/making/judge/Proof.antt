@@ -6,7 +6,6 @@ use borrow.Author.Tests.{eq-eqb, ne-eqb}
 use native.Mathlib.Omega.{arith}
 use borrow.Author.Needs.{needs}
 use Rattle.notice_fields.specs.Row.{longMost}
-use Rattle.notice_fields.specs.Standing.{front}
 use Rattle.notice_fields.specs.Making.{fresh, areaJudged, areasJudged}
 use Rattle.notice_fields.specs.laws.Judging.{area-small}
 use Rattle.walk.specs.Rows.{repeatJudged}

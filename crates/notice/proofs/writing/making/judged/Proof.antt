@@ -17,7 +17,6 @@ use Rattle.notice_fields.specs.Terms.{ourPoint}
 use Rattle.notice_fields.specs.Making.{fresh, areasJudged}
 use Rattle.notice_fields.specs.laws.Judging.{areas-judged}
 use Rattle.notice_fields.specs.Row.{areasTold}
-use Rattle.notice_fields.specs.Standing.{front}
 use Rattle.notice.specs.Record.{texted, valuesOf}
 use Rattle.notice.specs.laws.Judging.{spoken-whole, text-judged, from-front, refused-judged}
 use Rattle.notice.proofs.writing.making.judged.Statement.{statement}

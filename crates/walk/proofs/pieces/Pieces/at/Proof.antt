@@ -1,6 +1,5 @@
 -- `at`: the bits that there are, as a number.
-use Prim.Native.Nat.{ℕ}
-use mathlib.Core.Path.{ap, ap₂, _∙_}
+use mathlib.Core.Path.{ap, _∙_}
 use Rattle.bits.specs.Answers.{got}
 use Rattle.walk.specs.Pieces.{unpieced}
 use borrow.Author.Needs.{needs}
