@@ -162,7 +162,7 @@ fn unopened(walk: walk::walk::Walk) -> Opened
 // The fields in bit order. Another size is refused at once: no field has then to be tested for it. What is refused before the shape is
 // answered there.
 pub fn fields(s: &[u8]) -> Answer
-    ensures { λ r. ⌜ r ≡ answerOf (also recordOf (fieldsOf area 31 31 0 (now (s .entry)))) ⌝ }
+    ensures { λ r. ⌜ r ≡ answerOf (also recordOf (fieldsOf area 31 31 (now (s .entry)))) ⌝ }
 {
     if s.len() != Area::LEAST {
         return Answer::Refused(Refusal::SIZE);

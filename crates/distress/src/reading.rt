@@ -90,7 +90,7 @@ pub fn lead(s: &[u8]) -> u8
 
 // The fields in bit order. A refused report is walked once more for its bit, so that a good one carries none.
 pub fn fields(s: &[u8]) -> Answer
-    ensures { λ r. ⌜ r ≡ answerOf (also reportOf (fieldsOf report 17 17 0 (now (s .entry)))) ⌝ }
+    ensures { λ r. ⌜ r ≡ answerOf (also reportOf (fieldsOf report 17 17 (now (s .entry)))) ⌝ }
 {
     let answer = walked(s);
     let refusal = answer.refusal();
@@ -102,7 +102,7 @@ pub fn fields(s: &[u8]) -> Answer
 
 // Another size is refused at once: no field has then to be tested for it.
 fn walked(s: &[u8]) -> Answer
-    ensures { λ r. ⌜ r ≡ answerOf (also reportOf (fieldsOf report 17 17 0 (now (s .entry)))) ⌝ }
+    ensures { λ r. ⌜ r ≡ answerOf (also reportOf (fieldsOf report 17 17 (now (s .entry)))) ⌝ }
 {
     if s.len() != Report::LEAST {
         return Answer::Refused(Refusal::SIZE);

@@ -65,9 +65,9 @@ first l s = firstOf (sealFault (l .seal) s) (l .lead s)
 
 -- ---- whole messages
 
--- The fields of lo to hi bytes, behind first tests that answered c. Another size is 1, unless these refused.
-abbrev pub fieldsOf : Fmt → ℕ → ℕ → ℕ → List ℕ → Out (List ℕ)
-fieldsOf f lo hi c s = check (fault (firstOf (orBad (between lo hi (length s)) 1) c)) 0 (read f [] 0 (bitsOf s))
+-- The fields of lo to hi bytes. Another size is 1.
+abbrev pub fieldsOf : Fmt → ℕ → ℕ → List ℕ → Out (List ℕ)
+fieldsOf f lo hi s = check (orBad (between lo hi (length s)) 1) 0 (read f [] 0 (bitsOf s))
 
 -- Reading: the lead, the seal, then the fields in bit order.
 unfoldable pub readMessage : Layout → List ℕ → Out (List ℕ)

@@ -69,7 +69,7 @@ pub fn read(s: &[u8]) -> Answer
 
 // The fields in bit order. Another size is refused at once: no field has then to be tested for it.
 pub fn fields(s: &[u8]) -> Answer
-    ensures { λ r. ⌜ r ≡ answerOf (also recordOf (fieldsOf gljc 11 11 0 (now (s .entry)))) ⌝ }
+    ensures { λ r. ⌜ r ≡ answerOf (also recordOf (fieldsOf gljc 11 11 (now (s .entry)))) ⌝ }
 {
     if s.len() != SEALED {
         return Answer::Refused(Refusal::SIZE);

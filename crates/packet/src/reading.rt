@@ -115,7 +115,7 @@ pub fn lead(s: &[u8]) -> u8
 
 // The fields in bit order. Another size is refused at once: no field has then to be tested for it.
 pub fn fields(s: &[u8]) -> Answer
-    ensures { λ r. ⌜ r ≡ answerOf (also recordOf (fieldsOf packet 5 greatest 0 (now (s .entry)))) ⌝ }
+    ensures { λ r. ⌜ r ≡ answerOf (also recordOf (fieldsOf packet 5 greatest (now (s .entry)))) ⌝ }
 {
     if s.len() < Packet::LEAST {
         return Answer::Refused(Refusal::SIZE);

@@ -101,7 +101,7 @@ pub fn read(s: &[u8]) -> Answer
 
 // The fields in bit order. A refused frame is walked once more for its bit, so that a good one carries none.
 pub fn fields(s: &[u8]) -> Answer
-    ensures { λ r. ⌜ r ≡ answerOf (also recordOf (fieldsOf txhz 34 34 0 (now (s .entry)))) ⌝ }
+    ensures { λ r. ⌜ r ≡ answerOf (also recordOf (fieldsOf txhz 34 34 (now (s .entry)))) ⌝ }
 {
     let answer = walked(s);
     let refusal = answer.refusal();
@@ -113,7 +113,7 @@ pub fn fields(s: &[u8]) -> Answer
 
 // Another size is refused at once: no field has then to be tested for it.
 fn walked(s: &[u8]) -> Answer
-    ensures { λ r. ⌜ r ≡ answerOf (also recordOf (fieldsOf txhz 34 34 0 (now (s .entry)))) ⌝ }
+    ensures { λ r. ⌜ r ≡ answerOf (also recordOf (fieldsOf txhz 34 34 (now (s .entry)))) ⌝ }
 {
     if s.len() != SEALED {
         return Answer::Refused(Refusal::SIZE);

@@ -94,7 +94,7 @@ pub fn lead(s: &[u8]) -> u8
 // The fields in bit order. Another size is refused at once: no field has then to be tested for it. What is
 // refused up to the warning type is answered there.
 pub fn fields(s: &[u8]) -> Answer
-    ensures { λ r. ⌜ r ≡ answerOf (also recordOf (fieldsOf warning 23 23 0 (now (s .entry)))) ⌝ }
+    ensures { λ r. ⌜ r ≡ answerOf (also recordOf (fieldsOf warning 23 23 (now (s .entry)))) ⌝ }
 {
     if s.len() != Warning::LEAST {
         return Answer::Refused(Refusal::SIZE);

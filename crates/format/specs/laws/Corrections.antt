@@ -27,8 +27,8 @@ inside true n = n - 1
 
 -- The fields of a message that has a good size are not refused for theirs.
 good-size : (l : Layout) (t : List ℕ) → l .least ≤ length t → length t ≤ l .most
-    → fieldsOf (l .fmt) (inside (l .seal) (l .least)) (inside (l .seal) (l .most)) 0 (body (l .seal) t) ≡ read (l .fmt) [] 0 (bitsOf (body (l .seal) t))
-good-size l t least most = sized-fields (l .fmt) (inside (l .seal) (l .least)) (inside (l .seal) (l .most)) 0 (body (l .seal) t) (λ z. go (l .seal))
+    → fieldsOf (l .fmt) (inside (l .seal) (l .least)) (inside (l .seal) (l .most)) (body (l .seal) t) ≡ read (l .fmt) [] 0 (bitsOf (body (l .seal) t))
+good-size l t least most = sized-fields (l .fmt) (inside (l .seal) (l .least)) (inside (l .seal) (l .most)) (body (l .seal) t) (go (l .seal) .0) (go (l .seal) .1)
   where
     go : (z : Bool) → (inside z (l .least) ≤ length (body z t)) × (length (body z t) ≤ inside z (l .most))
     go false = (least, most)
@@ -68,8 +68,8 @@ module _ {l : Layout} {R A : Type 0} {Lent : R → Type 0} {valuesOf : R → Lis
     family-corrected = corrects (read (l .fmt) [] 0 (bitsOf inner)) (λ least most. ap (λ b. read (l .fmt) [] 0 (bitsOf b)) laid)
 
     -- or their size is tested first.
-    pub family-sized : {d last : Refusal} {b : A} {x : List ℕ} → b ≡ answered good bad (also recordOf (fieldsOf (l .fmt) (inside (l .seal) (l .least)) (inside (l .seal) (l .most)) 0 inner)) → d ≡ refusalOf b
+    pub family-sized : {d last : Refusal} {b : A} {x : List ℕ} → b ≡ answered good bad (also recordOf (fieldsOf (l .fmt) (inside (l .seal) (l .least)) (inside (l .seal) (l .most)) inner)) → d ≡ refusalOf b
         → Finishes (l .seal) code at width old d t last x → Corrects l s i v last x
     family-sized =
-        corrects (fieldsOf (l .fmt) (inside (l .seal) (l .least)) (inside (l .seal) (l .most)) 0 inner)
-        (λ least most. ap (fieldsOf (l .fmt) (inside (l .seal) (l .least)) (inside (l .seal) (l .most)) 0) laid ∙ good-size l t least most)
+        corrects (fieldsOf (l .fmt) (inside (l .seal) (l .least)) (inside (l .seal) (l .most)) inner)
+        (λ least most. ap (fieldsOf (l .fmt) (inside (l .seal) (l .least)) (inside (l .seal) (l .most))) laid ∙ good-size l t least most)

@@ -1,15 +1,15 @@
 -- The first tests of a message: its lead and its seal are one test before the fields. Assumes nothing.
 use mathlib.Core.Path.{_≡_, refl, _∙_}
-use mathlib.Core.Bool.{Bool, true, false, cond, false≢true}
+use mathlib.Core.Bool.{Bool, true, false, cond}
 use mathlib.Core.List.{List, []}
 use Prim.Native.Nat.{ℕ, zero, suc, _-_, _≤_}
 use native.Mathlib.Omega.{arith}
-use borrow.Author.Tests.{le-leb, ne-eqb}
+use borrow.Author.Tests.{le-leb}
 use lib.Dec.{eqb}
 use lib.ListN.{length, take, getD}
 use Rattle.bits.specs.Xor.{xorOf}
 use Rattle.bits.specs.Bits.{bitsOf}
-use Rattle.format.specs.Fmt.{Out, bad, Fmt, refused, orBad, check, read}
+use Rattle.format.specs.Fmt.{Out, Fmt, refused, orBad, check, read}
 use Rattle.format.specs.laws.Legal.{ranged}
 use Rattle.format.specs.Message.{Layout, fault, between, size, fieldsOf, body, sealFault, firstOf, first, told, readMessage}
 
@@ -64,28 +64,19 @@ sized-by l n = go (between (l .least) (l .most) n) refl
 
 -- ---- fields that may be of another size
 
-module _ (f : Fmt) (lo hi c : ℕ) (s : List ℕ) where
-  -- Where what the first tests pass has a good size, the size is no more to be tested.
-  pub sized-fields : (c ≡ 0 → (lo ≤ length s) × (length s ≤ hi)) → fieldsOf f lo hi c s ≡ check (fault c) 0 (read f [] 0 (bitsOf s))
-  sized-fields h = go c (between lo hi (length s)) (λ z. rw (le-leb lo (length s) (h z .0), le-leb (length s) hi (h z .1)) refl)
-    where
-      go : (c : ℕ) (b : Bool) → (c ≡ 0 → b ≡ true) → check (fault (firstOf (orBad b 1) c)) 0 (read f [] 0 (bitsOf s)) ≡ check (fault c) 0 (read f [] 0 (bitsOf s))
-      go c true h = refl
-      go zero false h = absurd (false≢true (h refl))
-      go (suc c) false h = refl
+module _ (f : Fmt) (lo hi : ℕ) (s : List ℕ) where
+  -- What has a good size is read.
+  pub sized-fields : lo ≤ length s → length s ≤ hi → fieldsOf f lo hi s ≡ read f [] 0 (bitsOf s)
+  sized-fields a b = rw (le-leb lo (length s) a, le-leb (length s) hi b) refl
 
   -- Another size is refused, whatever the fields are.
-  pub other-size : (lo ≤ length s → length s ≤ hi → ⊥) → fieldsOf f lo hi c s ≡ refused (cond (eqb c 0) 1 c) 0
+  pub other-size : (lo ≤ length s → length s ≤ hi → ⊥) → fieldsOf f lo hi s ≡ refused 1 0
   other-size n = go (between lo hi (length s)) refl
     where
-      first : (c : ℕ) → check (fault (firstOf (bad 1 0) c)) 0 (read f [] 0 (bitsOf s)) ≡ refused (cond (eqb c 0) 1 c) 0
-      first zero = refl
-      first (suc c) = rw (ne-eqb (suc c) 0 (λ z. omega arith)) refl
-
-      go : (x : Bool) → between lo hi (length s) ≡ x → check (fault (firstOf (orBad x 1) c)) 0 (read f [] 0 (bitsOf s)) ≡ refused (cond (eqb c 0) 1 c) 0
+      go : (x : Bool) → between lo hi (length s) ≡ x → check (orBad x 1) 0 (read f [] 0 (bitsOf s)) ≡ refused 1 0
       go true e = let (a, b) = ranged lo hi (length s) e in absurd (n a b)
-      go false e = first c
+      go false e = refl
 
 -- The same for one size.
-pub exact-fields : (f : Fmt) (n c : ℕ) (s : List ℕ) → (c ≡ 0 → length s ≡ n) → fieldsOf f n n c s ≡ check (fault c) 0 (read f [] 0 (bitsOf s))
-exact-fields f n c s h = sized-fields f n n c s (λ z. (omega (arith, h z), omega (arith, h z)))
+pub exact-fields : (f : Fmt) (n : ℕ) (s : List ℕ) → length s ≡ n → fieldsOf f n n s ≡ read f [] 0 (bitsOf s)
+exact-fields f n s e = sized-fields f n n s (omega (arith, e)) (omega (arith, e))

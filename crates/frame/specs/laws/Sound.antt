@@ -84,9 +84,9 @@ leads-size letters n s e = go (leb 12 (length s)) (eqb (fieldAt s 0 8) 0x24 && e
     go false w x y z ex ey k = absurd (omega (arith, k))
 
 -- Where the first tests pass, what they leave to the fields has all bytes but the seal.
-pub first-size : (letters n : ℕ) (s : List ℕ) {c : ℕ} {b : List ℕ} → c ≡ firstOf (sealFault true s) (leads letters n n s) → b ≡ body true s → c ≡ 0 → length b ≡ n - 1
-first-size letters n s e is z =
-    let l = leads-size letters n s (go (sealFault true s) (leads letters n n s) (sym e ∙ z)) in
+pub first-size : (letters n : ℕ) (s : List ℕ) {b : List ℕ} → 0 ≡ firstOf (sealFault true s) (leads letters n n s) → b ≡ body true s → length b ≡ n - 1
+first-size letters n s e is =
+    let l = leads-size letters n s (go (sealFault true s) (leads letters n n s) (sym e)) in
     ap length is ∙ length-take-le (length s - 1) s (omega arith) ∙ ap (_- 1) l
   where
     go : (x : Fault) (c : ℕ) → firstOf x c ≡ 0 → c ≡ 0

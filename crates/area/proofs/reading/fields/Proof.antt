@@ -25,11 +25,11 @@ use Rattle.ais_common.proofs.time.ShortTime.of.Reads as ShortTime-of-reads
 use Rattle.ais_common.proofs.time.Time.of.Reads as Time-of-reads
 
 returns : tie.Need-returns
-returns c = sym (ap (λ o. answerOf (also recordOf o)) (other-size area 31 31 0 (c .before .before .args .s .now) (λ l u. c .if1 .taken (omega (arith, l, u)))))
+returns c = sym (ap (λ o. answerOf (also recordOf o)) (other-size area 31 31 (c .before .before .args .s .now) (λ l u. c .if1 .taken (omega (arith, l, u)))))
 
 -- the bytes have the area's size: what is walked is their reading
-whole : (c : tie.Else1) → let s = c .before .before .args .s .now in answerOf (also recordOf (read area [] 0 (bitsOf s))) ≡ answerOf (also recordOf (fieldsOf area 31 31 0 s))
-whole c = sym (ap (λ o. answerOf (also recordOf o)) (exact-fields area 31 0 (c .before .before .args .s .now) (λ z. c .if1 .left)))
+whole : (c : tie.Else1) → let s = c .before .before .args .s .now in answerOf (also recordOf (read area [] 0 (bitsOf s))) ≡ answerOf (also recordOf (fieldsOf area 31 31 s))
+whole c = sym (ap (λ o. answerOf (also recordOf o)) (exact-fields area 31 (c .before .before .args .s .now) (c .if1 .left)))
 
 returns-2 : tie.Need-returns-2
 returns-2 c =

@@ -24,7 +24,7 @@ returns-2 c =
     let lead = test .before in
     let s = lead .before .before .args .s .now in
     let passed = sym (test .if1 .left) ∙ lead .lead .ensures in
-    c .fields .ensures ∙ ap (λ o. answerOf (also reportOf o)) (exact-fields report 17 0 s (λ z. sized s (sym passed)) ∙ sym (read-first reports s passed))
+    c .fields .ensures ∙ ap (λ o. answerOf (also reportOf o)) (exact-fields report 17 s (sized s (sym passed)) ∙ sym (read-first reports s passed))
 
 pub read-spec : {M : Type 1} → statement M
 read-spec = tie.close (tie.spec (λ c κs. search needs) (λ c κs. search needs) returns (λ c κs. search needs) returns-2)

@@ -21,7 +21,7 @@ use Rattle.distress.proofs.reading.walked.Statement.{statement}
 use Rattle.distress.proofs.reading.walked.Tie as tie
 
 returns : tie.Need-returns
-returns c = sym (ap (λ o. answerOf (also reportOf o)) (other-size report 17 17 0 (c .before .before .args .s .now) (λ l u. c .if1 .taken (omega (arith, l, u)))))
+returns c = sym (ap (λ o. answerOf (also reportOf o)) (other-size report 17 17 (c .before .before .args .s .now) (λ l u. c .if1 .taken (omega (arith, l, u)))))
 
 returns-2 : tie.Need-returns-2
 unfolding report valuesOf
@@ -61,7 +61,7 @@ returns-2 c =
     let w = same-values (λ i. 0xBDC1 ∷ c1 .num .result .v ∷ sym east i ∷ sym north i ∷ c6 .num2 .result .v ∷ c7 .num3 .result .v ∷ c8 .num4 .result .v ∷ c9 .num5 .result .v ∷ c10 .num6 .result .v ∷ c11 .num7 .result .v ∷ 0 ∷ []) r12 in
     let told = c .before .refusal in
     c .told .ensures ∙ ap (λ r. cond (eqb (told .result .code) 0) (Good r) (Refused (told .result))) (sym (again _ (rw east (c2 .signed .ensures .1)) (rw north (c4 .signed2 .ensures .1)))) ∙ told-so Good Refused reportOf _ _ (ended .end .result .code) (ended .end .result .offset) (told .ensures) (w .so)
-    ∙ sym (ap (λ o. answerOf (also reportOf o)) (exact-fields report 17 0 s (λ z. test .if1 .left)))
+    ∙ sym (ap (λ o. answerOf (also reportOf o)) (exact-fields report 17 s (test .if1 .left)))
 
 pub walked-spec : {M : Type 1} → statement M
 walked-spec =

@@ -15,7 +15,7 @@ use Rattle.gljc.proofs.reading.fields.Statement.{statement}
 use Rattle.gljc.proofs.reading.fields.Tie as tie
 
 returns : tie.Need-returns
-returns c = sym (ap (λ o. answerOf (also recordOf o)) (other-size gljc 11 11 0 (c .before .before .args .s .now) (λ l u. c .if1 .taken (omega (arith, l, u)))))
+returns c = sym (ap (λ o. answerOf (also recordOf o)) (other-size gljc 11 11 (c .before .before .args .s .now) (λ l u. c .if1 .taken (omega (arith, l, u)))))
 
 returns-2 : tie.Need-returns-2
 unfolding gljc recordOf
@@ -29,7 +29,7 @@ returns-2 c =
     let r1 = step-num 8 (lit< tt) (lit≤ tt) (lit< tt) 0 255 r0 (c1 .num .ensures .0) in
     let w = finish (lit< tt) r1 (ended .end .ensures) in
     c .told .ensures ∙ told-so Good Refused recordOf _ _ (ended .end .result .code) (ended .end .result .offset) (c .before .refusal .ensures) (w .so)
-    ∙ sym (ap (λ o. answerOf (also recordOf o)) (exact-fields gljc 11 0 s (λ z. test .if1 .left)))
+    ∙ sym (ap (λ o. answerOf (also recordOf o)) (exact-fields gljc 11 s (test .if1 .left)))
 
 pub fields-spec : {M : Type 1} → statement M
 fields-spec =

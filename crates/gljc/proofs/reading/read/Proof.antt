@@ -28,7 +28,7 @@ returns-2 c =
     let s = first .before .before .args .s .now in
     let passed = sym (test .if1 .left) ∙ first .first .ensures in
     c .fields .ensures
-    ∙ ap (λ o. answerOf (also recordOf o)) (exact-fields gljc 11 0 (inner .inner .result .now) (first-size letters 12 s passed (inner .inner .ensures)))
+    ∙ ap (λ o. answerOf (also recordOf o)) (exact-fields gljc 11 (inner .inner .result .now) (first-size letters 12 s passed (inner .inner .ensures)))
     ∙ ap (λ b. answerOf (also recordOf (read gljc [] 0 (bitsOf b)))) (inner .inner .ensures)
     ∙ ap (λ o. answerOf (also recordOf o)) (sym (read-first gljcs s passed))
 

@@ -25,8 +25,8 @@ use Rattle.packet.proofs.reading.fields.Statement.{statement}
 use Rattle.packet.proofs.reading.fields.Tie as tie
 
 -- a packet of another size is refused
-other : (s : List ℕ) → (5 ≤ length s → length s ≤ greatest → ⊥) → Refused (bare 1) ≡ answerOf (also recordOf (fieldsOf packet 5 greatest 0 s))
-other s n = sym (ap (λ o. answerOf (also recordOf o)) (other-size packet 5 greatest 0 s n))
+other : (s : List ℕ) → (5 ≤ length s → length s ≤ greatest → ⊥) → Refused (bare 1) ≡ answerOf (also recordOf (fieldsOf packet 5 greatest s))
+other s n = sym (ap (λ o. answerOf (also recordOf o)) (other-size packet 5 greatest s n))
 
 returns : tie.Need-returns
 returns c = other (c .before .before .args .s .now) (λ l u. omega (arith, l, c .if1 .taken))
@@ -63,10 +63,10 @@ headed own =
     step-limits 6 (lit< tt) (lit≤ tt) (lit< tt) 3 0 _ (λ h. (0 ‥ ago 0 h - 1) h) (λ v. refl) r5 (own .num4 .ensures .0 ∙ ap (λ n. ranged s 6 true 0 n 4 (total .num3 .result)) (most .last-number .ensures))
 
 -- what passed the tests of its size
-sized : (high : tie.Else2) → let s = high .before .before .before .args .s .now in fieldsOf packet 5 greatest 0 s ≡ read packet [] 0 (bitsOf s)
+sized : (high : tie.Else2) → let s = high .before .before .before .args .s .now in fieldsOf packet 5 greatest s ≡ read packet [] 0 (bitsOf s)
 sized high =
     let low = high .before in
-    sized-fields packet 5 greatest 0 (low .before .before .args .s .now) (λ z. (omega (arith, low .if1 .left), omega (arith, high .if2 .left)))
+    sized-fields packet 5 greatest (low .before .before .args .s .now) (omega (arith, low .if1 .left)) (omega (arith, high .if2 .left))
 
 -- a head that was refused
 returns-3 : tie.Need-returns-3

@@ -28,7 +28,7 @@ returns-2 c =
     let s = first .before .before .args .s .now in
     let passed = sym (test .if1 .left) ∙ first .first .ensures in
     c .fields .ensures
-    ∙ ap (λ o. answerOf (also recordOf o)) (exact-fields txhz 34 0 (inner .inner .result .now) (first-size letters 35 s passed (inner .inner .ensures)))
+    ∙ ap (λ o. answerOf (also recordOf o)) (exact-fields txhz 34 (inner .inner .result .now) (first-size letters 35 s passed (inner .inner .ensures)))
     ∙ ap (λ b. answerOf (also recordOf (read txhz [] 0 (bitsOf b)))) (inner .inner .ensures)
     ∙ ap (λ o. answerOf (also recordOf o)) (sym (read-first txhzs s passed))
 

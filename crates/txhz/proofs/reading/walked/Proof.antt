@@ -16,7 +16,7 @@ use Rattle.txhz.proofs.reading.walked.Statement.{statement}
 use Rattle.txhz.proofs.reading.walked.Tie as tie
 
 returns : tie.Need-returns
-returns c = sym (ap (λ o. answerOf (also recordOf o)) (other-size txhz 34 34 0 (c .before .before .args .s .now) (λ l u. c .if1 .taken (omega (arith, l, u)))))
+returns c = sym (ap (λ o. answerOf (also recordOf o)) (other-size txhz 34 34 (c .before .before .args .s .now) (λ l u. c .if1 .taken (omega (arith, l, u)))))
 
 returns-2 : tie.Need-returns-2
 unfolding txhz recordOf
@@ -43,7 +43,7 @@ returns-2 c =
     let r7 = receipt-read 4 _ (lit< tt) refl refl r6 (c7 .read-receipt5 .ensures) in
     let w = finish (lit< tt) r7 (ended .end .ensures) in
     c .told .ensures ∙ told-so Good Refused recordOf _ _ (ended .end .result .code) (ended .end .result .offset) (c .before .refusal .ensures) (w .so)
-    ∙ sym (ap (λ o. answerOf (also recordOf o)) (exact-fields txhz 34 0 s (λ z. test .if1 .left)))
+    ∙ sym (ap (λ o. answerOf (also recordOf o)) (exact-fields txhz 34 s (test .if1 .left)))
 
 pub walked-spec : {M : Type 1} → statement M
 walked-spec =

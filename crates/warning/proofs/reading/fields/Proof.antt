@@ -29,7 +29,7 @@ use Rattle.warning.proofs.reading.fields.Tie as tie
 use Rattle.ais_common.proofs.time.read.Reads as read-reads′
 
 returns : tie.Need-returns
-returns c = sym (ap (λ o. answerOf (also recordOf o)) (other-size warning 23 23 0 (c .before .before .args .s .now) (λ l u. c .if1 .taken (omega (arith, l, u)))))
+returns c = sym (ap (λ o. answerOf (also recordOf o)) (other-size warning 23 23 (c .before .before .args .s .now) (λ l u. c .if1 .taken (omega (arith, l, u)))))
 
 -- the steps up to the warning type
 module _ (type : tie.After-number) where
@@ -70,8 +70,8 @@ module _ (type : tie.After-number) where
       step-decide 4 (lit< tt) (lit≤ tt) (lit< tt) 1 1 5 (1 ‥ 5) (λ v. refl) r6 (type .number .ensures .0)
 
   -- their reading is the one of the bytes, which have the warning's size
-  whole : answerOf (also recordOf all) ≡ answerOf (also recordOf (fieldsOf warning 23 23 0 bytes))
-  whole = sym (ap (λ o. answerOf (also recordOf o)) (exact-fields warning 23 0 bytes (λ z. sized .if1 .left)))
+  whole : answerOf (also recordOf all) ≡ answerOf (also recordOf (fieldsOf warning 23 23 bytes))
+  whole = sym (ap (λ o. answerOf (also recordOf o)) (exact-fields warning 23 bytes (sized .if1 .left)))
 
 returns-2 : tie.Need-returns-2
 returns-2 c =
