@@ -1,6 +1,6 @@
 -- `lead` gives 01's first tests: each way out decides the tests before it.
 use mathlib.Core.Path.{◌≡◌, refl, sym, ◌∙◌}
-use mathlib.Core.Bool.{cond, ◌&&◌, and_false}
+use mathlib.Core.Bool.{cond, ◌&&◌, and-false}
 use mathlib.Core.List.{List}
 use Prim.Native.Nat.{ℕ, ◌+◌, ◌≤◌}
 use native.Mathlib.Omega.{arith}
@@ -64,7 +64,7 @@ returns-5 c =
     let a = d.before.before.before.args in
     let s = a.s.now in
     sym (named s a.letters a.least a.most l.get2.ensures f3.if3.false d.get.ensures l.before.if2.false (omega arith)
-    ∙ rw (lt-leb (length s) a.most c.if5.true, and_false) refl)
+    ∙ rw (lt-leb (length s) a.most c.if5.true, and-false) refl)
 
 returns-6 : tie.Need-returns-6
 returns-6 c =

@@ -2,7 +2,7 @@
 use Rattle.std.specs.Prelude.{◌≡◌, Bool, ◌&&◌, List, [], ◌∷◌, ◌++◌, ℕ, ◌+◌, ◌-◌, ◌*◌, ◌≤◌, ◌<◌, leb, ltb, length, take, drop, get_or}
 use Rattle.std.proofs.Math.Path.{refl, sym, subst⁻¹}
 use Rattle.std.proofs.Common.{ap, ◌∙◌, length-append, take_at, get_or-drop, get_or-append-add, zero-add, le-leb, leb-true, ltb-true, eqb-true}
-use Rattle.std.proofs.Math.Bool.{true, false, cond, and_false}
+use Rattle.std.proofs.Math.Bool.{true, false, cond, and-false}
 use native.Mathlib.Omega.{arith}
 use Rattle.std.proofs.Math.Dec.{eqb}
 use Rattle.std.proofs.lemmas.List.Edits.{sets-eq}
@@ -67,7 +67,7 @@ module _ (terms : Terms) (s a t : List ℕ) where
     reads_few l = rw (e, lt-leb (length x.1.0) (length a) l) (refl, refl, refl)
 
     pub reads_short : length t < length x.1.1 → Reads terms s a t (Refused (bare 6)) a t
-    reads_short l = rw (e, lt-leb (length x.1.1) (length t) l, and_false (leb (length x.1.0) (length a))) (refl, refl, refl)
+    reads_short l = rw (e, lt-leb (length x.1.1) (length t) l, and-false (leb (length x.1.0) (length a))) (refl, refl, refl)
 
     pub reads_good : length x.1.0 ≤ length a → length x.1.1 ≤ length t → Reads terms s a t (Good (told_of x)) (ahead x.1.0 a) (ahead x.1.1 t)
     reads_good k l = rw (e, le-leb (length x.1.0) (length a) k, le-leb (length x.1.1) (length t) l) (refl, refl, refl)

@@ -1,7 +1,7 @@
 -- The tests of reading: what they show where they pass, and the definition's case at each way out. Assumes nothing.
 use Rattle.std.specs.Prelude.{Bool, true, false, cond, not, ◌&&◌, List, [], ◌∷◌, ◌≡◌, ℕ, zero, suc, ◌+◌, ◌-◌, ◌≤◌, ◌<◌, leb, eqb, length, take, drop, get_or}
 use Rattle.std.proofs.lemmas.Bool.{false≢true}
-use Rattle.std.proofs.Math.Bool.{and_false, and-eq-true_iff}
+use Rattle.std.proofs.Math.Bool.{and-false, and-eq-true_iff}
 use Rattle.std.proofs.Math.Path.{refl}
 use Rattle.std.proofs.Common.{ap, ◌∙◌, arith, drop-cons, add-one}
 use borrow.Author.Tests.{le-leb, lt-leb, leb-true, eqb-true, eqb-false, eq-eqb, ne_eqb, not-true}
@@ -38,7 +38,7 @@ module _ (s : List ℕ) where
 
   pub lead_long : 60 < length s → lead_of s ≡ 1
   unfolding lead_of
-  lead_long h = rw (lt-leb (length s) 60 h, and_false (leb 54 (length s))) refl
+  lead_long h = rw (lt-leb (length s) 60 h, and-false (leb 54 (length s))) refl
 
   module _ (l : 54 ≤ length s) (m : length s ≤ 60) where
     pub lead_start : same_bytes (take 7 s) start_mark ≡ false → lead_of s ≡ 2
@@ -173,7 +173,7 @@ addresses ds a =
 module _ (ds : List ℕ) where
   pub address_zero : get_or ds 0 0 ≡ 48 → address_like ds ≡ false
   unfolding address_like
-  address_zero e = rw (eq-eqb (get_or ds 0 0) 48 e, and_false (all_digits 10 ds)) refl
+  address_zero e = rw (eq-eqb (get_or ds 0 0) 48 e, and-false (all_digits 10 ds)) refl
 
   pub address_other : all_digits 10 ds ≡ false → address_like ds ≡ false
   unfolding address_like
@@ -215,4 +215,4 @@ unfolding same_bytes
 same_long [] [] h = absurd (h refl)
 same_long [] (d ∷ t) h = refl
 same_long (c ∷ s) [] h = refl
-same_long (c ∷ s) (d ∷ t) h = rw (same_long s t (λ e. h (ap suc e)), and_false) refl
+same_long (c ∷ s) (d ∷ t) h = rw (same_long s t (λ e. h (ap suc e)), and-false) refl

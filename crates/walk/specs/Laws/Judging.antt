@@ -2,7 +2,7 @@
 use Rattle.std.specs.Prelude.{◌≡◌, ℕ, zero, suc, ◌+◌, ◌-◌, ◌/◌, ◌%◌, ◌^◌, ◌<◌, ◌≤◌, Bool, true, false, cond, ◌&&◌, List, [], ◌∷◌, ◌++◌, length, ◌==◌, ◌≢◌, nat_le, nat_lt, refl}
 use Rattle.std.proofs.Common.{sym, ap, ◌∙◌, arith, add-zero, le_refl, mod-eq_of_lt, length-append, le-leb, leb-true, ltb-true, ltb-false, eqb-true, ne_eqb}
 use Rattle.std.proofs.Math.Path.{subst⁻¹}
-use Rattle.std.proofs.Math.Bool.{and_false}
+use Rattle.std.proofs.Math.Bool.{and-false}
 use Rattle.std.proofs.lemmas.Bool.{lt-leb, eqb-false}
 use Rattle.bits.specs.Bits.{digits}
 use Rattle.bits.specs.Laws.Digits.{length_digits}
@@ -106,7 +106,7 @@ wrong_limits : (w lo hi : ℕ) (t : Test) (h : List ℕ) (v : ℕ) → hi < 2 ^ 
 wrong_limits w lo hi t h v n k = go (nat_lt v (2 ^ w)) refl
   where
     over : 2 ^ w ≤ v → ◌≡◌ {A = ℕ} (cond (nat_le lo v && nat_le v hi) 0 4) 4
-    over l = rw (lt-leb v hi (omega arith), and_false)
+    over l = rw (lt-leb v hi (omega arith), and-false)
 
     go : (t' : Bool) → nat_lt v (2 ^ w) ≡ t' → wrong w (only w 4 t h) v ≡ blamed (cond (nat_le lo v && nat_le v hi) 0 4) 0
     go true e = let l = ltb-true v (2 ^ w) e in wrong_narrow w 3 t h v l ∙ ap (λ x. blamed (cond x 0 4) 0) (k l)

@@ -2,7 +2,7 @@
 use Rattle.std.specs.Prelude.{◌≡◌, ℕ, ◌+◌, ◌-◌, ◌*◌, ◌^◌, ◌<◌, ◌≤◌, min, Bool, true, false, cond, List, ◌∷◌, length, take, drop, nat_le}
 use Rattle.std.proofs.Math.Path.{refl, sym, ap, subst⁻¹}
 use Rattle.std.proofs.Common.{◌∙◌, arith, length-take, length-drop, take-take, leb-true, leb-false}
-use Rattle.std.proofs.Math.Bool.{and_false}
+use Rattle.std.proofs.Math.Bool.{and-false}
 use Rattle.std.proofs.Math.Nat.{min-eq_left, mod-eq_of_lt}
 use Rattle.std.proofs.Math.Seq.{take-length}
 use Rattle.std.proofs.lemmas.Bool.{lt-leb}
@@ -53,7 +53,7 @@ module _ (s : List ℕ) (at w : ℕ) (small : w ≤ 32) where
           ap (λ x. cond x (field_at s at (length b)) 0) (outside (length b) l) ∙ sym (ap value_of (sym first ∙ ap (λ n. take n rest) none) ∙ value_nil)
         where
           outside : (n : ℕ) → length s * 8 < at → within (length s) at n ≡ false
-          outside n l = rw (lt-leb (at + n) (length s * 8) (omega arith)) (and_false (nat_le n 32))
+          outside n l = rw (lt-leb (at + n) (length s * 8) (omega arith)) (and-false (nat_le n 32))
 
   lying_is : lying s at w ≡ unpieced (length b) (value_of b)
   lying_is = ap (λ n. unpieced n (got s at n)) (sym long) ∙ ap (unpieced (length b)) spelt

@@ -1,7 +1,7 @@
 -- The code judges a field made of parts as the layout's judge does, by the bits that there are: part by part from the highest bits down, up to the first refusal. Assumes nothing.
 use Rattle.std.specs.Prelude.{◌≡◌, ℕ, zero, suc, ◌+◌, ◌-◌, ◌/◌, ◌%◌, ◌^◌, ◌<◌, ◌≤◌, Bool, true, false, cond, ◌&&◌, List, [], ◌∷◌, length, take, drop, ◌==◌, ◌≢◌, nat_le, nat_lt, refl}
 use Rattle.std.proofs.Common.{sym, ap, ap₂, ◌∙◌, arith, length-drop, pow_pos, take_at, drop_at, le-leb, le-ltb, lt-ltb, leb-true, ltb-true, ltb-false, ne_eqb, eqb-true}
-use Rattle.std.proofs.Math.Bool.{and_false}
+use Rattle.std.proofs.Math.Bool.{and-false}
 use Rattle.std.proofs.lemmas.Bool.{false≢true}
 use Rattle.bits.specs.Bits.{value_of, digits}
 use Rattle.bits.specs.Laws.Digits.{length_digits, digits_add, value_digits, value_digits_mod}
@@ -160,7 +160,7 @@ zero_match j h {w} {judge} kept e = record {
   inner = e.inner;
   there = λ b x. good_there b (length b == w && value_of b == 0) refl x;
   beyond = λ v l. (
-    rw ((kept w v).0, (kept w v).1, ne_eqb v 0 (λ z. omega (arith, l, pow_pos w)), and_false) (e.beyond v l).0,
+    rw ((kept w v).0, (kept w v).1, ne_eqb v 0 (λ z. omega (arith, l, pow_pos w)), and-false) (e.beyond v l).0,
     (e.beyond v l).1,
   );
 }

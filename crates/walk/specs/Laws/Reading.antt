@@ -2,7 +2,7 @@
 use Rattle.std.specs.Prelude.{◌≡◌, ℕ, zero, suc, ◌+◌, ◌-◌, ◌*◌, ◌/◌, ◌%◌, ◌^◌, ◌<◌, ◌≤◌, Bool, true, false, cond, ◌&&◌, List, [], ◌∷◌, length, take, drop, ◌==◌, nat_le, refl}
 use Rattle.std.proofs.Common.{sym, ◌∙◌, subst, arith, add-zero, zero-add, mod-eq_of_lt, length-drop, pow_pos, le-leb, leb-true, ne_eqb}
 use Rattle.std.proofs.Math.Path.{ap, subst⁻¹}
-use Rattle.std.proofs.Math.Bool.{and_false}
+use Rattle.std.proofs.Math.Bool.{and-false}
 use Rattle.std.proofs.lemmas.Bool.{false≢true, lt-leb}
 use Rattle.bits.specs.Bits.{value_of, bits_of, field_at}
 use Rattle.bits.specs.Answers.{within, got}
@@ -94,8 +94,8 @@ blank_field s at w small reach fits =
 
     go : (x y n : ℕ) → 0 < n → ◌≡◌ {A = ℕ} (cond (x == 0) (cond (y == 0) 0 5) 5) (cond (nat_le 0 (x * n + y) && nat_le (x * n + y) 0) 0 5)
     go zero zero n l = let e : 0 * n + 0 ≡ 0 = omega arith in rw e refl
-    go zero (suc y) n l = rw (ne_eqb (suc y) 0 (λ z. omega arith), lt-leb (0 * n + suc y) 0 (omega arith), and_false) refl
-    go (suc x) y (suc n) l = rw (ne_eqb (suc x) 0 (λ z. omega arith), lt-leb (suc x * suc n + y) 0 (omega arith), and_false) refl
+    go zero (suc y) n l = rw (ne_eqb (suc y) 0 (λ z. omega arith), lt-leb (0 * n + suc y) 0 (omega arith), and-false) refl
+    go (suc x) y (suc n) l = rw (ne_eqb (suc x) 0 (λ z. omega arith), lt-leb (suc x * suc n + y) 0 (omega arith), and-false) refl
     go (suc x) y zero l = absurd (omega arith)
 
 -- Fill of up to 64 bits.

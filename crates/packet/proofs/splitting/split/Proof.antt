@@ -1,6 +1,6 @@
 -- `split` tests the size and the packet's number, and then is the writing of that packet.
 use Rattle.std.proofs.Common.{◌≡◌, ◌+◌, ◌-◌, ◌/◌, length, sym, refl, ap, ◌∙◌, arith, rules, le-ltb, lt-ltb, le-leb}
-use mathlib.Core.Bool.{and_false}
+use mathlib.Core.Bool.{and-false}
 use borrow.Author.Tests.{lt-leb}
 use Rattle.format.specs.Fmt.{refused}
 use Rattle.format.specs.Message.{told, leaves, into, write_message, refuses}
@@ -27,7 +27,7 @@ returns-2 c =
     let a = i.args in
     let s = a.buf.now in
     let x = a.content.now in
-    let m : splitting s x a.english a.number a.packet ≡ refused 1 0 = rw (lt-leb (length x) joined c.if2.true, and_false) refl in
+    let m : splitting s x a.english a.number a.packet ≡ refused 1 0 = rw (lt-leb (length x) joined c.if2.true, and-false) refl in
     refuses m
 
 returns-3 : tie.Need-returns-3

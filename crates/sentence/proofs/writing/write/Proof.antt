@@ -1,6 +1,6 @@
 -- `write`: address, report and room are tested in this order, and a way out before them leaves the buffer.
 use mathlib.Core.Path.{◌≡◌, refl, ap, ◌∙◌}
-use mathlib.Core.Bool.{true, and_false}
+use mathlib.Core.Bool.{true, and-false}
 use Prim.Native.Nat.{◌+◌, ◌-◌}
 use native.Mathlib.Omega.{arith}
 use lib.Dec.{leb}
@@ -44,7 +44,7 @@ returns c = let a = c.before.before.args in
 
 returns-2 : tie.Need-returns-2
 returns-2 c = let a = c.before.before.before.args in
-    bad_address a.buf.now a.address a.r (rw (lt-leb a.address 2_097_151 c.if2.true, and_false (leb 1 a.address)) refl)
+    bad_address a.buf.now a.address a.r (rw (lt-leb a.address 2_097_151 c.if2.true, and-false (leb 1 a.address)) refl)
 
 returns-3 : tie.Need-returns-3
 returns-3 c = let w = c.before.before.before in

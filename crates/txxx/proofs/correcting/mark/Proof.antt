@@ -1,6 +1,6 @@
 -- `mark` tests the sizes, then counts from the end.
 use mathlib.Core.Path.{refl}
-use mathlib.Core.Bool.{and_false}
+use mathlib.Core.Bool.{and-false}
 use native.Mathlib.Omega.{arith}
 use borrow.Author.Tests.{le-leb, lt-leb}
 use borrow.Author.Rules.{rules}
@@ -11,7 +11,7 @@ returns : tie.Need-returns
 returns c = rw (lt-leb 20 c.before.args.len c.if1.true) refl
 
 returns-2 : tie.Need-returns-2
-returns-2 c = let n = c.before.before.args.len in rw (lt-leb n 230 c.if2.true, and_false) refl
+returns-2 c = let n = c.before.before.args.len in rw (lt-leb n 230 c.if2.true, and-false) refl
 
 returns-3 : tie.Need-returns-3
 returns-3 c = let n = c.before.before.args.len in rw (le-leb 20 n (omega (arith, c.before.if1.false)), le-leb n 230 (omega (arith, c.if2.false))) refl

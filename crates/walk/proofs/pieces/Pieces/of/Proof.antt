@@ -1,6 +1,6 @@
 -- `of`: a number is too wide where something stands above its bits.
 use Rattle.std.proofs.Common.{◌≡◌, ℕ, ◌/◌, ◌^◌, Bool, true, false, cond, ◌&&◌, ltb, leb, refl, ap, ◌∙◌, arith, rules, ltb-false, ltb-true}
-use mathlib.Core.Bool.{and_false}
+use mathlib.Core.Bool.{and-false}
 use native.Mathlib.Nat.{div-eq_of_lt}
 use borrow.Author.Tests.{lt-leb}
 use Rattle.bits.specs.Laws.Digits.{small}
@@ -15,7 +15,7 @@ too_wide v w = go (ltb v (2 ^ w)) refl
     go false e =
         let l = ltb-false v (2 ^ w) e in
         let n : v / 2 ^ w ≡ 0 → ⊥ = λ z. omega (arith, small v w z) in
-        rw (lt-leb (v / 2 ^ w) 0 (omega arith), and_false) refl
+        rw (lt-leb (v / 2 ^ w) 0 (omega arith), and-false) refl
 
 returns : tie.Need-returns
 returns c =

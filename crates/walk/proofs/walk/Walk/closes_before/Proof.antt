@@ -1,5 +1,5 @@
 -- `closes_before`: each test that fails decides the answer.
-use mathlib.Core.Bool.{and_false}
+use mathlib.Core.Bool.{and-false}
 use Rattle.std.proofs.Common.{◌≡◌, ◌+◌, sym, refl, ap, ◌∙◌, arith, rules, eq-eqb, ne_eqb, le-leb}
 use borrow.Author.Tests.{lt-leb}
 use Rattle.format.specs.Refusals.{shown, bare}
@@ -21,7 +21,7 @@ returns-2 c =
     let p = c.before.before in
     let a = p.before.args in
     let n = p.bytes.result + a.more in
-    let e : bare 1 ≡ verdict (shown a.self.code a.self.offset) a.least a.most a.room n = rw (eq-eqb a.self.code 0 c.before.if1.false, lt-leb n a.most (omega (arith, c.if2.true)), and_false) refl in
+    let e : bare 1 ≡ verdict (shown a.self.code a.self.offset) a.least a.most a.room n = rw (eq-eqb a.self.code 0 c.before.if1.false, lt-leb n a.most (omega (arith, c.if2.true)), and-false) refl in
     e ∙ ap (λ n. verdict (shown a.self.code a.self.offset) a.least a.most a.room (n + a.more)) p.bytes.ensures ∙ sym (closing_beyond a.seal a.least a.most a.room a.more a.self)
 
 returns-3 : tie.Need-returns-3
@@ -29,7 +29,7 @@ returns-3 c =
     let p = c.before.before.before in
     let a = p.before.args in
     let n = p.bytes.result + a.more in
-    let e : bare 1 ≡ verdict (shown a.self.code a.self.offset) a.least a.most a.room n = rw (eq-eqb a.self.code 0 c.before.before.if1.false, lt-leb n a.most (omega (arith, c.before.if2.false, c.if3.true)), and_false) refl in
+    let e : bare 1 ≡ verdict (shown a.self.code a.self.offset) a.least a.most a.room n = rw (eq-eqb a.self.code 0 c.before.before.if1.false, lt-leb n a.most (omega (arith, c.before.if2.false, c.if3.true)), and-false) refl in
     e ∙ ap (λ n. verdict (shown a.self.code a.self.offset) a.least a.most a.room (n + a.more)) p.bytes.ensures ∙ sym (closing_beyond a.seal a.least a.most a.room a.more a.self)
 
 returns-4 : tie.Need-returns-4
