@@ -1,0 +1,27 @@
+-- `bits::scatter` meets its contract: the bytes from k on are stored, and `rest` is what they leave of `all`.
+use mathlib.Core.Path.{◌≡◌, refl}
+use Prim.Native.Nat.{◌*◌, ◌-◌, ◌/◌, ◌≤◌, ◌^◌}
+use native.Mathlib.Omega.{arith}
+use borrow.Author.Rules.{rules}
+use lib.ListN.{length, length-set}
+use Rattle.bits.specs.Laws.Loops.{filled, filled_none, filled_next, filled_all, rest_none, rest_next}
+use Rattle.bits.proofs.scatter.Goals as goal
+
+pub loop-k-init : goal.loop-k-init
+loop-k-init c =
+    let a = c.args in
+    (omega arith, refl, rest_none a.count a.all, filled_none a.s.now a.from a.count a.all)
+
+pub loop-k-preserved : goal.loop-k-preserved
+loop-k-preserved c =
+    let a = c.args in
+    let k = c.loop-k.k in
+    let rest = rest_next a.s.now a.from a.count k a.all (omega arith) (omega arith) in
+    let next = filled_next a.s.now a.from a.count k a.all (omega arith) (omega arith) (omega arith) in
+    (omega arith, simp length-set c.loop-k.invariant.1, cc, cc)
+
+pub returns : goal.returns
+returns c =
+    let a = c.args in
+    let e : c.loop-k.k ≡ 0 = omega arith in
+    cc (filled_all a.s.now a.from a.count a.all)

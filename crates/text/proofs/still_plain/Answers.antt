@@ -1,0 +1,6 @@
+-- `text::still_plain` meets its contract: either way of its test.
+use borrow.Author.Rules.{rules}
+use Rattle.text.proofs.still_plain.Goals as goal
+
+pub returns-then-good : goal.returns-then-good
+returns-then-good c = rw c.if-good.true c.is_plain.ensures
