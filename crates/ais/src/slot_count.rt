@@ -4,7 +4,7 @@ ghost use Rattle.ais.specs.Slots.{slots_for, slots_in, answer_of};
 
 use format::Refusal;
 
-#[derive(Drop)]
+#[derive(Clone, Copy)]
 pub enum Needed {
     Slots(u8),
     Refused(Refusal),

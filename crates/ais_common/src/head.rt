@@ -10,7 +10,7 @@ pub const SMALLEST: usize = 23;
 pub const AUTHORITY: u64 = 412;
 
 // What tells a message's kind.
-#[derive(Drop)]
+#[derive(Clone, Copy)]
 pub struct Head {
     pub message: u64,
     // Authority, 10 bits, and application, 6 bits, side by side.
@@ -20,7 +20,7 @@ pub struct Head {
 }
 
 // What the first tests ask of a message of a kind.
-#[derive(Drop)]
+#[derive(Clone, Copy)]
 pub struct Asked {
     pub message: u64,
     pub application: u64,

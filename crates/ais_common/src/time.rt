@@ -8,7 +8,7 @@ use walk::pieces::Pieces;
 use walk::walk::Walk;
 
 // 0 for a month or a day that is not needed.
-#[derive(Drop)]
+#[derive(Clone, Copy)]
 pub struct Time {
     pub month: u8,
     pub day: u8,
@@ -16,7 +16,7 @@ pub struct Time {
     pub minute: u8,
 }
 
-#[derive(Drop)]
+#[derive(Clone, Copy)]
 pub struct ShortTime {
     pub month: u8,
     pub day: u8,

@@ -12,7 +12,7 @@ use format::Refusal;
 
 pub mod shapes;
 
-#[derive(Drop)]
+#[derive(Clone, Copy)]
 pub struct Area {
     pub repeat: u8,
     pub source: u32,
@@ -28,7 +28,7 @@ pub struct Area {
     pub advice: u8,
 }
 
-#[derive(Drop)]
+#[derive(Clone, Copy)]
 pub enum Answer {
     Good(Area),
     Refused(Refusal),
@@ -100,7 +100,7 @@ pub fn lead(s: &[u8]) -> u8
 }
 
 // The fields before the shape, and the walk behind them, whose last value is the shape's number.
-#[derive(Drop)]
+#[derive(Clone, Copy)]
 pub struct Opened {
     pub repeat: u8,
     pub source: u32,

@@ -7,7 +7,7 @@ use area::{Answer, Area, Shape};
 use format::Refusal;
 
 // A shape's numbers in the paper's order: a circle has three, and 0 behind them.
-#[derive(Drop)]
+#[derive(Clone, Copy)]
 struct Four {
     longitude: i32,
     latitude: i32,

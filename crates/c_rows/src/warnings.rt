@@ -8,7 +8,7 @@ use warning::bodies::Body;
 use warning::{Answer, Warning};
 
 // A body's numbers in the paper's order, and 0 where the body has no more.
-#[derive(Drop)]
+#[derive(Clone, Copy)]
 struct Seven {
     first: u16,
     second: u16,

@@ -5,7 +5,7 @@ ghost use Rattle.format.specs.Correcting.{admitted, Begins, Finishes};
 use format::Refusal;
 
 // Where a field stands, and its width: 0 for none that may be corrected.
-#[derive(Drop)]
+#[derive(Clone, Copy)]
 pub struct Spot {
     pub at: usize,
     pub width: usize,
@@ -30,7 +30,7 @@ fn admits(refusal: Refusal, at: usize, width: usize, v: u64) -> Refusal
 }
 
 // A correction that was begun: no refusal, where the field was changed; where the field stands, and what it was.
-#[derive(Drop)]
+#[derive(Clone, Copy)]
 pub struct Begun {
     pub refusal: Refusal,
     pub at: usize,

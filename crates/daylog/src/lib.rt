@@ -17,7 +17,7 @@ pub mod records;
 pub mod turns;
 
 // How many bytes were laid at the front of a lent slice, and 0; or none, and the refusal.
-#[derive(Drop)]
+#[derive(Clone, Copy)]
 pub struct Laid {
     pub code: u8,
     pub bytes: usize,
@@ -25,7 +25,7 @@ pub struct Laid {
 
 // How many bytes of the window are listed, how many bytes of text they made, the next record's number, and 0; or none, and
 // the refusal.
-#[derive(Drop)]
+#[derive(Clone, Copy)]
 pub struct Listed {
     pub code: u8,
     pub used: usize,

@@ -12,7 +12,7 @@ pub const HEAD: usize = 4;
 const GREATEST: usize = 256;
 
 // What the bytes that are left begin with.
-#[derive(Drop)]
+#[derive(Clone, Copy)]
 pub enum Next {
     // A whole record: its kind, and the size of its body.
     Record(u16, usize),

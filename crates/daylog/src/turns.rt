@@ -10,7 +10,7 @@ use crate::{ending, heading, keep, list};
 
 // What the program does next: it writes the first `made` bytes of the text. Where it is not done then, it reads behind the
 // bytes that wait at the front of the input, and takes the next turn.
-#[derive(Drop)]
+#[derive(Clone, Copy)]
 pub struct State {
     pub made: usize,
     // The listing has ended: by 0, or by a refusal.

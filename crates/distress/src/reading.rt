@@ -8,7 +8,7 @@ ghost use Rattle.format.specs.Message.{fields_of};
 
 use format::Refusal;
 
-#[derive(Drop)]
+#[derive(Clone, Copy)]
 pub struct Report {
     pub mmsi: u32,
     // Thousandths of a minute, 10,860,000 and 5,460,000 for none.
@@ -25,7 +25,7 @@ pub struct Report {
     pub kind: u8,
 }
 
-#[derive(Drop)]
+#[derive(Clone, Copy)]
 pub enum Answer {
     Good(Report),
     Refused(Refusal),

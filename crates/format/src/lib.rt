@@ -27,7 +27,7 @@ pub const UNKNOWN: u8 = 11;
 
 // Why a call refused, and where: the first bit of the field at fault, counted from the message's start, and 0 where no field gave the
 // refusal. Number 0 is none.
-#[derive(Drop)]
+#[derive(Clone, Copy)]
 pub struct Refusal {
     pub code: u8,
     pub bit: usize,

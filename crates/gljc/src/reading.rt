@@ -8,13 +8,13 @@ ghost use Rattle.gljc.specs.declared.reading.Answer.TheVariants.{Good, Refused};
 
 use format::Refusal;
 
-#[derive(Drop)]
+#[derive(Clone, Copy)]
 pub struct Gljc {
     pub address: u32,
     pub minutes: u8,
 }
 
-#[derive(Drop)]
+#[derive(Clone, Copy)]
 pub enum Answer {
     Good(Gljc),
     Refused(Refusal),

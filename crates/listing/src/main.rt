@@ -6,7 +6,7 @@ ghost use Rattle.std.specs.Prelude.{◌≤◌, length};
 use libc::{STDIN_FILENO, STDOUT_FILENO};
 
 // How many bytes were read, and whether they could be.
-#[derive(Drop)]
+#[derive(Clone, Copy)]
 struct Filled {
     got: usize,
     is_read: bool,

@@ -11,7 +11,7 @@ use walk::choosing::choose_code;
 use walk::walk::Walk;
 
 // The numbers of its areas stand beside the record in a row, one area behind another, and its text in a buffer: both are lent.
-#[derive(Drop)]
+#[derive(Clone, Copy)]
 pub struct Notice {
     // 1 to 21.
     pub source: u8,
@@ -32,14 +32,14 @@ pub struct Notice {
 }
 
 // A notice that was read: the record, how many numbers its areas have and how many bytes its text.
-#[derive(Drop)]
+#[derive(Clone, Copy)]
 pub struct Told {
     pub notice: Notice,
     pub numbers: usize,
     pub text: usize,
 }
 
-#[derive(Drop)]
+#[derive(Clone, Copy)]
 pub enum Answer {
     Good(Told),
     Refused(Refusal),
@@ -56,21 +56,21 @@ impl Notice {
 }
 
 // The walk in front of the areas, and what stands there.
-#[derive(Drop)]
+#[derive(Clone, Copy)]
 pub struct Opening {
     pub walk: Walk,
     pub notice: Notice,
 }
 
 // The walk behind the text, and how many bytes it has.
-#[derive(Drop)]
+#[derive(Clone, Copy)]
 pub struct Ending {
     pub walk: Walk,
     pub text: usize,
 }
 
 // The walk over a whole notice, its record, and where its text stands and how many bytes it has.
-#[derive(Drop)]
+#[derive(Clone, Copy)]
 pub struct Course {
     pub walk: Walk,
     pub notice: Notice,

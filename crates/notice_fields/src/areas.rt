@@ -14,7 +14,7 @@ pub const CIRCLE: u64 = 3;
 pub const FRONT: u32 = 63;
 
 // The walk in front of an area's points, and how many they are.
-#[derive(Drop)]
+#[derive(Clone, Copy)]
 pub struct Opened {
     pub walk: Walk,
     pub points: u64,

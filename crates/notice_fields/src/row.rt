@@ -8,7 +8,7 @@ use crate::areas::{CIRCLE, FRONT, SEA};
 use crate::parts::{LATITUDE, LONGITUDE, POINT};
 
 // An area by its bits: how many points it has and where the first stands, where the next area does, and how many numbers it is told by.
-#[derive(Drop)]
+#[derive(Clone, Copy)]
 pub struct Shape {
     pub points: usize,
     pub first: usize,
@@ -17,7 +17,7 @@ pub struct Shape {
 }
 
 // How many numbers and points areas have, all together.
-#[derive(Drop)]
+#[derive(Clone, Copy)]
 pub struct Extent {
     pub numbers: usize,
     pub points: usize,

@@ -13,7 +13,7 @@ use notice_fields::parts::{LATITUDE, LONGITUDE, POINT};
 pub mod angles;
 
 // How many points, or the refusal.
-#[derive(Drop)]
+#[derive(Clone, Copy)]
 pub enum Answer {
     Good(usize),
     Refused(Refusal),

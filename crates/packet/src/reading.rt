@@ -9,7 +9,7 @@ ghost use Rattle.packet.specs.declared.reading.Answer.TheVariants.{Good, Refused
 use format::Refusal;
 
 // The content stands beside the record: in the packet that was read, or lent to be written.
-#[derive(Drop)]
+#[derive(Clone, Copy)]
 pub struct Packet {
     // 0 Chinese, 1 English.
     pub language: u8,
@@ -21,7 +21,7 @@ pub struct Packet {
     pub own: u8,
 }
 
-#[derive(Drop)]
+#[derive(Clone, Copy)]
 pub enum Answer {
     Good(Packet),
     Refused(Refusal),

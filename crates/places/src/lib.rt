@@ -12,7 +12,7 @@ pub mod four;
 
 // Laid out as in C, since rust/trial lends rows of places (`c_trial`).
 #[repr(C)]
-#[derive(Drop)]
+#[derive(Clone, Copy)]
 pub struct Place {
     pub open: bool,
     // The message number of its notice.
@@ -25,7 +25,7 @@ pub struct Place {
     pub sizes: [u8; MOST],
 }
 
-#[derive(Drop)]
+#[derive(Clone, Copy)]
 pub enum Reply {
     // A packet accepted, a notice dropped.
     Done,
@@ -39,7 +39,7 @@ pub enum Reply {
 }
 
 // What a call makes of the places: place `at` becomes `place`, and no other changes.
-#[derive(Drop)]
+#[derive(Clone, Copy)]
 pub struct Turn {
     pub at: usize,
     pub place: Place,

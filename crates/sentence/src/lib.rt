@@ -8,7 +8,7 @@ pub mod reading;
 pub mod spelling;
 pub mod writing;
 
-#[derive(Drop)]
+#[derive(Clone, Copy)]
 pub struct Sentence;
 
 impl Sentence {

@@ -11,7 +11,7 @@ pub const LEAST_ADDRESS: u32 = 1;
 pub const GREATEST_ADDRESS: u32 = 2_097_151;
 
 // The sentence around a report, by its address.
-#[derive(Drop)]
+#[derive(Clone, Copy)]
 pub enum Around {
     Accepted(u32),
     Refused(u8),

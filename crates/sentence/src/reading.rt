@@ -5,7 +5,7 @@ use crate::pattern::Around;
 use distress::{Answer, Report};
 use format::Refusal;
 
-#[derive(Drop)]
+#[derive(Clone, Copy)]
 pub enum Heard {
     Good(u32, Report),
     Refused(Refusal),

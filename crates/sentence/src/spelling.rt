@@ -54,7 +54,7 @@ pub fn all_digits(part: &[u8], base: u8) -> bool
 }
 
 // Ten characters, of which those from `from` on are a number's digits and the others 0.
-#[derive(Drop)]
+#[derive(Clone, Copy)]
 pub struct Figures {
     pub from: usize,
     pub chars: [u8; 10],

@@ -5,7 +5,7 @@ use crate::{GREATEST_ADDRESS, LEAST_ADDRESS};
 use distress::Report;
 use format::Refusal;
 
-#[derive(Drop)]
+#[derive(Clone, Copy)]
 pub enum Sent {
     Bytes(usize),
     Refused(Refusal),

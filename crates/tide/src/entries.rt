@@ -13,7 +13,7 @@ pub const VALUE: usize = 10;
 pub const BYTES: usize = ENTRY / 8;
 
 // The walk behind some entries, and how many they are.
-#[derive(Drop)]
+#[derive(Clone, Copy)]
 pub struct Run {
     pub walk: Walk,
     pub count: u64,

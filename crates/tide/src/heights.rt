@@ -10,7 +10,7 @@ use crate::reading::Tide;
 use format::Refusal;
 
 // How many heights, or the refusal.
-#[derive(Drop)]
+#[derive(Clone, Copy)]
 pub enum Answer {
     Good(usize),
     Refused(Refusal),

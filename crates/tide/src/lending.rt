@@ -15,7 +15,7 @@ impl Tide {
 }
 
 // A row of `numbers` entries has room for any telegram's numbers, and one of `heights` for its heights.
-#[derive(Drop)]
+#[derive(Clone, Copy)]
 pub struct Bounds {
     pub numbers: usize,
     pub heights: usize,

@@ -9,20 +9,20 @@ use format::Refusal;
 use walk::walk::Walk;
 
 // The numbers of its records stand beside it in a lent row, one record behind another, in bit order.
-#[derive(Drop)]
+#[derive(Clone, Copy)]
 pub struct Tide {
     // How many records, 1 to 511.
     pub count: u16,
 }
 
 // A telegram that was read: the record, and how many numbers its records have.
-#[derive(Drop)]
+#[derive(Clone, Copy)]
 pub struct Told {
     pub tide: Tide,
     pub numbers: usize,
 }
 
-#[derive(Drop)]
+#[derive(Clone, Copy)]
 pub enum Answer {
     Good(Told),
     Refused(Refusal),
@@ -45,7 +45,7 @@ pub const VERSION: u64 = 1;
 pub const CLASS: u64 = 0;
 
 // The walk over a whole telegram, and its record.
-#[derive(Drop)]
+#[derive(Clone, Copy)]
 pub struct Course {
     pub walk: Walk,
     pub tide: Tide,

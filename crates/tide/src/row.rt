@@ -18,14 +18,14 @@ pub const TIME: usize = EXPIRY;
 pub const ENTRY: usize = TIME + 1 + 10;
 
 // How many bits and numbers a position has behind its type.
-#[derive(Drop)]
+#[derive(Clone, Copy)]
 pub struct Place {
     pub wide: usize,
     pub long: usize,
 }
 
 // A record by its bits: how many entries it has and where the first stands, where the next record does, and how many numbers it is told by.
-#[derive(Drop)]
+#[derive(Clone, Copy)]
 pub struct Shape {
     pub entries: usize,
     pub first: usize,
@@ -34,7 +34,7 @@ pub struct Shape {
 }
 
 // How many numbers and entries records have, all together.
-#[derive(Drop)]
+#[derive(Clone, Copy)]
 pub struct Extent {
     pub numbers: usize,
     pub entries: usize,

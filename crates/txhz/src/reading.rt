@@ -10,7 +10,7 @@ ghost use Rattle.txhz.specs.declared.reading.Answer.TheVariants.{Good, Refused};
 use format::Refusal;
 use walk::faults::range;
 
-#[derive(Drop)]
+#[derive(Clone, Copy)]
 pub struct Receipt {
     pub sent_hour: u8,
     pub sent_minute: u8,
@@ -19,7 +19,7 @@ pub struct Receipt {
 }
 
 // All five receipts, those past the count too.
-#[derive(Drop)]
+#[derive(Clone, Copy)]
 pub struct Txhz {
     pub address: u32,
     pub receiver: u32,
@@ -31,7 +31,7 @@ pub struct Txhz {
     pub fifth: Receipt,
 }
 
-#[derive(Drop)]
+#[derive(Clone, Copy)]
 pub enum Answer {
     Good(Txhz),
     Refused(Refusal),
@@ -152,7 +152,7 @@ fn walked(s: &[u8]) -> Answer
 }
 
 // A receipt, and the walk past it.
-#[derive(Drop)]
+#[derive(Clone, Copy)]
 struct Passed {
     walk: walk::walk::Walk,
     receipt: Receipt,

@@ -9,7 +9,7 @@ ghost use Rattle.txsq.specs.declared.reading.Answer.TheVariants.{Good, Refused};
 use format::Refusal;
 
 // The content, whole bytes with their unused low bits, stands beside the record: in the frame that was read, or lent to be written.
-#[derive(Drop)]
+#[derive(Clone, Copy)]
 pub struct Txsq {
     pub address: u32,
     // 0 or 1.
@@ -25,7 +25,7 @@ pub struct Txsq {
     pub answer: u8,
 }
 
-#[derive(Drop)]
+#[derive(Clone, Copy)]
 pub enum Answer {
     Good(Txsq),
     Refused(Refusal),

@@ -9,7 +9,7 @@ ghost use Rattle.txxx.specs.declared.reading.Answer.TheVariants.{Good, Refused};
 use format::Refusal;
 
 // The content, whole bytes with their unused low bits, stands beside the record: in the frame that was read, or lent to be written.
-#[derive(Drop)]
+#[derive(Clone, Copy)]
 pub struct Txxx {
     pub address: u32,
     pub class: u8,
@@ -22,7 +22,7 @@ pub struct Txxx {
     pub mark: u8,
 }
 
-#[derive(Drop)]
+#[derive(Clone, Copy)]
 pub enum Answer {
     Good(Txxx),
     Refused(Refusal),

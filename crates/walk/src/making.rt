@@ -5,14 +5,14 @@ ghost use Rattle.format.specs.Promises.{room_for};
 use crate::walk::Walk;
 
 // The walk behind what was judged, and which number of the row comes next.
-#[derive(Drop)]
+#[derive(Clone, Copy)]
 pub struct Stepped {
     pub walk: Walk,
     pub next: usize,
 }
 
 // The bit behind what was put, and which number of the row comes next.
-#[derive(Drop)]
+#[derive(Clone, Copy)]
 pub struct Laid {
     pub at: usize,
     pub next: usize,

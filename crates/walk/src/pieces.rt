@@ -7,7 +7,7 @@ use crate::choosing::{both, choose_code, inside};
 use crate::faults::lies_within;
 
 // A number made of parts, judged one by one from its highest bits down.
-#[derive(Drop)]
+#[derive(Clone, Copy)]
 pub struct Pieces {
     // The bits that there are, as a number, and how many they are.
     pub v: u64,

@@ -6,7 +6,7 @@ ghost use Rattle.walk.specs.Walk.{begun, onward};
 use crate::choosing::{both, choose_code, choose_offset, is_zero, no_refusal, not, one_less};
 use format::Refusal;
 
-#[derive(Drop)]
+#[derive(Clone, Copy)]
 pub struct Walk {
     // The bit where the next field starts.
     pub at: usize,

@@ -6,7 +6,7 @@ ghost use Rattle.warning.specs.Steps.{BodyRead};
 use walk::walk::Walk;
 
 // A number outside the range that 003 prints for it means none; it is carried.
-#[derive(Drop)]
+#[derive(Clone, Copy)]
 pub struct Cyclone {
     // 1 to 4.
     pub kind: u8,
@@ -21,7 +21,7 @@ pub struct Cyclone {
     pub pressure: u16,
 }
 
-#[derive(Drop)]
+#[derive(Clone, Copy)]
 pub struct Gale {
     // Nautical miles.
     pub radius: u8,
@@ -32,7 +32,7 @@ pub struct Gale {
     pub direction: u8,
 }
 
-#[derive(Drop)]
+#[derive(Clone, Copy)]
 pub struct Waves {
     // Kilometres, metres, seconds.
     pub radius: u8,
@@ -40,7 +40,7 @@ pub struct Waves {
     pub period: u16,
 }
 
-#[derive(Drop)]
+#[derive(Clone, Copy)]
 pub struct Fog {
     // Kilometres.
     pub radius: u16,
@@ -48,7 +48,7 @@ pub struct Fog {
     pub visibility: u8,
 }
 
-#[derive(Drop)]
+#[derive(Clone, Copy)]
 pub struct Surge {
     // Nautical miles.
     pub radius: u16,
@@ -59,7 +59,7 @@ pub struct Surge {
     pub period: u16,
 }
 
-#[derive(Drop)]
+#[derive(Clone, Copy)]
 pub enum Body {
     Cyclone(Cyclone),
     Gale(Gale),
@@ -86,7 +86,7 @@ impl Body {
 // ---- reading
 
 // A body, and the walk past it.
-#[derive(Drop)]
+#[derive(Clone, Copy)]
 pub(crate) struct Passed {
     pub(crate) walk: Walk,
     pub(crate) body: Body,

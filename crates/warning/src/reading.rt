@@ -9,7 +9,7 @@ ghost use Rattle.warning.specs.declared.reading.Answer.TheVariants.{Good, Refuse
 pub use ais_common::head::AUTHORITY;
 use format::Refusal;
 
-#[derive(Drop)]
+#[derive(Clone, Copy)]
 pub struct Warning {
     pub repeat: u8,
     pub source: u32,
@@ -21,7 +21,7 @@ pub struct Warning {
     pub hours: u8,
 }
 
-#[derive(Drop)]
+#[derive(Clone, Copy)]
 pub enum Answer {
     Good(Warning),
     Refused(Refusal),

@@ -6,7 +6,7 @@ ghost use Rattle.area.specs.Steps.{east_read, north_read, ShapeRead};
 use walk::walk::Walk;
 
 // Ten-thousandths of a minute, 108,600,000 and 54,600,000 for none.
-#[derive(Drop)]
+#[derive(Clone, Copy)]
 pub struct Circle {
     pub longitude: i32,
     pub latitude: i32,
@@ -14,7 +14,7 @@ pub struct Circle {
     pub radius: u8,
 }
 
-#[derive(Drop)]
+#[derive(Clone, Copy)]
 pub struct Rectangle {
     pub longitude: i32,
     pub latitude: i32,
@@ -22,7 +22,7 @@ pub struct Rectangle {
     pub second_latitude: i32,
 }
 
-#[derive(Drop)]
+#[derive(Clone, Copy)]
 pub enum Shape {
     Circle(Circle),
     Rectangle(Rectangle),
@@ -48,7 +48,7 @@ pub const NORTH: u64 = 134_217_728;
 // ---- reading
 
 // A shape, and the walk past it.
-#[derive(Drop)]
+#[derive(Clone, Copy)]
 pub(crate) struct Passed {
     pub(crate) walk: Walk,
     pub(crate) shape: Shape,

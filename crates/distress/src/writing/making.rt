@@ -9,7 +9,7 @@ ghost use Rattle.format.specs.Laws.Putting.{Puts};
 use crate::reading::{CODE, Report};
 
 // A record's fields as the numbers that their bits spell.
-#[derive(Drop)]
+#[derive(Clone, Copy)]
 pub(crate) struct Values {
     mmsi: u64,
     longitude: u64,
