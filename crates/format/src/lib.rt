@@ -1,4 +1,6 @@
 // What a message is: specs/ has layouts, reading, writing and correcting by them, and what is proved of every layout. Here are the refusals: their numbers, and the bit of the field at fault.
+#![tactic(auto)]
+
 ghost use Rattle.std.specs.Prelude.{◌≡◌};
 ghost use Rattle.format.specs.Refusals.{placed, shown, bare, packed};
 

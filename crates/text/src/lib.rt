@@ -1,4 +1,6 @@
 // Text of a notice (paper 01, "Notice and packet"), at any bit of a message: characters 0x20 to 0x7E, in Chinese also pairs of GB 2312 level one.
+#![tactic(auto)]
+
 ghost use Rattle.std.specs.Prelude.{◌&&◌, ◌≡◌, ◌+◌, ◌*◌, ◌≤◌, length};
 ghost use Rattle.bits.specs.Answers.{spanned};
 ghost use Rattle.bits.specs.Bits.{bytes_at};

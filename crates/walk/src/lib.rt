@@ -1,4 +1,5 @@
 // One field, a number made of parts, and the walk over fields. No function here has a precondition.
+#![tactic(auto)]
 
 pub mod choosing;
 pub mod faults;

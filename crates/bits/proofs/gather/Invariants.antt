@@ -1,11 +1,8 @@
 -- `bits::gather` meets its contract: `all` is the number that the k bytes passed spell.
-use mathlib.Core.Path.{◌≡◌, sym}
-use Prim.Native.Nat.{◌+◌, ◌-◌, ◌≤◌}
-use native.Mathlib.Omega.{arith}
-use borrow.Author.Rules.{rules}
+use mathlib.Core.Path.{◌≡◌}
+use Prim.Native.Nat.{◌-◌, ◌≤◌}
 use lib.ListN.{take, drop}
 use Rattle.bits.specs.Bits.{value_of, bits_of}
-use Rattle.bits.specs.Laws.Loops.{value_take_lt, value_none, value_next}
 use Rattle.bits.proofs.gather.Given as goal
 
 abbrev pub invariant-loop-k : goal.invariant-loop-k

@@ -2,7 +2,6 @@
 use mathlib.Core.Path.{sym, ◌∙◌}
 use lib.ListN.{length}
 use Rattle.bits.specs.Laws.Answers.{within_true}
-use borrow.Author.Rules.{rules}
 use Rattle.bits.proofs.get.Goals as goal
 
 pub read-requires : goal.read-requires

@@ -7,7 +7,6 @@ use borrow.Author.Tests.{lt-ltb, le-ltb}
 use lib.ListN.{length}
 use Rattle.bits.specs.Laws.Answers.{within_true}
 use Rattle.bits.specs.Laws.Digits.{small, large}
-use borrow.Author.Rules.{rules}
 use Rattle.bits.proofs.put.Goals as goal
 
 pub overflow_shr-value : goal.overflow_shr-value

@@ -3,7 +3,6 @@ use Prim.Native.Nat.{◌+◌, ◌/◌, ◌%◌}
 use native.Mathlib.Omega.{arith}
 use lib.Pow.{pow_pos}
 use Rattle.bits.specs.Laws.Window.{one_shifted, part_is_field}
-use borrow.Author.Rules.{rules}
 use Rattle.bits.proofs.read.Goals as goal
 
 pub overflow_sub-mask : goal.overflow_sub-mask

@@ -1,10 +1,8 @@
 -- `bits::scatter` meets its contract: the bytes from k on are stored, and `rest` is what they leave of `all`.
 use mathlib.Core.Path.{◌≡◌, refl}
-use Prim.Native.Nat.{◌*◌, ◌-◌, ◌/◌, ◌≤◌, ◌^◌}
 use native.Mathlib.Omega.{arith}
-use borrow.Author.Rules.{rules}
-use lib.ListN.{length, length-set}
-use Rattle.bits.specs.Laws.Loops.{filled, filled_none, filled_next, filled_all, rest_none, rest_next}
+use lib.ListN.{length-set}
+use Rattle.bits.specs.Laws.Loops.{filled_none, filled_next, filled_all, rest_none, rest_next}
 use Rattle.bits.proofs.scatter.Goals as goal
 
 pub loop-k-init : goal.loop-k-init

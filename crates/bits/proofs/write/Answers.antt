@@ -4,7 +4,6 @@ use Prim.Native.Nat.{◌+◌, ◌*◌, ◌-◌, ◌/◌, ◌%◌}
 use native.Mathlib.Omega.{arith}
 use lib.Pow.{pow_pos}
 use Rattle.bits.specs.Laws.Window.{one_shifted, high_fits, stored_fits, put_is_store, put_none}
-use borrow.Author.Rules.{rules}
 use Rattle.bits.proofs.write.Goals as goal
 
 pub returns-then-width-eq0 : goal.returns-then-width-eq0

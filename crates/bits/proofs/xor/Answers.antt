@@ -1,9 +1,8 @@
 -- `bits::xor` meets its contract: what is done, with what is still to do, is the whole.
 use mathlib.Core.List.{List}
 use mathlib.Core.Path.{◌≡◌, sym, ◌∙◌}
-use Prim.Native.Nat.{ℕ, ◌+◌, ◌-◌, ◌≤◌}
+use Prim.Native.Nat.{ℕ, ◌+◌}
 use native.Mathlib.Omega.{arith}
-use borrow.Author.Rules.{rules}
 use lib.Bits.{bit_xor, xor_zero_l, xor_zero_r}
 use lib.ListN.{length, drop, get_or}
 use lib.Seq.{drop-length}

@@ -1,14 +1,9 @@
 -- `bits::xor` meets its contract: what is done, with what is still to do, is the whole.
-use mathlib.Core.List.{List}
-use mathlib.Core.Path.{◌≡◌, sym, ◌∙◌}
-use Prim.Native.Nat.{ℕ, ◌+◌, ◌-◌, ◌≤◌}
-use native.Mathlib.Omega.{arith}
-use borrow.Author.Rules.{rules}
-use lib.Bits.{bit_xor, xor_zero_l, xor_zero_r}
-use lib.ListN.{length, drop, get_or}
-use lib.Seq.{drop-length}
+use mathlib.Core.Path.{◌≡◌}
+use Prim.Native.Nat.{◌-◌, ◌≤◌}
+use lib.Bits.{bit_xor}
+use lib.ListN.{length, drop}
 use Rattle.bits.specs.Xor.{xor_of}
-use Rattle.bits.specs.Laws.Xor.{xor_drop, xor_assoc}
 use Rattle.bits.proofs.xor.Given as goal
 
 abbrev pub invariant-loop-i : goal.invariant-loop-i

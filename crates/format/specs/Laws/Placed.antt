@@ -4,7 +4,7 @@ use Rattle.std.proofs.Common.{sym, ◌∙◌, inl, inr, arith, ltb-true, ltb-fal
 use Rattle.bits.specs.Bits.{bits_of, bytes_of, put_at}
 use Rattle.bits.specs.Laws.Bytes.{length_bits}
 use Rattle.bits.specs.Laws.Fields.{length_put}
-use Rattle.format.specs.Fmt.{Out, accepted, refused, check, also, after, read, write, Spot, none, found, spot, unless10}
+use Rattle.format.specs.Fmt.{Out, accepted, refused, check, after, read, write, Spot, none, found, spot, unless10}
 use Rattle.format.specs.Message.{Layout, Sound, fault, size, body, sealed, first, closed, read_message, write_message, correct_message}
 use Rattle.format.specs.Places.{FirstBad, FirstBadValue}
 use Rattle.format.specs.Laws.Lead.{read_first}

@@ -1,16 +1,16 @@
 -- Reading refuses at the first field that is bad, and nowhere else, with that field's fault; writing at the first value. So the bit that is told lies within the message, or where it ends. For every layout, field by field. Assumes nothing.
-use Rattle.std.specs.Prelude.{◌≡◌, Bool, ◌⊎◌, List, [], ◌∷◌, ◌++◌, ℕ, suc, ◌+◌, ◌/◌, ◌%◌, ◌^◌, ◌≤◌, ◌<◌, ltb, eqb, length, take, drop}
+use Rattle.std.specs.Prelude.{◌≡◌, Bool, ◌⊎◌, List, [], ◌∷◌, ◌++◌, ℕ, suc, ◌+◌, ◌/◌, ◌%◌, ◌^◌, ◌≤◌, ltb, eqb, length, take, drop}
 use Rattle.std.proofs.Math.Path.{refl, sym, ap}
 use Rattle.std.proofs.Common.{◌∙◌, arith, length-take, length-drop}
 use Rattle.std.proofs.Math.Bool.{true, false}
 use Rattle.std.proofs.Math.Logic.{inl, inr}
-use borrow.Author.Tests.{le-leb, lt-leb, lt-ltb, le-ltb, eq-eqb, ne_eqb, leb-true, leb-false, ltb-true, ltb-false, eqb-true, eqb-false}
+use borrow.Author.Tests.{le-leb, lt-leb, eq-eqb, ne_eqb, leb-true, leb-false, ltb-true, ltb-false, eqb-true, eqb-false}
 use Rattle.std.proofs.Math.Dec.{leb}
 use Rattle.bits.specs.Bits.{value_of, digits}
 use Rattle.format.specs.Fmt.{Out, accepted, refused, Fault, good, bad, or_bad, Judge, Fmt, end, field, choice, bytes, pad, check, also, read_field, read, write_field, sized, write}
 use Rattle.format.specs.Places.{GoodField, BadField, BadEnd, FirstBad, GoodValue, BadValue, FirstBadValue}
 use Rattle.format.specs.Laws.Round.{clash, refused_inj}
-use Rattle.format.specs.Laws.Zero.{Numbered, Judged, Counted}
+use Rattle.format.specs.Laws.Zero.{Numbered, Judged}
 
 either : {A B C : Type 0} → A ⊎ B → (A → C) → (B → C) → C
 either (inl a) f g = f a

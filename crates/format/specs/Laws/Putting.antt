@@ -1,5 +1,5 @@
 -- The code puts a record's values, field by field, where writing accepts them. Assumes nothing.
-use Rattle.std.specs.Prelude.{◌≡◌, refl, Bool, cond, List, [], ◌∷◌, ◌++◌, ℕ, ◌+◌, ◌-◌, ◌*◌, ◌/◌, ◌%◌, ◌≤◌, ◌<◌, ◌^◌, leb, length, take, drop}
+use Rattle.std.specs.Prelude.{◌≡◌, refl, Bool, cond, List, [], ◌∷◌, ◌++◌, ℕ, ◌+◌, ◌*◌, ◌/◌, ◌%◌, ◌≤◌, ◌<◌, ◌^◌, leb, length, take, drop}
 use Rattle.std.proofs.Common.{sym, ap, ap₂, ◌∙◌, append_assoc, append-nil, arith, add_assoc, length-append, length-drop, length-take, take-append-drop, pow_pos, take_at, drop_at, drop-drop, le-leb}
 use Rattle.std.proofs.Math.Path.{subst⁻¹}
 use Rattle.bits.specs.Answers.{puttable}

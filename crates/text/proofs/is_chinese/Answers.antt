@@ -2,9 +2,8 @@
 use mathlib.Core.Bool.{◌&&◌}
 use mathlib.Core.List.{◌∷◌}
 use mathlib.Core.Path.{◌≡◌, sym, ap, ◌∙◌}
-use Prim.Native.Nat.{◌+◌, ◌-◌, ◌≤◌}
+use Prim.Native.Nat.{◌+◌}
 use native.Mathlib.Omega.{arith}
-use borrow.Author.Rules.{rules}
 use Rattle.bits.specs.Bits.{bytes_at}
 use Rattle.text.specs.Text.{chinese}
 use Rattle.text.proofs.Left.{left, left_all, left_next, left_none, chinese_none, chinese_plain, chinese_half, chinese_pair}

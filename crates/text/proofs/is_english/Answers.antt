@@ -1,10 +1,7 @@
 -- `text::is_english` meets its contract: the text is English where no byte so far was other than plain and those left are English.
-use mathlib.Core.Bool.{◌&&◌}
-use mathlib.Core.Path.{◌≡◌, sym, ap, ◌∙◌}
-use Prim.Native.Nat.{◌+◌, ◌-◌, ◌≤◌}
+use mathlib.Core.Path.{sym, ap, ◌∙◌}
+use Prim.Native.Nat.{◌+◌}
 use native.Mathlib.Omega.{arith}
-use borrow.Author.Rules.{rules}
-use Rattle.bits.specs.Bits.{bytes_at}
 use Rattle.text.specs.Text.{english}
 use Rattle.text.proofs.Left.{left, left_all, left_next, left_none, english_none, english_next}
 use Rattle.text.proofs.is_english.Goals as goal

@@ -1,12 +1,10 @@
 -- `text::is_english` meets its contract: the text is English where no byte so far was other than plain and those left are English.
 use mathlib.Core.Bool.{◌&&◌}
-use mathlib.Core.Path.{◌≡◌, sym, ap, ◌∙◌}
-use Prim.Native.Nat.{◌+◌, ◌-◌, ◌≤◌}
-use native.Mathlib.Omega.{arith}
-use borrow.Author.Rules.{rules}
+use mathlib.Core.Path.{◌≡◌}
+use Prim.Native.Nat.{◌-◌, ◌≤◌}
 use Rattle.bits.specs.Bits.{bytes_at}
 use Rattle.text.specs.Text.{english}
-use Rattle.text.proofs.Left.{left, left_all, left_next, left_none, english_none, english_next}
+use Rattle.text.proofs.Left.{left}
 use Rattle.text.proofs.is_english.Given as goal
 
 abbrev pub invariant-loop-i : goal.invariant-loop-i

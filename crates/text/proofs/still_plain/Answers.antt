@@ -1,5 +1,4 @@
 -- `text::still_plain` meets its contract: either way of its test.
-use borrow.Author.Rules.{rules}
 use Rattle.text.proofs.still_plain.Goals as goal
 
 pub returns-then-good : goal.returns-then-good

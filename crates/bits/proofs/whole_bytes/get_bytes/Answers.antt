@@ -6,7 +6,6 @@ use native.Mathlib.Nat.{zero-add}
 use native.Mathlib.Omega.{arith}
 use borrow.Author.Tests.{leb-true, le-leb, lt-leb}
 use lib.ListN.{length}
-use borrow.Author.Rules.{rules}
 use Rattle.bits.proofs.whole_bytes.get_bytes.Goals as goal
 
 pub slide-requires : goal.slide-requires

@@ -1,7 +1,6 @@
 -- `runs::pour` meets its contract: its three parts are put in one behind the other (`poured`).
 use native.Mathlib.Omega.{arith}
 use Rattle.bits.proofs.Pouring.{poured}
-use borrow.Author.Rules.{rules}
 use Rattle.bits.proofs.whole_bytes.pour.Goals as goal
 
 pub returns : goal.returns

@@ -1,11 +1,9 @@
 -- `runs::slide` meets its contract: the first i bytes of the run stand in `out`.
 use mathlib.Core.Path.{◌≡◌, refl}
-use Prim.Native.Nat.{◌-◌, ◌≤◌}
 use native.Mathlib.Omega.{arith}
-use borrow.Author.Rules.{rules}
-use lib.ListN.{length, length-set}
+use lib.ListN.{length-set}
 use Rattle.bits.specs.Laws.Pairs.{byte_across}
-use Rattle.bits.proofs.Sliding.{slid, slid_none, slid_next}
+use Rattle.bits.proofs.Sliding.{slid_none, slid_next}
 use Rattle.bits.proofs.whole_bytes.slide.Goals as goal
 
 pub loop-i-init : goal.loop-i-init

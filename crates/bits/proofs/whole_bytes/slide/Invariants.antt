@@ -1,11 +1,8 @@
 -- `runs::slide` meets its contract: the first i bytes of the run stand in `out`.
-use mathlib.Core.Path.{◌≡◌, refl}
+use mathlib.Core.Path.{◌≡◌}
 use Prim.Native.Nat.{◌-◌, ◌≤◌}
-use native.Mathlib.Omega.{arith}
-use borrow.Author.Rules.{rules}
-use lib.ListN.{length, length-set}
-use Rattle.bits.specs.Laws.Pairs.{byte_across}
-use Rattle.bits.proofs.Sliding.{slid, slid_none, slid_next}
+use lib.ListN.{length}
+use Rattle.bits.proofs.Sliding.{slid}
 use Rattle.bits.proofs.whole_bytes.slide.Given as goal
 
 abbrev pub invariant-loop-i : goal.invariant-loop-i

@@ -4,7 +4,6 @@ use Prim.Native.Nat.{◌+◌, ◌*◌, ◌-◌}
 use native.Mathlib.Omega.{arith}
 use borrow.Author.Tests.{lt-leb}
 use Rattle.bits.specs.Laws.Window.{same_test}
-use borrow.Author.Rules.{rules}
 use Rattle.bits.proofs.whole_bytes.spans.Goals as goal
 
 pub returns-then-n-len : goal.returns-then-n-len

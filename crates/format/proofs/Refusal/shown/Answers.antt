@@ -1,8 +1,6 @@
 -- `shown` goes by whether the number tells a bit.
-use mathlib.Core.Path.{sym, ap, ◌∙◌}
+use mathlib.Core.Path.{sym, ◌∙◌}
 use mathlib.Core.Bool.{cond}
-use Rattle.format.specs.declared.Refusal.{Refusal}
-use borrow.Author.Rules.{rules}
 use Rattle.format.proofs.Refusal.shown.Goals as goal
 
 pub returns-then-tells : goal.returns-then-tells

@@ -1,5 +1,5 @@
 -- `clear` gives the fault of a fill: each way out decides the tests before it.
-use Rattle.std.proofs.Common.{◌-◌, ◌/◌, length, sym, refl, ap, ◌∙◌, rules, eq-eqb, ne_eqb}
+use Rattle.std.proofs.Common.{◌-◌, ◌/◌, length, sym, refl, ap, ◌∙◌, eq-eqb, ne_eqb}
 use Rattle.bits.specs.Answers.{within, got}
 use Rattle.walk.proofs.faults.clear.Goals as goal
 

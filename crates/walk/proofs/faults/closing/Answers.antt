@@ -1,5 +1,5 @@
 -- `closing` tests the fill bits, then that nothing is left.
-use Rattle.std.proofs.Common.{◌+◌, ◌/◌, ◌%◌, length, sym, ap, ◌∙◌, rules, eq-eqb, ne_eqb}
+use Rattle.std.proofs.Common.{◌+◌, ◌/◌, ◌%◌, length, sym, ap, ◌∙◌, eq-eqb, ne_eqb}
 use Rattle.bits.specs.Answers.{got}
 use Rattle.format.specs.Fmt.{pad}
 use Rattle.walk.specs.Faults.{closes}

@@ -1,5 +1,5 @@
 -- `lies_within` compares whole bytes: the bytes that hold the bits end within the message just where the bits do.
-use Rattle.std.proofs.Common.{◌≡◌, ℕ, ◌+◌, ◌*◌, ◌/◌, ◌%◌, Bool, true, false, leb, refl, arith, rules, le-leb, leb-false, leb-true}
+use Rattle.std.proofs.Common.{◌≡◌, ℕ, ◌+◌, ◌*◌, ◌/◌, ◌%◌, Bool, true, false, leb, refl, arith, le-leb, leb-false, leb-true}
 use borrow.Author.Tests.{lt-leb}
 use Rattle.walk.proofs.faults.lies_within.Goals as goal
 

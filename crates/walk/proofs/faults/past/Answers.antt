@@ -1,5 +1,5 @@
 -- `past` goes by the fault.
-use Rattle.std.proofs.Common.{rules, eq-eqb, ne_eqb}
+use Rattle.std.proofs.Common.{eq-eqb, ne_eqb}
 use Rattle.walk.proofs.faults.past.Goals as goal
 
 pub returns-then-fault-eq-FILL : goal.returns-then-fault-eq-FILL

@@ -1,5 +1,5 @@
 -- `range` tests whether the field is there, then its limits.
-use Rattle.std.proofs.Common.{ℕ, cond, ◌&&◌, leb, sym, ap, ◌∙◌, rules}
+use Rattle.std.proofs.Common.{ℕ, cond, ◌&&◌, leb, sym, ap, ◌∙◌}
 use Rattle.walk.proofs.faults.range.Goals as goal
 
 pub returns-then-holds : goal.returns-then-holds

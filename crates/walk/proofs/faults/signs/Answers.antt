@@ -1,5 +1,5 @@
 -- `signs` tests whether the field is there, then its sign and size.
-use Rattle.std.proofs.Common.{ℕ, cond, ◌||◌, eqb, leb, sym, ap, ◌∙◌, rules}
+use Rattle.std.proofs.Common.{ℕ, cond, ◌||◌, eqb, leb, sym, ap, ◌∙◌}
 use Rattle.walk.proofs.faults.signs.Goals as goal
 
 pub returns-then-holds : goal.returns-then-holds

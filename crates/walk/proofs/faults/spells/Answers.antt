@@ -1,5 +1,5 @@
 -- `spells`: a number that does not fit is refused, another as `sign` says.
-use Rattle.std.proofs.Common.{rules, le-ltb, lt-ltb}
+use Rattle.std.proofs.Common.{le-ltb, lt-ltb}
 use Rattle.walk.proofs.faults.spells.Goals as goal
 
 pub returns-then-v-full : goal.returns-then-v-full

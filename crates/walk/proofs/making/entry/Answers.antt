@@ -1,5 +1,5 @@
 -- `entry` meets its contract: past its end a row has what is said.
-use Rattle.std.proofs.Common.{◌≡◌, ℕ, zero, suc, ◌-◌, ◌<◌, List, [], ◌∷◌, length, get_or, sym, refl, arith, rules}
+use Rattle.std.proofs.Common.{◌≡◌, ℕ, zero, suc, ◌<◌, List, [], ◌∷◌, length, get_or, sym, refl, arith}
 use lib.ListN.{get_or-eq_default}
 use Rattle.walk.proofs.making.entry.Goals as goal
 

@@ -1,5 +1,5 @@
 -- `room` is no room where the row has too few numbers, else the buffer's.
-use Rattle.std.proofs.Common.{◌-◌, refl, arith, le-ltb, lt-ltb}
+use Rattle.std.proofs.Common.{refl, arith, le-ltb, lt-ltb}
 use Rattle.walk.proofs.making.room.Goals as goal
 
 pub returns-then-has-asked : goal.returns-then-has-asked

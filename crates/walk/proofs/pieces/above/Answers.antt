@@ -1,5 +1,5 @@
 -- `above`: a number of 64 bits has nothing above 64 bits or more.
-use Rattle.std.proofs.Common.{◌^◌, ◌<◌, sym, lt_of_lt_of_le, pow_mono, rules}
+use Rattle.std.proofs.Common.{◌^◌, ◌<◌, sym, lt_of_lt_of_le, pow_mono}
 use native.Mathlib.Nat.{div-eq_of_lt}
 use Rattle.walk.proofs.pieces.above.Goals as goal
 

@@ -1,5 +1,5 @@
 -- `below`: a number of 64 bits is its own remainder by 64 bits or more.
-use Rattle.std.proofs.Common.{◌≡◌, ℕ, ◌*◌, ◌%◌, ◌^◌, ◌<◌, sym, ap, ◌∙◌, lt_of_lt_of_le, mod-eq_of_lt, arith, pow_pos, pow_mono, shl_exact, rules}
+use Rattle.std.proofs.Common.{◌≡◌, ℕ, ◌*◌, ◌%◌, ◌^◌, ◌<◌, sym, ap, ◌∙◌, lt_of_lt_of_le, mod-eq_of_lt, arith, pow_pos, pow_mono, shl_exact}
 use Rattle.walk.proofs.pieces.below.Goals as goal
 
 -- 2 to the n, as the code shifts it

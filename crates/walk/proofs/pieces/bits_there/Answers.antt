@@ -1,5 +1,5 @@
 -- `bits_there`: bits that are cut are fewer than w, so that counting them cannot overflow.
-use Rattle.std.proofs.Common.{◌+◌, ◌*◌, ◌<◌, sym, ◌∙◌, arith, rules, leb-false, leb-true}
+use Rattle.std.proofs.Common.{◌+◌, ◌*◌, ◌<◌, sym, ◌∙◌, arith, leb-false, leb-true}
 use Rattle.walk.proofs.pieces.bits_there.Goals.{Else-lies_within}
 use Rattle.walk.proofs.pieces.bits_there.Goals as goal
 

@@ -1,5 +1,5 @@
 -- `int` is the number that the bits spell: what the machine's 32 bits give at each way out.
-use Rattle.std.proofs.Common.{◌-◌, ◌/◌, arith, rules, le-ltb, lt-ltb, le-leb}
+use Rattle.std.proofs.Common.{◌-◌, ◌/◌, arith, le-ltb, lt-ltb, le-leb}
 use borrow.Author.Tests.{lt-leb}
 use Rattle.walk.specs.Sign.{int_of}
 use Rattle.walk.proofs.Ints.{low, negate, negate_fits}

@@ -1,5 +1,5 @@
 -- `spelled` goes by the size and the sign of the number.
-use Rattle.std.proofs.Common.{◌≡◌, ℕ, ◌-◌, sym, ap, ◌∙◌, arith, rules}
+use Rattle.std.proofs.Common.{◌≡◌, ℕ, ◌-◌, sym, ap, ◌∙◌, arith}
 use lib.Signed.{mag}
 use Rattle.walk.specs.Laws.Sign.{spell_far, spell_up, spell_down}
 use Rattle.walk.proofs.Ints.{same, sign_is}

@@ -1,5 +1,5 @@
 -- `ahead`: the next bits are those between what is above and what is below them.
-use Rattle.std.proofs.Common.{◌/◌, ◌%◌, ◌^◌, ap, ◌∙◌, rules}
+use Rattle.std.proofs.Common.{◌/◌, ◌%◌, ◌^◌, ap, ◌∙◌}
 use Rattle.walk.proofs.pieces.Pieces.ahead.Goals as goal
 
 pub returns : goal.returns

@@ -1,5 +1,5 @@
 -- `at`: the bits that there are, as a number.
-use Rattle.std.proofs.Common.{ap, ◌∙◌, rules}
+use Rattle.std.proofs.Common.{ap, ◌∙◌}
 use Rattle.bits.specs.Answers.{got}
 use Rattle.walk.specs.Pieces.{unpieced}
 use Rattle.walk.proofs.pieces.Pieces.at.Goals as goal

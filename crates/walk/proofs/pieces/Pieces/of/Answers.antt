@@ -1,5 +1,5 @@
 -- `of`: a number is too wide where something stands above its bits.
-use Rattle.std.proofs.Common.{◌≡◌, ℕ, ◌/◌, ◌^◌, Bool, true, false, cond, ◌&&◌, ltb, leb, refl, ap, ◌∙◌, arith, rules, ltb-false, ltb-true}
+use Rattle.std.proofs.Common.{◌≡◌, ℕ, ◌/◌, ◌^◌, Bool, true, false, cond, ◌&&◌, ltb, leb, refl, ap, ◌∙◌, arith, ltb-false, ltb-true}
 use mathlib.Core.Bool.{and-false}
 use native.Mathlib.Nat.{div-eq_of_lt}
 use borrow.Author.Tests.{lt-leb}

@@ -1,5 +1,5 @@
 -- `or_zero`: nothing is wrong with zeros in all bits.
-use Rattle.std.proofs.Common.{ℕ, cond, ap, ◌∙◌, rules}
+use Rattle.std.proofs.Common.{ℕ, cond, ap, ◌∙◌}
 use Rattle.walk.proofs.pieces.Pieces.or_zero.Goals as goal
 
 pub returns : goal.returns

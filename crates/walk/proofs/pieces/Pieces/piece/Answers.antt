@@ -1,5 +1,5 @@
 -- `piece`: behind a refusal all stays; else the next part is there and within its limits, or is refused where it begins.
-use Rattle.std.proofs.Common.{ℕ, cond, ◌&&◌, leb, [], sym, ap, ◌∙◌, rules, eq-eqb}
+use Rattle.std.proofs.Common.{ℕ, cond, ◌&&◌, leb, [], sym, ap, ◌∙◌, eq-eqb}
 use Rattle.format.specs.Words.{◌‥◌}
 use Rattle.walk.specs.Pieces.{pieced}
 use Rattle.walk.specs.Laws.Pieces.{piece_stuck}

@@ -1,5 +1,5 @@
 -- `blank` is one step, with the fault of a fill.
-use Rattle.std.proofs.Common.{false, ap, ◌∙◌, rules}
+use Rattle.std.proofs.Common.{false, ap, ◌∙◌}
 use Rattle.walk.specs.Walk.{onward}
 use Rattle.walk.proofs.walk.Walk.blank.Goals as goal
 

@@ -1,5 +1,5 @@
 -- `bytes`: with the seal, one more.
-use Rattle.std.proofs.Common.{refl, rules}
+use Rattle.std.proofs.Common.{refl}
 use Rattle.walk.proofs.walk.Walk.bytes.Goals as goal
 
 pub returns-then-seal : goal.returns-then-seal

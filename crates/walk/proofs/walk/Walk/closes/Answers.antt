@@ -1,5 +1,5 @@
 -- `closes` is `closes_before` with nothing to follow.
-use Rattle.std.proofs.Common.{ap, ◌∙◌, add-zero, rules}
+use Rattle.std.proofs.Common.{ap, ◌∙◌, add-zero}
 use Rattle.format.specs.Refusals.{shown}
 use Rattle.walk.specs.Judging.{made, verdict}
 use Rattle.walk.specs.Laws.Making.{closing_beyond}

@@ -1,5 +1,5 @@
 -- `content` is one step, with the fault of bits that are cut.
-use Rattle.std.proofs.Common.{false, cond, ap, ◌∙◌, rules}
+use Rattle.std.proofs.Common.{false, cond, ap, ◌∙◌}
 use Rattle.walk.specs.Walk.{onward}
 use Rattle.walk.proofs.walk.Walk.content.Goals as goal
 

@@ -1,5 +1,5 @@
 -- `end` sets the refusal by the bits that close the message, field by field of the walk.
-use Rattle.std.proofs.Common.{◌+◌, ◌%◌, ◌^◌, false, cond, eqb, ap, ◌∙◌, ap₂, rules}
+use Rattle.std.proofs.Common.{◌+◌, ◌%◌, ◌^◌, false, cond, eqb, ap, ◌∙◌, ap₂}
 use Rattle.format.specs.Fmt.{pad}
 use Rattle.walk.specs.Reading.{ended}
 use Rattle.walk.proofs.walk.Walk.end.Goals as goal

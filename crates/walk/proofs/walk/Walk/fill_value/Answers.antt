@@ -1,5 +1,5 @@
 -- `fill_value` steps with the fault that `inside` finds.
-use Rattle.std.proofs.Common.{false, ap, ◌∙◌, rules}
+use Rattle.std.proofs.Common.{false, ap, ◌∙◌}
 use Rattle.walk.specs.Walk.{onward}
 use Rattle.walk.proofs.walk.Walk.fill_value.Goals as goal
 

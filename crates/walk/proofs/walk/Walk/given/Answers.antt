@@ -1,5 +1,5 @@
 -- `given` is one step, with the bits' value and the caller's fault.
-use Rattle.std.proofs.Common.{false, cond, ap, ◌∙◌, ap₂, rules}
+use Rattle.std.proofs.Common.{false, cond, ap, ◌∙◌, ap₂}
 use Rattle.walk.specs.Walk.{onward}
 use Rattle.walk.specs.Laws.Reading.{got_lt}
 use Rattle.walk.specs.declared.walk.Walk.{Walk}

@@ -1,5 +1,5 @@
 -- `number` is one step, with the bits' value and the range's fault.
-use Rattle.std.proofs.Common.{ap, ◌∙◌, ap₂, rules}
+use Rattle.std.proofs.Common.{ap, ◌∙◌, ap₂}
 use Rattle.walk.specs.Laws.Reading.{got_lt}
 use Rattle.walk.specs.Walk.{onward}
 use Rattle.walk.specs.declared.walk.Walk.{Walk}

@@ -1,5 +1,5 @@
 -- `on` makes each entry of the walk by one of the small tests.
-use Rattle.std.proofs.Common.{true, false, cond, ◌&&◌, ap, ◌∙◌, ap₂, rules}
+use Rattle.std.proofs.Common.{true, false, cond, ◌&&◌, ap, ◌∙◌, ap₂}
 use Rattle.walk.specs.Walk.{onward}
 use Rattle.walk.proofs.walk.Walk.on.Goals as goal
 

@@ -1,5 +1,5 @@
 -- `rest` is one step of no bits, with the count for its value.
-use Rattle.std.proofs.Common.{false, ap, ◌∙◌, rules}
+use Rattle.std.proofs.Common.{false, ap, ◌∙◌}
 use Rattle.walk.specs.Walk.{onward}
 use Rattle.walk.proofs.walk.Walk.rest.Goals as goal
 

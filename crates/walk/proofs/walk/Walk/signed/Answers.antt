@@ -1,5 +1,5 @@
 -- `signed` is one step, with the bits' value and the fault of their sign and size.
-use Rattle.std.proofs.Common.{true, ap, ◌∙◌, ap₂, rules}
+use Rattle.std.proofs.Common.{true, ap, ◌∙◌, ap₂}
 use Rattle.walk.specs.Walk.{onward}
 use Rattle.walk.specs.Laws.Reading.{got_lt}
 use Rattle.walk.specs.declared.walk.Walk.{Walk}

@@ -1,5 +1,5 @@
 -- `signed_value` steps with the fault that `spells` finds.
-use Rattle.std.proofs.Common.{true, ap, ◌∙◌, rules}
+use Rattle.std.proofs.Common.{true, ap, ◌∙◌}
 use Rattle.walk.specs.Walk.{onward}
 use Rattle.walk.proofs.walk.Walk.signed_value.Goals as goal
 

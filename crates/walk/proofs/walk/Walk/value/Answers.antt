@@ -1,5 +1,5 @@
 -- `value` steps with the fault that `inside` finds.
-use Rattle.std.proofs.Common.{true, ap, ◌∙◌, rules}
+use Rattle.std.proofs.Common.{true, ap, ◌∙◌}
 use Rattle.walk.specs.Walk.{onward}
 use Rattle.walk.proofs.walk.Walk.value.Goals as goal
 
