@@ -1,0 +1,14 @@
+-- `read` judges the number that stands there.
+use mathlib.Core.Path.{ap, ◌∙◌}
+use Rattle.walk.specs.Walk.{onward}
+use Rattle.walk.specs.Laws.Reading.{got_lt}
+use Rattle.ais_common.specs.Steps.{time_judged}
+use borrow.Author.Rules.{rules}
+use Rattle.ais_common.proofs.time.read.Goals as goal
+
+pub returns : goal.returns
+unfolding onward
+returns c =
+    let a = c.args in
+    let e = c.judged.ensures ∙ ap (λ v. time_judged v a.w) c.get.ensures in
+    (e, got_lt a.s.now a.w.at 20 (ap (λ r. r.v) e))

@@ -1,0 +1,13 @@
+-- `seal` stamps the last byte.
+use mathlib.Core.Path.{ap, ◌∙◌}
+use Rattle.format.specs.Sealing.{stamped}
+use Rattle.format.specs.Laws.Sealing.{stamp_last}
+use borrow.Author.Rules.{rules}
+use Rattle.change.proofs.sealing.seal.Goals.{After-one_less-n}
+use Rattle.change.proofs.sealing.seal.Goals as goal
+
+pub returns : goal.returns
+returns c =
+    let n = (goal.at.returns c).After-one_less-n in
+    let a = c.args in
+    c.stamp.ensures ∙ ap (λ n. stamped n a.buf.now) c.one_less-n.ensures ∙ stamp_last a.buf.now

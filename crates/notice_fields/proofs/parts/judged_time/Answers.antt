@@ -1,0 +1,13 @@
+-- `judged_time` is the step over the number whose parts are judged.
+use mathlib.Core.List.{[]}
+use mathlib.Core.Path.{ap, ◌∙◌}
+use Rattle.walk.specs.Pieces.{piecewise}
+use Rattle.walk.specs.Reading.{grouped}
+use borrow.Author.Rules.{rules}
+use Rattle.notice_fields.specs.Parts.{moment}
+use Rattle.notice_fields.proofs.parts.judged_time.Goals as goal
+
+pub returns : goal.returns
+returns c =
+    let a = c.args in
+    c.group.ensures ∙ ap (λ g. grouped 21 a.v g a.w) (c.moment.ensures ∙ ap (piecewise moment []) c.of.ensures)
