@@ -8,8 +8,7 @@ use lib.Seq.{take_all, take-length, drop-drop}
 use borrow.Author.Tests.{le-leb, lt-leb}
 use Rattle.places.specs.Desk.{laid}
 use borrow.Author.Rules.{rules}
-use Rattle.places.proofs.lay.Statement.{statement}
-use Rattle.places.proofs.lay.Tie as tie
+use Rattle.places.proofs.lay.Goals as goal
 
 put_back_lem : (s : List ℕ) (at : ℕ) (c y : List ℕ) → y ≡ take (length c) c ++ drop (length c) (take (length s - at) (drop at s))
     → take at s ++ (y ++ drop (length s - at) (drop at s)) ≡ laid s at c
@@ -19,32 +18,20 @@ put_back_lem s at c y e =
     let front : y ≡ c ++ drop (at + length c) s = e ∙ ap₂ (◌++◌) (take-length c) (ap (drop (length c)) rest ∙ drop-drop (length c) at s) in
     ap (take at s ++◌) (ap₂ (◌++◌) front none ∙ append-nil (c ++ drop (at + length c) s))
 
-returns : tie.Need-returns
-returns c = let a = c.before.before.before.args in
+pub returns-then-at-s : goal.returns-then-at-s
+returns-then-at-s c = let a = c.args in
     let s = a.s.now in
     let part = a.part.now in
-    sym (rw (lt-leb (a.at + length part) (length s) (omega (arith, c.if1.true))) refl)
+    sym (rw (lt-leb (a.at + length part) (length s) (omega (arith, c.if-at-s.true))) refl)
 
-returns-2 : tie.Need-returns-2
-returns-2 c = let a = c.before.before.before.before.args in
+pub returns-then-part-s : goal.returns-then-part-s
+returns-then-part-s c = let a = c.args in
     let s = a.s.now in
     let part = a.part.now in
-    sym (rw (lt-leb (a.at + length part) (length s) (omega (arith, c.if2.true, c.before.if1.false))) refl)
+    sym (rw (lt-leb (a.at + length part) (length s) (omega (arith, c.if-part-s.true, c.if-at-s.false))) refl)
 
-returns-3 : tie.Need-returns-3
-returns-3 c = let k = c.before.before in
-    let i = k.before.before in
-    let a = i.before.before.before.before.args in
+pub returns : goal.returns
+returns c = let a = c.args in
     let s = a.s.now in
     let part = a.part.now in
-    put_back_lem s a.at part k.copy.new.1.0 k.copy.ensures.1 ∙ sym (rw (le-leb (a.at + length part) (length s) (omega (arith, i.if2.false, i.before.if1.false))) refl)
-
-pub lay-spec : {M : Type 1} → statement M
-lay-spec =
-    tie.close
-    (tie.spec
-    returns
-    (λ c. search rules)
-    returns-2
-    (λ c. search rules) (λ c. search rules) (λ c. search rules) (λ c κs. search rules) (λ c. search rules)
-    returns-3)
+    put_back_lem s a.at part c.copy.new.1.0 c.copy.ensures.1 ∙ sym (rw (le-leb (a.at + length part) (length s) (omega (arith, c.if-part-s.false, c.if-at-s.false))) refl)
