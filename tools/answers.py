@@ -30,7 +30,7 @@ def blocks(text):
             continue
         if l[0] not in " \t)" :
             m = re.match(rf"((?:abbrev|unfoldable|pub) )*({WORD})((?: \{{[^{{}}]*\}})*) :( |$)", l)
-            if m or l.startswith(("module", "data", "record", "pub data", "pub record")):
+            if m or l.startswith(("module ", "data ", "record ", "pub data ", "pub record ")):
                 cur = pend + [l]
                 pend = []
                 decls.append([m[2] if m else l.split()[1], cur])
@@ -152,6 +152,8 @@ def convert(lib, rel, folder, N):
         name = norm(rest[0])
         if name not in fields and name[0].lower() + name[1:] in fields:
             name = name[0].lower() + name[1:]
+        if name not in fields and re.sub(r"\d+$", "", name) in fields:
+            name = re.sub(r"\d+$", "", name)
         if name not in fields:
             return rest
         if name in loops:
@@ -197,8 +199,8 @@ def convert(lib, rel, folder, N):
                 return ".".join([to] + parts[2:])
             v = parts[0]
             if v not in at:
-                return whole
-            rest, k = parts[1:], 0
+                return whole.removesuffix(".same")
+            rest, k = [p for p in parts[1:] if p != "same"], 0
             while rest and rest[0] == "before":
                 rest, k = rest[1:], k + 1
             if not rest:
@@ -212,6 +214,7 @@ def convert(lib, rel, folder, N):
             return ".".join([v] + follow(rest, rise(at[v], k)))
 
         t = re.sub(r"(\.given [^()]*\))\.ranges", r"\1.fits", t)
+        t = re.sub(rf"(let {WORD} = {WORD})( in\s)", r"\1.same\2", t)
         t = PATH.sub(one, t)
         t = plain(t, at, goal, passed)
         t = re.sub("⁋⁋(\\d+)⁋⁋", lambda m: shown(*passed[int(m[1])][:2], at[passed[int(m[1])][0]], goal, passed[int(m[1])][2]), t)
