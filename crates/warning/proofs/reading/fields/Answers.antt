@@ -25,7 +25,7 @@ use Rattle.warning.specs.declared.reading.Answer.{Answer}
 use Rattle.warning.specs.declared.reading.Answer.TheVariants.{Good, Refused}
 use borrow.Author.Rules.{rules}
 use Rattle.ais_common.proofs.time.read.Reads as read_reads'
-use Rattle.warning.proofs.reading.fields.Goals.{After-fill, After-num-w, After-num-w-2, After-number-w, After-struct_known-3-1, Else-s-ne-LEAST}
+use Rattle.warning.proofs.reading.fields.Goals.{After-fill, After-num-w, After-num-w-2, After-number-w, Else-s-ne-LEAST}
 use Rattle.warning.proofs.reading.fields.Goals as goal
 
 pub returns-then-s-ne-LEAST : goal.returns-then-s-ne-LEAST
@@ -69,7 +69,7 @@ module _ (type : After-number-w) where
 
   -- their reading is the one of the bytes, which have the warning's size
   whole : answer_of (also record_of all) ≡ answer_of (also record_of (fields_of warning 23 23 bytes))
-  whole = sym (ap (λ o. answer_of (also record_of o)) (exact_fields warning 23 bytes sized.if-s-ne-LEAST.left))
+  whole = sym (ap (λ o. answer_of (also record_of o)) (exact_fields warning 23 bytes sized.if-s-ne-LEAST.false))
 
 pub returns-then-w-ne0 : goal.returns-then-w-ne0
 returns-then-w-ne0 c =
@@ -78,8 +78,8 @@ returns-then-w-ne0 c =
 
 pub returns : goal.returns
 returns c =
-    let type = (goal.at.returns c).After-struct_known-3-1 in
-    let long : length (bytes type) ≡ 23 = (sized type).if1.false in
+    let type = (goal.at.returns c).After-number-w in
+    let long : length (bytes type) ≡ 23 = (sized type).if-s-ne-LEAST.false in
     let r8 = step_num 23 (lit< tt) (lit≤ tt) (lit< tt) 0 7_200_000 (at-type type) c.num-w-3.ensures.0 in
     let r9 = step_num 23 (lit< tt) (lit≤ tt) (lit< tt) 0 7_200_000 r8 c.num-w-4.ensures.0 in
     let r10 = c.read-passed.ensures.on r9 in
@@ -87,9 +87,9 @@ returns c =
     let r12 = step_num 6 (lit< tt) (lit≤ tt) (lit< tt) 0 48 r11 c.num-w-5.ensures.0 in
     let r13 = step_fill 2 (lit≤ tt) (lit< tt) r12 c.fill-2.ensures in
     let w = finish (lit< tt) r13 c.end-w.ensures in
-    let made = recorded (n1 type).num.result.v (n2 type).num2.result.v c.number-w.result.v c.num-w-3.result.v c.num-w-4.result.v c.read-w.result.v c.num-w-5.result.v c.read-passed.result.body (kind_of c.number-w.result.v) (sym c.read-passed.ensures.kind) in
+    let made = recorded (n1 type).num-w.result.v (n2 type).num-w-2.result.v c.number-w.result.v c.num-w-3.result.v c.num-w-4.result.v c.read-w.result.v c.num-w-5.result.v c.read-passed.result.body (kind_of c.number-w.result.v) (sym c.read-passed.ensures.kind) in
     let answer : Warning → Answer = λ r. cond (eqb c.refusal-2.result.code 0) (Good r) (Refused c.refusal-2.result) in
     c.told.ensures
-    ∙ (λ i. answer (record { repeat = (n1 type).num.result.v; source = (n2 type).num2.result.v; longitude = c.num-w-3.result.v; latitude = c.num-w-4.result.v; body = c.read-passed.result.body; time = c.of-time.ensures i; hours = c.num-w-5.result.v }))
+    ∙ (λ i. answer (record { repeat = (n1 type).num-w.result.v; source = (n2 type).num-w-2.result.v; longitude = c.num-w-3.result.v; latitude = c.num-w-4.result.v; body = c.read-passed.result.body; time = c.of-time.ensures i; hours = c.num-w-5.result.v }))
     ∙ ap answer (sym made) ∙ told_so Good Refused record_of _ _ c.end-w.result.code c.end-w.result.offset c.refusal-2.ensures w.so
     ∙ whole type
