@@ -6,29 +6,25 @@ use mir.Syntax.{w32}
 use mir.ValLaws.{to_z_pos, to_z-of_z}
 use Rattle.c_rows.specs.Area.{four_of}
 use borrow.Author.Rules.{rules}
-use Rattle.c_rows.proofs.areas.of_shape.Statement.{statement}
-use Rattle.c_rows.proofs.areas.of_shape.Tie as tie
+use Rattle.c_rows.proofs.areas.of_shape.Goals as goal
 
-returns : tie.Need-returns
-returns c =
-    let m = c.before.before.before.before.shape.given in
+pub returns-in-Circle : goal.returns-in-Circle
+returns-in-Circle c =
+    let m = c.shape-1.given in
     let b = m.0.0 in
-    let f = c.before.struct-told2.given in
+    let f = c.struct_told-in-Circle-1.given in
     let longitude = to_z-of_z w32 b.longitude (record { sfits = f.0.1 }) in
     let latitude = to_z-of_z w32 b.latitude (record { sfits = f.1.0.1 }) in
     let radius = to_z_pos w32 b.radius (omega arith) in
     (λ i. record { longitude = longitude i; latitude = latitude i; third = radius i; fourth = pos 0 }) ∙ ap four_of (sym m.1)
 
-returns-2 : tie.Need-returns-2
-returns-2 c =
-    let m = c.before.before.before.before.before.shape2.given in
+pub returns-in-Rectangle : goal.returns-in-Rectangle
+returns-in-Rectangle c =
+    let m = c.shape-in-Rectangle-1.given in
     let b = m.0.0 in
-    let f = c.struct-told6.given in
+    let f = c.struct_told-in-Rectangle-4-1.given in
     let longitude = to_z-of_z w32 b.longitude (record { sfits = f.0.1 }) in
     let latitude = to_z-of_z w32 b.latitude (record { sfits = f.1.0.1 }) in
     let third = to_z-of_z w32 b.second_longitude (record { sfits = f.1.1.0.1 }) in
     let fourth = to_z-of_z w32 b.second_latitude (record { sfits = f.1.1.1.0.1 }) in
     (λ i. record { longitude = longitude i; latitude = latitude i; third = third i; fourth = fourth i }) ∙ ap four_of (sym m.1)
-
-pub of-shape-spec : {M : Type 1} → statement M
-of-shape-spec = tie.close (tie.spec (λ c. search rules) (λ c. search rules) (λ c. search rules) returns returns-2)

@@ -1,0 +1,14 @@
+-- `correct` tests the language, and then is the notice's.
+use mathlib.Core.Path.{refl}
+use native.Mathlib.Omega.{arith}
+use borrow.Author.Tests.{le-leb, lt-leb}
+use borrow.Author.Rules.{rules}
+use Rattle.c_rows.proofs.notices.correct.Goals as goal
+
+pub returns-then-language-gt-ENGLISH : goal.returns-then-language-gt-ENGLISH
+returns-then-language-gt-ENGLISH c =
+    rw (lt-leb c.args.language 1 (omega (arith, c.if-language-gt-ENGLISH.true))) (refl, refl)
+
+pub returns : goal.returns
+returns c =
+    rw (le-leb c.args.language 1 (omega (arith, c.if-language-gt-ENGLISH.false))) c.correct.ensures
