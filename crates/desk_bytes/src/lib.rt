@@ -96,7 +96,7 @@ fn place(s: &[u8], i: usize) -> Place
     let at = i * PLACE;
     let mark = s[at];
     let mut sizes: [u8; MOST] = [0; MOST];
-    bytes::copy(&s[at + SIZES..at + PLACE], &mut sizes);
+    sizes.copy_from_slice(&s[at + SIZES..at + PLACE]);
     Place {
         open: mark != 0,
         number: s[at + 1],
