@@ -104,6 +104,8 @@ def convert(lib, rel, folder, N):
 
     def need(o):
         o = norm(o)
+        if o.startswith("slice_bounds_") and "part_" + o[13:] in needs:
+            return "part_" + o[13:]
         for cut in ("", "overflow_", "nonzero_", "no_deeper_"):
             if o.startswith(cut) and o[len(cut):] in needs:
                 return o[len(cut):]
@@ -112,22 +114,76 @@ def convert(lib, rel, folder, N):
     up = {pl[0]: pl[1] for pl in N["places"]}
     where = {norm(o): at[0] for (o, n), at in zip(N["needs"], N["asked_at"])}
 
-    def place_of(goal, befores):
-        at = where.get(goal)
+    def rise(at, befores):
         for _ in range(befores):
             at = up.get(at)
-        return places.get(norm(at)) if at else None
+        return at
 
-    def shown(goal, head, befores):
-        """The record of an earlier place, as a helper takes it."""
-        to = place_of(goal, befores) if goal and head == "c" else None
-        if not to:
-            left.append(f"{head}{'.before' * befores} is passed on")
-            return head + ".before" * befores
-        return f"(goal.at.{needs[goal]} c).{to}"
+    takes = {}
 
-    def term(t, lts=("c",), goal=None):
-        lts = set(lts) | set(re.findall(r"\((\S+) : tie\.(?:After|Then|Else|In|At|Start|Arm)", t))
+    def shown(v, befores, at, goal, to=None):
+        """The record of an earlier place, as a helper takes it: v, which stands at `at`, and so many places back."""
+        if to and norm(to) == norm(at or "") and not goal:
+            return v
+        to = to or rise(at, befores)
+        if befores == 0 and not goal:
+            return v
+        if not to or (v == "c" and goal and at is None):
+            left.append(f"{v}{'.before' * befores} is passed on")
+            return v + ".before" * befores
+        to = places[norm(to)]
+        key = needs[goal] if goal and v == "c" else places[norm(at)]
+        cited.add(to)
+        return f"(goal.at.{key} {v}).{to}"
+
+    here = {pl[0]: (i, pl) for i, pl in enumerate(N["places"])}
+
+    def field_at(at, name):
+        """The new name of an old field, seen from a place; and the place."""
+        while at in here:
+            i, pl = here[at]
+            if norm(pl[2][0]) == name:
+                return pl[2][1], i
+            at = up.get(at)
+        return fields[name], next(i for i, pl in enumerate(N["places"]) if norm(pl[2][0]) == name)
+
+    def follow(rest, at):
+        """A path behind the head, from its first field on."""
+        name = norm(rest[0])
+        if name not in fields and name[0].lower() + name[1:] in fields:
+            name = name[0].lower() + name[1:]
+        if name not in fields:
+            return rest
+        if name in loops:
+            new, callee = loops[name][0], loops[name][1]
+            out, rest = [new], rest[1:]
+        else:
+            new, i = field_at(at, name)
+            callee = N["params"].get(N["places"][i][3])
+            out, rest = [new], rest[1:]
+            arm = N["arms"][i] if i < len(N["arms"]) else None
+            fit = [(to, subs) for to, of, subs in (arm[2] if arm else []) if norm(of) == name and rest[: len(subs)] == subs]
+            if fit:
+                to, subs = max(fit, key=lambda x: len(x[1]))
+                out, rest = [arm[0], to], rest[len(subs):]
+        if re.match(r"wrapping_(add|sub|mul)", new) and rest[:1] == ["ensures"]:
+            rest[0] = "ensures.value"
+        if rest[:1] == ["type-inv"]:
+            rest[0] = "type_inv"
+        if callee and len(rest) > 1 and rest[0] in ("new", "auto") and rest[1] in ("0", "1"):
+            k = 1
+            while k < len(rest) and rest[k] == "1":
+                k += 1
+            if k < len(rest) and rest[k] == "0" and k - 1 < len(callee):
+                rest = [rest[0], callee[k - 1]] + rest[k + 1 :]
+        return out + rest
+
+    old_place = {norm(p): p for p in here}
+
+    def term(t, goal=None):
+        at = {"c": where[goal]} if goal else {}
+        at.update(binders(t))
+        passed = []
 
         def one(m):
             whole = m[0]
@@ -136,62 +192,114 @@ def convert(lib, rel, folder, N):
                 p = norm(parts[1])
                 if p.startswith("Need_"):
                     return "goal." + needs.get(need(p[5:]), "?" + p[5:])
-                at = places.get(norm(parts[1]), parts[1])
-                cited.add(at)
-                return ".".join([at] + parts[2:])
-            if parts[0] in ("Rattle",) or parts[0][0].isupper():
+                to = places.get(p, parts[1])
+                cited.add(to)
+                return ".".join([to] + parts[2:])
+            v = parts[0]
+            if v not in at:
                 return whole
-            if parts[0] not in lts:
-                return whole
-            rest = parts[1:]
+            rest, k = parts[1:], 0
             while rest and rest[0] == "before":
-                rest = rest[1:]
+                rest, k = rest[1:], k + 1
             if not rest:
                 b = re.search(r"let (\S+) (?:: \S+ )?= $", t[: m.start()])
                 if b and re.match(r" in\s", t[m.end():]):
-                    lts.add(b[1])
-                    return parts[0] + "⁋" + ".".join(parts[1:]) + "⁋"
-                return "⁋⁋" + whole + "⁋⁋"
-            if norm(rest[0]) in fields:
-                callee = callees.get(norm(rest[0]))
-                rest[0] = fields[norm(rest[0])]
-                if callee and len(rest) > 2 and rest[1] == "new" and rest[2] in ("0", "1"):
-                    k = 2
-                    while k < len(rest) and rest[k] == "1":
-                        k += 1
-                    if k < len(rest) and rest[k] == "0" and k - 2 < len(callee):
-                        rest[2 : k + 1] = [callee[k - 2]]
-            return ".".join([parts[0]] + rest)
+                    at[b[1]] = rise(at[v], k)
+                    return f"{v}⁋{k}⁋"
+                by = re.search(r"(?<![^\s(){};,])([^\s(){};,.]+) $", t[: m.start()])
+                passed.append((v, k, takes.get(by[1]) if by else None))
+                return f"⁋⁋{len(passed) - 1}⁋⁋"
+            return ".".join([v] + follow(rest, rise(at[v], k)))
 
-        t = plain(PATH.sub(one, t), lts, goal)
+        t = re.sub(r"(\.given [^()]*\))\.ranges", r"\1.fits", t)
+        t = PATH.sub(one, t)
+        t = plain(t, at, goal, passed)
+        t = re.sub("⁋⁋(\\d+)⁋⁋", lambda m: shown(*passed[int(m[1])][:2], at[passed[int(m[1])][0]], goal, passed[int(m[1])][2]), t)
+        return re.sub(r"((?:After|In|Then|Else|At|Start|Arm)[^\s()]*)(?: (?:invariant|decreases)-[^\s()]*)+", r"\1", t)
 
-        def last(m):
-            parts = m[1].split(".")
-            return shown(goal, parts[0], len(parts) - 1)
-
-        t = re.sub("⁋⁋([^⁋]*)⁋⁋", last, t)
-        return re.sub(r"((?:After|In|Then|Else|At|Start|Arm)[^\s()]*)(?: (?:invariant|decreases)-loop[^\s()]*)+", r"\1", t)
+    def binders(t):
+        """The variables of a helper that stand for a place, by their names in its signature and in its clauses."""
+        out = {}
+        for m in re.finditer(r"\(([^():]+) : tie\.([^\s()]+)[^()]*\)", t):
+            for v in m[1].split():
+                if norm(m[2]) in old_place:
+                    out[v] = old_place[norm(m[2])]
+        for m in re.finditer(r"(?m)^\s*(?:abbrev )?(?:pub )?(\S+) : tie\.(\S+)", t):
+            if norm(m[2]) in old_place:
+                out[m[1]] = old_place[norm(m[2])]
+        lines = t.split("\n")
+        sig = re.match(r"((?:abbrev |unfoldable |pub )*)(\S+)((?: \{[^{}]*\})*) : (.*)", lines[0])
+        if sig:
+            text = sig[4]
+            for l in lines[1:]:
+                if l[:1] not in " \t":
+                    break
+                text += " " + l.strip()
+            explicit, i = [], 0
+            while i < len(text) and text[i] in "({ →":
+                if text[i] in "({":
+                    depth, j = 0, i
+                    while True:
+                        depth += text[j] in "({[" 
+                        depth -= text[j] in ")}]"
+                        j += 1
+                        if depth == 0:
+                            break
+                    m = re.match(r"\((.*?) : (.*)\)$", text[i:j])
+                    if m and text[i] == "(":
+                        explicit += [(n, m[2]) for n in m[1].split()]
+                    elif text[i] == "(":
+                        break
+                    i = j
+                else:
+                    i += 1
+            for l in lines[1:]:
+                m = re.match(re.escape(sig[2]) + r" ((?:\S+ )+)=", l)
+                if m:
+                    args = re.sub(r"\{[^{}]*\} ?", "", m[1]).split()
+                    for v, (n, ty) in zip(args, explicit):
+                        p = re.match(r"tie\.(\S+)", ty)
+                        if p and norm(p[1]) in old_place:
+                            out[v] = old_place[norm(p[1])]
+        return out
 
     cited = set()
-    def plain(t, lts, goal):
-        """Without the names that only stand for what `c` is already."""
+    def free(t, v, w):
+        """v. becomes w., but where a λ binds v."""
+        out, depth, bound, i = "", 0, [], 0
+        while i < len(t):
+            m = re.match(r"λ ([^.]*)\. ", t[i:])
+            if m and re.search(rf"(?<![^\s(]){re.escape(v)}(?![^\s):])", m[1]):
+                bound.append(depth)
+                out, i = out + m[0], i + len(m[0])
+                continue
+            ch = t[i]
+            if ch in "([{":
+                depth += 1
+            if ch in ")]}":
+                depth -= 1
+                bound = [b for b in bound if b <= depth]
+            if not bound and t.startswith(v + ".", i) and (i == 0 or t[i - 1] in " \n(){};,@"):
+                out, i = out + w + ".", i + len(v) + 1
+                continue
+            if w == "\0" and not bound and t.startswith(v, i) and (i == 0 or t[i - 1] in " \n(){};,@") and re.match(r"[\s(){};,]|$", t[i + len(v) :]) and not re.match(r" =", t[i + len(v) :]):
+                out += "\0\0"
+            out, i = out + ch, i + 1
+        return out
+
+    def plain(t, at, goal, passed):
+        """Without the names that only stand for an earlier place of what a variable is."""
         while True:
-            m = re.search(r"let (\S+) = (\S+) in\s+", t)
-            found = None
-            found = re.search(r"let ([^\s:]+) = ([^\s.⁋]+)⁋([\w.]+)⁋ in\s+", t)
+            found = re.search(r"let ([^\s:]+) = ([^\s.⁋]+)⁋(\d+)⁋ in\s+", t)
             if not found:
                 return t
-            v, w = found[1], found[2]
-            t = t.replace(f"⁋⁋{v}.", f"⁋⁋{w}.{found[3]}.")
-            found = re.search(r"let ([^\s:]+) = ([^\s.⁋]+)⁋([\w.]+)⁋ in\s+", t)
-            rest = t[found.end():]
-            here = rf"(?<![^\s(){{}};,@\"\[\]|]){re.escape(v)}"
-            rest = re.sub(here + r"(?=\.)", w, rest)
-            kept = ""
-            if re.search(here + r"(?=[\s(){};,]|$)(?! =)", rest):
-                kept = f"let {v} = {shown(goal, w, found[3].count('before'))} in\n    "
-            # an alias of the alias goes on from where the first begins
-            rest = re.sub(rf"= {re.escape(v)}⁋", f"= {w}⁋{found[3]}.", rest)
+            v, w, k = found[1], found[2], int(found[3])
+            rest = free(t[found.end():], v, w)
+            for i, (a, n, to) in enumerate(passed):
+                if a == v:
+                    passed[i] = (w, n + k, to)
+            rest = re.sub(rf"= {re.escape(v)}⁋(\d+)⁋", lambda m: f"= {w}⁋{int(m[1]) + k}⁋", rest)
+            kept = f"let {v} = {shown(w, k, at[w], goal)} in\n    " if free(rest, v, "\0").count("\0\0") else ""
             t = t[: found.start()] + kept + rest
 
     imports = [u for u in uses if ".Statement.{statement}" not in u and not re.search(r"\.Tie( as tie)?$", u)]
@@ -205,7 +313,18 @@ def convert(lib, rel, folder, N):
         if re.search(r"statement \w+( \w+)*$", sig) and "spec" in name:
             final = d
             continue
-        named[name] = d
+        named[name if name not in named else f"{name} {len(named)}"] = d
+    for name, d in named.items():
+        if d.lstrip().startswith("module") or "\nmodule" in d:
+            of = next(iter(binders(d).items()), None)
+            m = re.search(r"module \S+ \((\S+) : tie\.([^\s()]+)", d)
+            if m and norm(m[2]) in old_place:
+                for n in re.findall(r"(?m)^  (?:(?:abbrev|unfoldable|pub) )*(\S+)(?: \{[^{}]*\})* : ", d):
+                    takes[n] = old_place[norm(m[2])]
+            continue
+        m = re.search(r"(?m)^(?:(?:abbrev|unfoldable|pub) )*(\S+)(?: \{[^{}]*\})* : \((\S+) : tie\.([^\s()]+)", d)
+        if m and norm(m[3]) in old_place:
+            takes[m[1]] = old_place[norm(m[3])]
     # answers that stand in the list of the end
     inline = {}
     if final:
@@ -226,10 +345,10 @@ def convert(lib, rel, folder, N):
         com = [l for l in lines if l.startswith("--")]
         rest = [l for l in lines if not l.startswith("--")]
         sig = rest[0]
-        m = re.search(r": tie\.(invariant-loop\S*|decreases-loop\S*)", sig)
+        m = re.search(r": tie\.(invariant|decreases)-(\S+)", sig)
         if m:
-            kind = m[1].split("-loop")[0]
-            lp = norm("loop" + m[1].split("-loop", 1)[1])
+            kind = m[1]
+            lp = norm(m[2])
             if lp not in loops:
                 left.append(f"no loop {lp}")
                 continue
@@ -291,6 +410,24 @@ def convert(lib, rel, folder, N):
         args = [x for x in m[1].split() if x != "κs"]
         ans.append(([], needs[o], "", args, " " + m[2]))
     base = f"Rattle.{lib}.proofs.{rel}"
+    # what the invariants name stands beside them, and answers take it from there
+    lent = []
+    while True:
+        said = "\n".join(x for _, x in inv)
+        called = lambda a: re.match(r"(?:(?:abbrev|unfoldable|pub) )*(\S+)", a[4])[1]
+        more = [a for a in ans if a[1] is None and a not in lent and re.search(r"(?<![\w.'-])" + re.escape(called(a)) + r"(?![\w'-])", said)]
+        if not more:
+            break
+        ans = [a for a in ans if a not in more]
+        lent += more
+        for a in more:
+            body = a[4] if re.match(r"((abbrev|unfoldable) )*pub ", a[4]) else re.sub(r"^((?:(?:abbrev|unfoldable) )*)", r"\1pub ", a[4])
+            inv.insert(0, (a[0], body))
+    names_lent = [re.match(r"(?:(?:abbrev|unfoldable|pub) )*(\S+)", a[4])[1] for a in lent]
+    if names_lent and ans:
+        imports_more = [f"use {base}.Invariants.{{{', '.join(names_lent)}}}"]
+    else:
+        imports_more = []
     if inv:
         t = "\n".join(head + imports + [f"use {base}.Given as goal", ""]) + "\n"
         t += "\n\n".join("\n".join(c + [x]) for c, x in inv) + "\n"
@@ -301,9 +438,9 @@ def convert(lib, rel, folder, N):
             if n is None:
                 out.append("\n".join(com + [body]))
             else:
-                out.append("\n".join(com + [f"pub {n} : goal.{n}\n{un}{n} {' '.join(args)} ={term(body, ('c',), next(o for o in order if needs[o] == n))}"]))
+                out.append("\n".join(com + [f"pub {n} : goal.{n}\n{un}{n} {' '.join(args)} ={term(body, next(o for o in order if needs[o] == n))}"]))
         more = [f"use {base}.Goals.{{{', '.join(sorted(cited))}}}"] if cited else []
-        t = "\n".join(head + imports + more + [f"use {base}.Goals as goal", ""]) + "\n"
+        t = "\n".join(head + imports + imports_more + more + [f"use {base}.Goals as goal", ""]) + "\n"
         t += "\n\n".join(out) + "\n"
         open(os.path.join(folder, "Answers.antt"), "w").write(t)
     os.remove(path)

@@ -1,0 +1,24 @@
+-- `correct` is the correction in place of every family, with the packet's fields read before and behind the change and where `stands` found the field.
+use Rattle.std.proofs.Common.{refl, ◌∙◌, rules}
+use Rattle.format.specs.Laws.Corrections.{family_refused, family_sized}
+use Rattle.packet.specs.Packet.{packets, record_of, refusal_of}
+use Rattle.packet.specs.Laws.Correction.{spotted}
+use Rattle.packet.specs.Laws.Demands.{family}
+use Rattle.packet.specs.declared.reading.Answer.TheVariants.{Good, Refused}
+use Rattle.packet.proofs.correcting.correct.Goals as goal
+
+-- the message was refused
+pub returns-then-own-ne0 : goal.returns-then-own-ne0
+unfolding packets
+returns-then-own-ne0 c =
+    let a = c.args in
+    family_refused packets record_of (λ r. Good r.0) Refused refusal_of (λ r. refl) (λ c. refl) a.buf.now _ a.value c.read-was.ensures c.refusal-own.ensures c.if-own-ne0.true
+
+pub returns : goal.returns
+unfolding packets
+returns c =
+    let a = c.args in
+    let (there, slim) = c.stands-spot.ensures in
+    family_sized family (λ r. Good r.0) Refused refusal_of (λ r. refl) (λ c. refl) a.buf.now a.field a.value _ _ c.read-was.ensures c.refusal-own.ensures
+    (λ r e. spotted r a.field ∙ there) slim
+    (λ i. (c.slice_known-1.given i).fits) c.begin-begun.ensures refl c.fields-again.ensures c.refusal.ensures c.finish.ensures
