@@ -152,6 +152,8 @@ def convert(lib, rel, folder, N):
         name = norm(rest[0])
         if name not in fields and name[0].lower() + name[1:] in fields:
             name = name[0].lower() + name[1:]
+        if name not in fields and name.rstrip("0123456789") in fields:
+            name = name.rstrip("0123456789")
         if name not in fields:
             return rest
         if name in loops:
@@ -211,6 +213,8 @@ def convert(lib, rel, folder, N):
                 return f"⁋⁋{len(passed) - 1}⁋⁋"
             return ".".join([v] + follow(rest, rise(at[v], k)))
 
+        # the test of an `if !x` says of x itself what it is
+        t = re.sub(r"(?<![\w.'-])not-(?:true|false) _ ", "", t)
         t = re.sub(r"(\.given [^()]*\))\.ranges", r"\1.fits", t)
         for m in re.finditer(r"let (\S+) = c in\s", t) if "c" in at else []:
             at[m[1]] = at["c"]

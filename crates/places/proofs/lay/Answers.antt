@@ -10,13 +10,8 @@ use Rattle.places.specs.Desk.{laid}
 use borrow.Author.Rules.{rules}
 use Rattle.places.proofs.lay.Goals as goal
 
-put_back_lem : (s : List ℕ) (at : ℕ) (c y : List ℕ) → y ≡ take (length c) c ++ drop (length c) (take (length s - at) (drop at s))
-    → take at s ++ (y ++ drop (length s - at) (drop at s)) ≡ laid s at c
-put_back_lem s at c y e =
-    let none = drop_of_length-le (drop at s) {i = length s - at} (omega (arith, length-drop at s)) in
-    let rest = take_all (length s - at) (drop at s) (omega (arith, length-drop at s)) in
-    let front : y ≡ c ++ drop (at + length c) s = e ∙ ap₂ (◌++◌) (take-length c) (ap (drop (length c)) rest ∙ drop-drop (length c) at s) in
-    ap (take at s ++◌) (ap₂ (◌++◌) front none ∙ append-nil (c ++ drop (at + length c) s))
+put_back_lem : (s : List ℕ) (at : ℕ) (c y : List ℕ) (n : ℕ) → y ≡ c → n ≡ length c → take at s ++ (y ++ drop n (drop at s)) ≡ laid s at c
+put_back_lem s at c y n e same = ap (take at s ++◌) (ap₂ (◌++◌) e (ap (λ k. drop k (drop at s)) same ∙ drop-drop (length c) at s))
 
 pub returns-then-at-s : goal.returns-then-at-s
 returns-then-at-s c = let a = c.args in
@@ -34,4 +29,4 @@ pub returns : goal.returns
 returns c = let a = c.args in
     let s = a.s.now in
     let part = a.part.now in
-    put_back_lem s a.at part c.copy.new.1.0 c.copy.ensures.1 ∙ sym (rw (le-leb (a.at + length part) (length s) (omega (arith, c.if-part-s.false, c.if-at-s.false))) refl)
+    put_back_lem s a.at part c.copy_from_slice.new.self _ c.copy_from_slice.ensures.after (omega arith) ∙ sym (rw (le-leb (a.at + length part) (length s) (omega (arith, c.if-part-s.false, c.if-at-s.false))) refl)

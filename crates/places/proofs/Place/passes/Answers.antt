@@ -6,7 +6,7 @@ use Rattle.places.specs.Places.{passes}
 use Rattle.places.proofs.Place.passes.Goals as goal
 
 pub returns-then-self : goal.returns-then-self
-returns-then-self c = c.good2.ensures ∙ sym (rw c.if-self.true refl)
+returns-then-self c = c.good.ensures ∙ sym (rw c.if-self.true refl)
 
 pub returns : goal.returns
 returns c = sym (rw c.if-self.false refl)
