@@ -96,7 +96,9 @@ def convert(lib, rel, folder, N):
         if o:
             fields[norm(o)] = n
     callees = {norm(pl[2][0]): N["params"].get(pl[3]) for pl in N["places"] if pl[3]}
-    places = {norm(pl[0]): nb for pl, nb in zip(N["places"], N["places_by_name"])}
+    # an arm's first steps are one place with its last
+    last_of = lambda n: re.sub(r"-\d+$", "", n) if n.startswith("In-") and re.sub(r"-\d+$", "", n) in N["places_by_name"] else n
+    places = {norm(pl[0]): last_of(nb) for pl, nb in zip(N["places"], N["places_by_name"])}
     loops = {}
     for (pair, vs), ch in zip(N["loops"], N["changed"] or [[]] * len(N["loops"])):
         loops[norm(pair[0])] = (pair[1], vs, ch)
