@@ -30,7 +30,7 @@ def blocks(text):
             continue
         if l[0] not in " \t)" :
             m = re.match(rf"((?:abbrev|unfoldable|pub) )*({WORD})((?: \{{[^{{}}]*\}})*) :( |$)", l)
-            if m or l.startswith(("module", "data", "record", "pub data", "pub record")):
+            if m or l.startswith(("module ", "data ", "record ", "pub data ", "pub record ")):
                 cur = pend + [l]
                 pend = []
                 decls.append([m[2] if m else l.split()[1], cur])
@@ -216,7 +216,7 @@ def convert(lib, rel, folder, N):
             return ".".join([v] + follow(rest, rise(at[v], k)))
 
         # the test of an `if !x` says of x itself what it is
-        t = re.sub(r"(?<![\w.'-])not-(?:true|false) _ ", "", t)
+        t = re.sub(r"(?<![\w.'-])not-(?:true|false) (?:_ |[^\s()]+ (?=[^\s()]+\.if\d+\.(?:true|false)))", "", t)
         t = re.sub(r"(\.given [^()]*\))\.ranges", r"\1.fits", t)
         for m in re.finditer(r"let (\S+) = c in\s", t) if "c" in at else []:
             at[m[1]] = at["c"]
@@ -281,19 +281,24 @@ def convert(lib, rel, folder, N):
     cited = set()
     def free(t, v, w):
         """v. becomes w., but where a λ binds v."""
-        out, depth, bound, i = "", 0, [], 0
+        out, depth, bound, lets, i = "", 0, [], 0, 0
         while i < len(t):
             m = re.match(r"λ ([^.]*)\. ", t[i:])
             if m and re.search(rf"(?<![^\s(]){re.escape(v)}(?![^\s):])", m[1]):
-                bound.append(depth)
+                bound.append((depth, lets))
                 out, i = out + m[0], i + len(m[0])
                 continue
             ch = t[i]
+            if i == 0 or t[i - 1] in " \n(":
+                lets += bool(re.match(r"let\s", t[i:]))
+                if re.match(r"in\s", t[i:]):
+                    lets -= 1
+                    bound = [b for b in bound if b[1] <= lets]
             if ch in "([{":
                 depth += 1
             if ch in ")]}":
                 depth -= 1
-                bound = [b for b in bound if b <= depth]
+                bound = [b for b in bound if b[0] <= depth]
             if not bound and t.startswith(v + ".", i) and (i == 0 or t[i - 1] in " \n(){};,@"):
                 out, i = out + w + ".", i + len(v) + 1
                 continue

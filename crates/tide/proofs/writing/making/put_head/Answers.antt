@@ -1,12 +1,10 @@
 -- `put_head` puts the codes and the count.
-use Prim.Native.Nat.{◌-◌, ◌≤◌}
 use mathlib.Core.Path.{◌∙◌}
 use lib.Dec.{lit≤}
 use Rattle.format.specs.Codes.{codes, headed}
 use Rattle.format.specs.Laws.Putting.{put_start, put_step, put_choice}
 use Rattle.tide.specs.Record.{leading}
 use Rattle.tide.specs.Tide.{tides}
-use borrow.Author.Rules.{rules}
 use Rattle.tide.proofs.writing.making.put_head.Goals as goal
 
 pub shape_of-buf : goal.shape_of-buf
