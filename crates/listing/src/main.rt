@@ -23,7 +23,7 @@ fn main(rt: HostRuntime) -> io::Result<ExitCode> {
 
 // Writes what a turn made, reads and takes the next turn, until the listing is done; whether it is. A proved loop has to end,
 // and nothing says that a log does, so it takes so many turns as no run uses up.
-#[tactic(auto, using(daylog::specs::Laws::Turns::begin_within, daylog::specs::Laws::Turns::turn_within))]
+#[tactic(auto, using(daylog::specs::Laws::Turns::begin_within))]
 fn carry(
     rt: &(impl Print + Eprint),
     log: &mut impl Read,
