@@ -165,6 +165,9 @@ def convert(lib, rel, folder, N):
             new, i = field_at(at, name)
             callee = N["params"].get(N["places"][i][3])
             out, rest = [new], rest[1:]
+            renamed = dict(N["places"][i][4])
+            if rest and rest[0] in renamed:
+                rest = [renamed[rest[0]]] + rest[1:]
             arm = N["arms"][i] if i < len(N["arms"]) else None
             fit = [(to, subs) for to, of, subs in (arm[2] if arm else []) if norm(of) == name and rest[: len(subs)] == subs]
             if fit:
@@ -215,8 +218,6 @@ def convert(lib, rel, folder, N):
                 return f"⁋⁋{len(passed) - 1}⁋⁋"
             return ".".join([v] + follow(rest, rise(at[v], k)))
 
-        # the test of an `if !x` says of x itself what it is
-        t = re.sub(r"(?<![\w.'-])not-(?:true|false) (?:_ |[^\s()]+ (?=[^\s()]+\.if\d+\.(?:true|false)))", "", t)
         t = re.sub(r"(\.given [^()]*\))\.ranges", r"\1.fits", t)
         for m in re.finditer(r"let (\S+) = c in\s", t) if "c" in at else []:
             at[m[1]] = at["c"]
@@ -229,6 +230,8 @@ def convert(lib, rel, folder, N):
         t = re.sub(rf"\(([^\s()]+) ([^()]*)\)\.((?:{WORD})(?:\.(?:{WORD}))*)", held, t)
         t = PATH.sub(one, t)
         t = plain(t, at, goal, passed)
+        # the test of an `if !x` says of x itself what it is: what the lemma made of its raw form
+        t = re.sub(r"(?<![\w.'-])not-(true|false) \S+ ([^\s(){},;]+\.\1)-raw(?![\w'-])", r"\2", t)
         t = re.sub("⁋⁋(\\d+)⁋⁋", lambda m: shown(*passed[int(m[1])][:2], at[passed[int(m[1])][0]], goal, passed[int(m[1])][2]), t)
         return re.sub(r"((?:After|In|Then|Else|At|Start|Arm)[^\s()]*)(?: (?:invariant|decreases)-[^\s()]*)+", r"\1", t)
 
@@ -319,6 +322,7 @@ def convert(lib, rel, folder, N):
                 if a == v:
                     passed[i] = (w, n + k, to)
             rest = re.sub(rf"= {re.escape(v)}⁋(\d+)⁋", lambda m: f"= {w}⁋{int(m[1]) + k}⁋", rest)
+            # the place that a helper takes, where it is passed to one: the steps between may be more or fewer today
             to = next((takes[m[1]] for m in re.finditer(rf"(?<![^\s(){{}};,])([^\s(){{}};,.]+) {re.escape(v)}(?=[\s(){{}};,]|$)", rest) if m[1] in takes), None)
             kept = f"let {v} = {shown(w, k, at[w], goal, to)} in\n    " if free(rest, v, "\0").count("\0\0") else ""
             t = t[: found.start()] + kept + rest

@@ -1,4 +1,6 @@
 // The desk with its places as lent bytes, 67 each: the open mark (0 closed, 1 open), message number, language, total, and a size for each of 63 packets.
+#![tactic(auto)]
+
 ghost use Rattle.std.specs.Prelude.{◌≡◌, cond, ◌≤◌, ◌<◌, length};
 ghost use Rattle.places.specs.Desk.{laid};
 ghost use Rattle.places.specs.Places.{four_places};

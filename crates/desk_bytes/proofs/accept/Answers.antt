@@ -1,8 +1,6 @@
 -- `accept` meets its contract: by value, and the place that changed put back.
 use mathlib.Core.Path.{◌≡◌, ◌∙◌, subst}
 use mathlib.Core.List.{[], ◌∷◌}
-use Prim.Native.Nat.{◌-◌}
-use borrow.Author.Rules.{rules}
 use Rattle.places.specs.Promises.{AcceptTurn}
 use Rattle.desk_bytes.specs.Laws.Changes.{four_in, row_long, accepts_in, accepts_few}
 use Rattle.desk_bytes.proofs.accept.Goals as goal

@@ -1,9 +1,6 @@
 -- `drop` meets its contract: by value, and the place that changed put back.
 use mathlib.Core.Path.{◌≡◌, ◌∙◌, subst}
 use mathlib.Core.List.{[], ◌∷◌}
-use Prim.Native.Nat.{◌-◌}
-use lib.ListN.{drop}
-use borrow.Author.Rules.{rules}
 use Rattle.places.specs.Promises.{DropTurn}
 use Rattle.desk_bytes.specs.Laws.Changes.{four_in, row_long, drops_in, drops_few}
 use Rattle.desk_bytes.proofs.drop.Goals as goal

@@ -1,15 +1,13 @@
 -- `place` meets its contract: its bytes in turn.
 use mathlib.Core.Path.{◌≡◌, ap, ap₂, ◌∙◌}
 use mathlib.Core.Bool.{not}
-use Prim.Native.Nat.{ℕ, ◌+◌, ◌-◌, ◌<◌}
+use Prim.Native.Nat.{◌+◌, ◌-◌}
 use native.Mathlib.Omega.{arith}
 use lib.Dec.{eqb, lit<}
-use lib.ListN.{get_or, length, take, drop, length-drop, replicate, length-replicate}
-use lib.Seq.{length-take-le}
-use borrow.Author.Rules.{rules}
+use lib.ListN.{get_or, take, drop}
 use Rattle.packet.specs.Packet.{most_packets}
 use Rattle.desk_bytes.specs.Bytes.{total_behind, begins, place_bytes}
-use Rattle.desk_bytes.proofs.Stored.{byte_there, sizes_there, copied_whole}
+use Rattle.desk_bytes.proofs.Stored.{byte_there, sizes_there}
 use Rattle.desk_bytes.proofs.place.Goals as goal
 
 pub returns : goal.returns

@@ -1,7 +1,5 @@
 -- `settle` meets its contract: the place is put back where the reply comes with one that changed.
 use mathlib.Core.Path.{refl, sym, ◌∙◌}
-use Prim.Native.Nat.{◌-◌}
-use borrow.Author.Rules.{rules}
 use Rattle.desk_bytes.proofs.settle.Goals as goal
 
 pub returns-then-moves : goal.returns-then-moves

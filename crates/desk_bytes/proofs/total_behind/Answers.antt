@@ -1,6 +1,5 @@
 -- `total_behind` meets its contract.
 use mathlib.Core.Path.{refl, sym}
-use Prim.Native.Nat.{◌-◌}
 use borrow.Author.Tests.{le-leb, lt-leb}
 use Rattle.desk_bytes.proofs.total_behind.Goals as goal
 

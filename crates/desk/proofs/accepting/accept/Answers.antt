@@ -5,13 +5,12 @@ use Prim.Native.Nat.{ℕ, ◌-◌, ◌≤◌, ◌<◌}
 use native.Mathlib.Omega.{arith}
 use lib.Dec.{lit<}
 use lib.ListN.{length, take, drop}
-use borrow.Author.Rules.{rules}
 use Rattle.format.specs.Fmt.{accepted}
 use Rattle.format.specs.Promises.{read_record}
 use Rattle.format.specs.Refusals.{bare}
 use Rattle.packet.specs.Packet.{part_bytes_of, packets, record_of}
 use Rattle.places.specs.Places.{place_at, held, four_places}
-use Rattle.places.specs.Desk.{first_tests, joins, opens, turned_away, taken}
+use Rattle.places.specs.Desk.{first_tests, joins, opens, turned_away}
 use Rattle.places.specs.Promises.{Gives}
 use Rattle.places.specs.Laws.Four.{last_of_four, settled}
 use Rattle.packet.specs.Laws.Accepted.{Fit, read_good}

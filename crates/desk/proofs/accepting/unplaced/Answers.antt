@@ -1,7 +1,5 @@
 -- `unplaced` meets its contract: by the packet's answer.
 use mathlib.Core.Path.{sym, ◌∙◌}
-use Prim.Native.Nat.{◌-◌}
-use borrow.Author.Rules.{rules}
 use Rattle.desk.proofs.Ways.{too_few_good, too_few_refused}
 use Rattle.desk.proofs.accepting.unplaced.Goals as goal
 

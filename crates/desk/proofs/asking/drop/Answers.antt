@@ -3,7 +3,6 @@ use Prim.Native.Nat.{◌<◌, ◌≤◌}
 use mathlib.Core.List.{[], ◌∷◌}
 use mathlib.Core.Path.{◌≡◌, sym, ap, ◌∙◌}
 use native.Mathlib.Omega.{arith}
-use borrow.Author.Rules.{rules}
 use Rattle.format.specs.Refusals.{bare}
 use Rattle.places.specs.Desk.{turn_of, stays}
 use Rattle.places.specs.Places.{four_places, freed, open_at}

@@ -5,8 +5,6 @@ use Rattle.bits.specs.Bits.{Bytes}
 use Rattle.frame.specs.Laws.Head.{head_put_lem}
 use Rattle.format.specs.Laws.Putting.{put_start, put_step, put_end}
 use Rattle.gljc.specs.Gljc.{letters, gljc, values_of}
-use borrow.Author.Rules.{rules}
-use Rattle.frame.proofs.put.Reads as put_reads'
 use Rattle.gljc.proofs.writing.put.Goals as goal
 
 pub returns : goal.returns

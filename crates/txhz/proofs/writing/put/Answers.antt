@@ -6,7 +6,6 @@ use Rattle.frame.specs.Laws.Head.{head_put_lem}
 use Rattle.format.specs.Laws.Putting.{put_start, put_step, put_end}
 use Rattle.txhz.specs.Txhz.{letters, txhz, values_of}
 use Rattle.txhz.specs.Laws.Receipts.{receipt_put_lem}
-use borrow.Author.Rules.{rules}
 use Rattle.txhz.proofs.writing.put.Goals as goal
 
 pub shape_of-buf : goal.shape_of-buf

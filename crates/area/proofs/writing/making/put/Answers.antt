@@ -10,7 +10,6 @@ use Rattle.format.specs.Laws.Extent.{opens_choice}
 use Rattle.format.specs.Laws.Putting.{put_start, put_step, put_end}
 use Rattle.area.specs.Area.{area, values_as}
 use Rattle.ais_common.specs.Laws.Walking.{put_told}
-use borrow.Author.Rules.{rules}
 use Rattle.area.proofs.writing.making.put.Goals.{After-put-10, After-put-4}
 use Rattle.area.proofs.writing.making.put.Goals as goal
 

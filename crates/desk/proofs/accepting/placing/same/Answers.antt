@@ -1,11 +1,10 @@
 -- `same` meets its contract: the runs are alike where no byte so far differed and those left are alike.
-use mathlib.Core.Path.{◌≡◌, refl, sym, ap, ◌∙◌}
+use mathlib.Core.Path.{refl, sym, ap, ◌∙◌}
 use mathlib.Core.Bool.{◌&&◌}
-use Prim.Native.Nat.{◌+◌, ◌-◌, ◌≤◌}
+use Prim.Native.Nat.{◌+◌}
 use native.Mathlib.Omega.{arith}
-use lib.ListN.{length, drop}
-use borrow.Author.Rules.{rules}
-use Rattle.places.specs.Desk.{alike, taken}
+use lib.ListN.{drop}
+use Rattle.places.specs.Desk.{alike}
 use Rattle.desk.proofs.Joins.{other_length, alike_next, alike_none}
 use Rattle.desk.proofs.accepting.placing.same.Goals as goal
 

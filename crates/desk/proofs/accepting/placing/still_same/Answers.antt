@@ -1,9 +1,7 @@
 -- `still_same` meets its contract.
 use mathlib.Core.Path.{sym}
 use mathlib.Core.Bool.{and-true, and-false}
-use Prim.Native.Nat.{◌-◌}
 use borrow.Author.Tests.{eq-eqb, ne_eqb}
-use Rattle.places.specs.Desk.{taken}
 use Rattle.desk.proofs.accepting.placing.still_same.Goals as goal
 
 pub returns-then-x-y : goal.returns-then-x-y

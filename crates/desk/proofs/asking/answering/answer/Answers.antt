@@ -1,6 +1,5 @@
 -- `answer` meets its contract: numbers are missing and are told, or none is and the notice is handed out.
 use mathlib.Core.Path.{◌∙◌, sym}
-use borrow.Author.Rules.{rules}
 use Rattle.places.specs.Desk.{missing_below, joined_below}
 use Rattle.places.specs.Laws.Outcomes.{answers_missing, answers_whole}
 use Rattle.desk.proofs.Answers.{answered, buffer_stays, row_stays}

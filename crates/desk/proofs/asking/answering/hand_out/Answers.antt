@@ -2,7 +2,6 @@
 use mathlib.Core.Path.{refl, ap}
 use mathlib.Core.List.{[]}
 use native.Mathlib.Omega.{arith}
-use borrow.Author.Rules.{rules}
 use Rattle.places.specs.declared.Turn.{Turn}
 use Rattle.places.specs.Laws.Four.{first_again}
 use Rattle.desk.proofs.Answers.{answered, buffer_short, handed}

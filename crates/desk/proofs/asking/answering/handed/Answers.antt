@@ -1,5 +1,4 @@
 -- `handed` is the turn that frees the place, entry by entry.
-use borrow.Author.Rules.{rules}
 use Rattle.places.specs.declared.Reply.TheVariants.{Joined}
 use Rattle.desk.proofs.asking.answering.handed.Goals as goal
 

@@ -2,7 +2,6 @@
 use mathlib.Core.Path.{refl}
 use mathlib.Core.List.{[]}
 use native.Mathlib.Omega.{arith}
-use borrow.Author.Rules.{rules}
 use Rattle.places.specs.Desk.{missing_below}
 use Rattle.places.specs.Laws.Four.{first_again}
 use Rattle.desk.proofs.Answers.{answered, row_short, listed}

@@ -1,8 +1,6 @@
 -- `count_bytes` meets its contract: n is how many bytes the packets below k are.
-use Prim.Native.Nat.{◌-◌, ◌≤◌}
 use mathlib.Core.Path.{◌≡◌, refl, ap, ◌∙◌}
 use native.Mathlib.Omega.{arith}
-use borrow.Author.Rules.{rules}
 use Rattle.places.specs.Laws.Joined.{held_below, held_more, held_most}
 use Rattle.desk.proofs.asking.joining.count_bytes.Goals as goal
 

@@ -1,9 +1,7 @@
 -- `count_missing` meets its contract: n is how many of the numbers below k are missing.
-use Prim.Native.Nat.{◌-◌, ◌≤◌}
 use mathlib.Core.List.{[], ◌∷◌}
 use mathlib.Core.Path.{◌≡◌, refl, sym, ap, ◌∙◌}
 use native.Mathlib.Omega.{arith}
-use borrow.Author.Rules.{rules}
 use lib.ListN.{length, length-append}
 use Rattle.places.specs.Desk.{missing_below}
 use Rattle.places.specs.Laws.Listed.{missing_held, missing_lacking, missing_few}
@@ -33,8 +31,8 @@ loop-k-preserved c =
     let v = c.loop-k.invariant.1 in (
       omega arith,
       elim c.if-sizes-k-eq0.branch [
-        then-sizes-k-eq0 w ↦ let e = missing_lacking k p w.if-sizes-k-eq0.true in omega (arith, w.n-is, v, ap length e, length-append (missing_below k p) (k ∷ []))
-      | else-sizes-k-eq0 w ↦ w.n-is ∙ v ∙ sym (ap length (missing_held k p w.if-sizes-k-eq0.false))
+        | then-sizes-k-eq0 w ↦ let e = missing_lacking k p w.if-sizes-k-eq0.true in omega (arith, w.n-is, v, ap length e, length-append (missing_below k p) (k ∷ []))
+        | else-sizes-k-eq0 w ↦ w.n-is ∙ v ∙ sym (ap length (missing_held k p w.if-sizes-k-eq0.false))
       ],
     )
 

@@ -1,15 +1,10 @@
 -- `join` meets its contract: the packets below k stand in front of the buffer.
-use Prim.Native.Nat.{ℕ, ◌+◌, ◌-◌, ◌≤◌, ◌<◌}
-use mathlib.Core.List.{List, ◌++◌}
-use mathlib.Core.Path.{◌≡◌, refl, sym, ap, ap₂, ◌∙◌}
-use native.Mathlib.Omega.{arith}
-use borrow.Author.Rules.{rules}
-use lib.ListN.{length, take, drop, length-take}
-use Rattle.packet.specs.Packet.{most_packets}
-use Rattle.places.specs.Desk.{laid, cell, in_cell_of, joined_below}
-use Rattle.places.specs.Places.{held}
-use Rattle.places.specs.Laws.Laid.{laid_within_lem}
-use Rattle.places.specs.Laws.Joined.{held_below, held_more, held_room, cell_within, joined_more, joined_length, front_laid}
+use Prim.Native.Nat.{◌-◌, ◌≤◌}
+use mathlib.Core.List.{◌++◌}
+use mathlib.Core.Path.{◌≡◌}
+use lib.ListN.{length, drop}
+use Rattle.places.specs.Desk.{joined_below}
+use Rattle.places.specs.Laws.Joined.{held_below}
 use Rattle.desk.proofs.asking.joining.join.Given as goal
 
 abbrev pub invariant-loop-k : goal.invariant-loop-k

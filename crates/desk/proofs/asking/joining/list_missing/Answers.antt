@@ -1,9 +1,8 @@
 -- `list_missing` meets its contract: the missing numbers below k stand in front of the row.
-use Prim.Native.Nat.{ℕ, ◌+◌, ◌-◌, ◌≤◌}
+use Prim.Native.Nat.{ℕ}
 use mathlib.Core.List.{List, [], ◌∷◌, ◌++◌}
 use mathlib.Core.Path.{◌≡◌, refl, sym, ap, ap₂, ◌∙◌}
 use native.Mathlib.Omega.{arith}
-use borrow.Author.Rules.{rules}
 use lib.ListN.{length, drop, set, length-append, length-set}
 use Rattle.places.specs.Desk.{missing_below}
 use Rattle.places.specs.Laws.Listed.{missing_held, missing_lacking, missing_room, missing_few, front_more}
@@ -44,17 +43,17 @@ loop-k-preserved c =
     let ns = missing_below k p in
     let listed : List ℕ → List ℕ = λ ns. ns ++ drop (length ns) w in
     elim c.if-sizes-k-eq0.branch [
-      then-sizes-k-eq0 x ↦
-        let e = missing_lacking k p x.if-sizes-k-eq0.true in
-        let room = missing_room k p.total p (omega arith) x.if-sizes-k-eq0.true in (
-          omega arith,
-          omega (arith, x.at-is, v.1, ap length e, length-append ns (k ∷ [])),
-          ap length x.row-is ∙ length-set c.loop-k.row c.loop-k.at k ∙ v.2,
-          x.row-is ∙ ap₂ (λ (r : List ℕ) (n : ℕ). set r n k) v.3 v.1 ∙ front_more ns w k (omega (arith, room, c.requires.1)) ∙ ap listed (sym e),
-        )
-    | else-sizes-k-eq0 x ↦
-        let e = sym (missing_held k p x.if-sizes-k-eq0.false) in
-        (omega arith, x.at-is ∙ v.1 ∙ ap length e, ap length x.row-is ∙ v.2, x.row-is ∙ v.3 ∙ ap listed e)
+      | then-sizes-k-eq0 x ↦
+          let e = missing_lacking k p x.if-sizes-k-eq0.true in
+          let room = missing_room k p.total p (omega arith) x.if-sizes-k-eq0.true in (
+            omega arith,
+            omega (arith, x.at-is, v.1, ap length e, length-append ns (k ∷ [])),
+            ap length x.row-is ∙ length-set c.loop-k.row c.loop-k.at k ∙ v.2,
+            x.row-is ∙ ap₂ (λ (r : List ℕ) (n : ℕ). set r n k) v.3 v.1 ∙ front_more ns w k (omega (arith, room, c.requires.1)) ∙ ap listed (sym e),
+          )
+      | else-sizes-k-eq0 x ↦
+          let e = sym (missing_held k p x.if-sizes-k-eq0.false) in
+          (omega arith, x.at-is ∙ v.1 ∙ ap length e, ap length x.row-is ∙ v.2, x.row-is ∙ v.3 ∙ ap listed e)
     ]
 
 pub shape_of-row : goal.shape_of-row

@@ -1,13 +1,9 @@
 -- `list_missing` meets its contract: the missing numbers below k stand in front of the row.
-use Prim.Native.Nat.{ℕ, ◌+◌, ◌-◌, ◌≤◌}
-use mathlib.Core.Logic.{⊎_elim}
-use mathlib.Core.List.{List, [], ◌∷◌, ◌++◌}
-use mathlib.Core.Path.{◌≡◌, refl, sym, ap, ap₂, ◌∙◌}
-use native.Mathlib.Omega.{arith}
-use borrow.Author.Rules.{rules}
-use lib.ListN.{length, drop, set, length-append, length-set}
+use Prim.Native.Nat.{◌-◌, ◌≤◌}
+use mathlib.Core.List.{◌++◌}
+use mathlib.Core.Path.{◌≡◌}
+use lib.ListN.{length, drop}
 use Rattle.places.specs.Desk.{missing_below}
-use Rattle.places.specs.Laws.Listed.{missing_held, missing_lacking, missing_room, missing_few, front_more}
 use Rattle.desk.proofs.asking.joining.list_missing.Given as goal
 
 abbrev pub invariant-loop-k : goal.invariant-loop-k

@@ -7,7 +7,6 @@ use Rattle.bits.specs.Bits.{Bytes}
 use Rattle.format.specs.Laws.Putting.{put_start, put_step, put_end}
 use Rattle.distress.specs.Report.{report}
 use Rattle.distress.specs.Values.{list_of}
-use borrow.Author.Rules.{rules}
 use Rattle.distress.proofs.writing.making.put.Goals.{After-put-6}
 use Rattle.distress.proofs.writing.making.put.Goals as goal
 

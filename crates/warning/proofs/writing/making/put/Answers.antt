@@ -11,8 +11,6 @@ use Rattle.format.specs.Words.{wide}
 use Rattle.format.specs.Laws.Extent.{opens_choice}
 use Rattle.format.specs.Laws.Putting.{put_start, put_step, put_end}
 use Rattle.warning.specs.Warning.{warning, values_as}
-use borrow.Author.Rules.{rules}
-use Rattle.warning.proofs.body_writing.put.Reads as put_reads'
 use Rattle.warning.proofs.writing.making.put.Goals.{After-put-7}
 use Rattle.warning.proofs.writing.making.put.Goals as goal
 
