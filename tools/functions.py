@@ -37,7 +37,7 @@ def parts(text, mark):
     """Text cut at each mark that stands in no bracket."""
     found, depth, last = [], 0, 0
     for place, letter in enumerate(text):
-        depth += (letter in "([{⌜") - (letter in ")]}⌝")
+        depth += (letter in "([{") - (letter in ")]}")
         if depth == 0 and text.startswith(mark, place):
             found.append(text[last:place])
             last = place + len(mark)
@@ -52,7 +52,7 @@ def parsed(path, name, exported, text, start):
     rest = re.compile(r"\s*(?:->\s*(?P<result>(?:(?!\brequires\b|\bensures\b)[^{])+))?").match(text, end)
     function = Function(path, name, exported, pairs, (rest["result"] or "").strip())
     place = rest.end()
-    while said := re.compile(r"\s*(requires|ensures)\s*(?=\{)").match(text, place):
+    while said := re.compile(r"\s*(requires|ensures)\b\*?\s*(?:\w+\s*)?(?=\{)").match(text, place):
         place = closing(text, said.end())
         getattr(function, said[1]).append(" ".join(text[said.end() + 1 : place - 1].split()))
     return function

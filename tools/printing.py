@@ -19,12 +19,11 @@ def write(path, text):
 def printed(files):
     """Writes the files, each a path below crates/ and its text, or compares them."""
     with tempfile.TemporaryDirectory() as room:
-        # rt formats all below crates/ of the folder that has crates.txt.
-        write(f"{room}/crates.txt", "")
         for path, text in files.items():
             write(f"{room}/{path}", text)
         subprocess.run(["tools/tidy", *(f"{room}/{path}" for path in files)], check=True)
-        subprocess.run(["rt", "fmt"], cwd=room, check=True)
+        for crate in {"/".join(path.split("/")[:2]) for path in files}:
+            subprocess.run(["rt", "fmt"], cwd=f"{room}/{crate}", stdout=subprocess.DEVNULL, check=True)
         files = {path: read(f"{room}/{path}") for path in files}
     other = [path for path, text in files.items() if not os.path.exists(path) or read(path) != text]
     if "--check" not in sys.argv:

@@ -1,4 +1,6 @@
 // What C and Rust link of the desk: calls over lent bytes, each handed on to its own. Places are 67 bytes for each of four: the open mark (0 closed, 1 open), message number, language, total, and a size for each of 63 packets, 0 where it is not held. Each answers its refusal packed into one number: the code in the low 8 bits, the bit in the 24 above.
+#![tactic(auto)]
+
 ghost use Rattle.format.specs.Promises.{Packs};
 ghost use Rattle.desk_bytes.specs.Promises.{AcceptsIn, AsksIn, DropsIn};
 

@@ -1,4 +1,6 @@
 // Calls that no box links, for rust/trial alone: functions that the calls for C do not go through, so that these too are compiled and run. The desk is over a lent row of places, and a message's content is the slice that `content` returns.
+#![tactic(auto)]
+
 ghost use Rattle.std.specs.Prelude.{◌≡◌};
 ghost use Rattle.format.specs.Promises.{Packs};
 ghost use Rattle.format.specs.Refusals.{packed};

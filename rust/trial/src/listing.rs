@@ -8,7 +8,7 @@ use std::io::{self, Write};
 use std::process::{ChildStdin, Command, Stdio};
 use std::{env, fs, thread};
 
-const PROGRAM: &str = concat!(env!("CARGO_MANIFEST_DIR"), "/../../target/bin/listing");
+const PROGRAM: &str = concat!(env!("CARGO_MANIFEST_DIR"), "/../../crates/listing/out/listing");
 const EMULATE: &str = concat!(env!("CARGO_MANIFEST_DIR"), "/../emulate");
 const OTHER: &str = "BELLNEWT_LISTING";
 
