@@ -6,4 +6,4 @@ use Rattle.c_calls.proofs.area_calls.bellnewt_rectangle_write.Goals as goal
 
 pub returns : goal.returns
 returns c =
-    (c.written.result, c.packed.ensures, rw (to_z-of_z w32 c.args.longitude c.ranges.longitude, to_z-of_z w32 c.args.latitude c.ranges.latitude, to_z-of_z w32 c.args.second-longitude c.ranges.second-longitude, to_z-of_z w32 c.args.second-latitude c.ranges.second-latitude) at c.written.ensures)
+    (c.written.result, c.packed.ensures, rw (to_z-of_z w32 c.args.longitude c.ranges.longitude, to_z-of_z w32 c.args.latitude c.ranges.latitude, to_z-of_z w32 c.args.second_longitude c.ranges.second_longitude, to_z-of_z w32 c.args.second_latitude c.ranges.second_latitude) at c.written.ensures)
