@@ -25,6 +25,4 @@ pub mod Family
 pub mod Lent
 pub mod Settled
 pub mod Corrections
-pub mod Showing
 pub mod Runs
-pub mod Written

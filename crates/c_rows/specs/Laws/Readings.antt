@@ -3,7 +3,7 @@ use Rattle.std.specs.Prelude.{ℕ, ◌≡◌, List, ◌∷◌, ℤ, pos, length}
 use Rattle.std.proofs.Common.{sym, ap}
 use Rattle.format.specs.Promises.{read_record}
 use Rattle.format.specs.declared.Refusal.{Refusal}
-use Rattle.format.specs.Laws.Family.{never_read}
+use Rattle.format.proofs.Laws.Family.{never_read}
 use Rattle.area.specs.Area.{areas, record_of as area_of}
 use Rattle.area.specs.Laws.Demands.{family as area_family}
 use Rattle.distress.specs.Report.{reports, report_of}

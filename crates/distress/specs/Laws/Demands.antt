@@ -9,9 +9,10 @@ use Rattle.format.specs.declared.Refusal.{Refusal}
 use Rattle.format.specs.Promises.{read_record, Writes, Corrects}
 use Rattle.format.specs.Laws.Answers.{good_read, answer_plain}
 use Rattle.format.specs.Laws.Entries.{entries, legal_entries}
-use Rattle.format.specs.Laws.Family.{Family, one_size, written_front, read_written}
+use Rattle.format.specs.Laws.Family.{Family}
+use Rattle.format.proofs.Laws.Family.{one_size, written_front, read_written}
 use Rattle.format.specs.Settled.{Settled}
-use Rattle.format.specs.Laws.Settled.{settled}
+use Rattle.format.proofs.Laws.Settled.{settled}
 use Rattle.format.specs.Laws.Legal.{Legal, exactly}
 use Rattle.walk.specs.Laws.Sign.{spell_int}
 use Rattle.format.specs.Laws.Zero.{Judged, only_numbered}

@@ -9,8 +9,8 @@ use Rattle.format.specs.Message.{told, leaves, into, write_message}
 use Rattle.format.specs.Refusals.{shown, bare}
 use Rattle.format.specs.Laws.Refusals.{shown_bare}
 use Rattle.format.specs.declared.Refusal.{Refusal}
-use Rattle.format.specs.Laws.Whole.{made}
-use Rattle.format.specs.Laws.Family.{never_written}
+use Rattle.format.proofs.Laws.Whole.{made}
+use Rattle.format.proofs.Laws.Family.{never_written}
 use Rattle.format.specs.Promises.{read_record, Writes}
 use Rattle.distress.specs.Laws.Demands.{family, long}
 use Rattle.distress.specs.Report.{reports, values_of, report_of, answer_of}

@@ -6,7 +6,7 @@ use Rattle.bits.specs.Bits.{Bytes}
 use Rattle.format.specs.Fmt.{Out, accepted, refused, or_bad, check, also}
 use Rattle.format.specs.Message.{write_message}
 use Rattle.format.specs.declared.Refusal.{Refusal}
-use Rattle.format.specs.Laws.Family.{never_read, never_written, written_record, read_writes}
+use Rattle.format.proofs.Laws.Family.{never_read, never_written, written_record, read_writes}
 use Rattle.format.specs.Promises.{read_record}
 use Rattle.distress.specs.Laws.Demands.{family, good}
 use Rattle.distress.specs.Promises.{Reads}

@@ -3,7 +3,8 @@ use Prim.Native.Nat.{◌-◌, ◌≤◌}
 use mathlib.Core.Path.{◌∙◌}
 use lib.Dec.{lit≤}
 use borrow.Author.Rules.{rules}
-use Rattle.format.specs.Laws.Putting.{put_start, put_step, put_choice}
+use Rattle.format.specs.Laws.Putting.{put_start}
+use Rattle.format.proofs.Laws.Putting.{put_step, put_choice}
 use Rattle.notice.specs.Notice.{ours, notice as Notice·notice}
 use Rattle.notice.specs.Record.{headed}
 use Rattle.notice.proofs.writing.making.put_head.Statement.{statement}
