@@ -7,7 +7,7 @@ they rest on. The names below are those that moved. tools/moved.py moves what st
 `module` block, with its comments), and turns each import of a moved name in every crate. Run again it changes nothing.
 
     tools/moved.py              # moves, and turns imports
-    tools/moved.py --find CRATE LOG..  # which units the prover's output of edits (LOG) shows to be in need of it
+    tools/moved.py --find CRATE LOG..  # adds to the table what the prover's output of edits (LOG) shows to be in need of it
     tools/moved.py --statements # what moved, whole, without its proof: the list of docs/PORT.md
 """
 import glob
@@ -45,7 +45,7 @@ def declared(line):
     if found:
         return [found[3]]
     found = re.match(rf"(?:(?:abbrev|pub|unfoldable|opaque) )*({NAME}(?: {NAME})*) : ", line)
-    if found and not re.match(r"(use|mod|module|where|let|λ|unfolding|in)\b", line):
+    if found and not re.match(r"(use|mod|module|where|let|λ|unfolding|in)\b", line) and not {"=", "let", "λ"} & set(found[1].split()):
         return found[1].split()
     found = re.match(rf"(?:(?:abbrev|pub|unfoldable|opaque) )*({NAME}) :$", line)
     return [found[1]] if found else []
@@ -191,11 +191,14 @@ def find(crate, logs):
     return table
 
 
-def public(unit):
-    """The unit's head with `pub`."""
-    head = unit.lines[0]
-    if not re.match(r"(?:abbrev |unfoldable |opaque )*pub ", head) and not head.startswith("module "):
-        unit.lines[0] = re.sub(r"^((?:abbrev |unfoldable |opaque )*)", r"\1pub ", head)
+def public(unit, name):
+    """The unit with `pub` at this name, and at its fields where it is a record."""
+    for at, line in enumerate(unit.lines):
+        if name in declared(line.strip()) and not re.match(r" *(?:abbrev |unfoldable |opaque )*pub ", line):
+            unit.lines[at] = re.sub(r"^( *(?:abbrev |unfoldable |opaque )*)", r"\1pub ", line)
+            if re.match(r" *(pub )?record ", unit.lines[at]):
+                unit.lines = [re.sub(r"^( +)(?!pub |--)(?=\S+ : )", r"\1pub ", one) for one in unit.lines]
+            return
 
 
 def joined(title, units):
@@ -238,7 +241,16 @@ def move(crate, file, names):
     going = [unit for unit in units if unit.lines and set(unit.names) <= set(names)]
     if not going:
         return
-    staying = [unit for unit in units if unit.lines and unit not in going]
+    # what the file keeps to itself goes with the theorems, where nothing that stays needs it
+    rests = uses(laws(crate))
+    twins = {unit.text(): others for unit, others in rests.items()}
+    more = True
+    while more:
+        staying = [unit for unit in units if unit.lines and unit not in going]
+        needed = {other.text() for unit in staying for other in twins[unit.text()]}
+        used = {other.text() for unit in going for other in twins[unit.text()]}
+        more = [unit for unit in staying if unit.text() in used - needed and not re.search(r"(?m)^ *(abbrev |unfoldable )*pub ", unit.text())]
+        going = [unit for unit in units if unit in going or unit in more]
     folder, _, leaf = file.rpartition("/")
     if os.path.exists(to):
         old_title, old_units = parsed(read(to))
@@ -248,7 +260,7 @@ def move(crate, file, names):
     here = {name: unit for unit in staying for name in unit.names}
     wanted = {word for unit in going for word in re.findall(NAME, unit.body()) if word in here}
     for name in wanted:
-        public(here[name])
+        public(here[name], name)
     if wanted:
         order = [name for unit in staying for name in unit.names if name in wanted]
         title_to.append(f"use {module(path)}.{{{', '.join(order)}}}")
@@ -338,13 +350,12 @@ if __name__ == "__main__":
         crate, logs = sys.argv[2], sys.argv[3:]
         new = find(crate, logs)
         print(json.dumps(new, ensure_ascii=False, indent=1))
-        if "--" not in logs:
-            for file, names in new.items():
-                had = table.setdefault(crate, {}).setdefault(file, [])
-                had += [name for name in names if name not in had]
-            with open(TABLE, "w", encoding="utf-8") as out:
-                json.dump(table, out, ensure_ascii=False, indent=1)
-                out.write("\n")
+        for file, names in new.items():
+            had = table.setdefault(crate, {}).setdefault(file, [])
+            had += [name for name in names if name not in had]
+        with open(TABLE, "w", encoding="utf-8") as out:
+            json.dump(table, out, ensure_ascii=False, indent=1)
+            out.write("\n")
     elif sys.argv[1:] == ["--statements"]:
         statements(table)
     else:

@@ -1,4 +1,4 @@
--- What is proved of the definitions.
+-- What is proved of every layout, beside what stands in specs/Laws.
 pub mod Codes
 pub mod Correct
 pub mod Correcting

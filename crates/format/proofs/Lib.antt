@@ -1,2 +1,2 @@
--- What is proved of the definitions.
+-- What rests on the definitions.
 pub mod Laws

@@ -18,7 +18,6 @@ pub mod Lead
 pub mod Answers
 pub mod Putting
 pub mod Sealing
-pub mod Placed
 pub mod Correcting
 pub mod Entries
 pub mod Family

@@ -1,2 +1,2 @@
--- What is proved of the definitions.
+-- What is proved of text.
 pub mod Clean

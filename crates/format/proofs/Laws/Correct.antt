@@ -1,12 +1,24 @@
 -- Correcting one field changes the bits of that field alone, for every layout. Assumes nothing.
-use Rattle.std.specs.Prelude.{◌≡◌, refl, Bool, List, [], ◌∷◌, ◌++◌, ℕ, zero, suc, ◌+◌, ◌^◌, ◌≤◌, ◌<◌, length, set}
-use Rattle.std.proofs.Common.{sym, ap, ◌∙◌, arith, add_assoc, zero-add, lt-ltb, length-append}
+use Rattle.std.specs.Prelude.{◌≡◌, refl, Bool, true, false, List, [], ◌∷◌, ◌++◌, ℕ, zero, suc, ◌+◌, ◌^◌, ◌≤◌, ◌<◌, length, set}
+use Rattle.std.proofs.Common.{sym, ap, ◌∙◌, append_assoc, arith, add_assoc, zero-add, lt-ltb, le-ltb, length-append, drop_at}
+use Rattle.std.proofs.Math.Seq.{take-append-add, drop-append-add}
 use Rattle.bits.specs.Bits.{digits, splice}
-use Rattle.format.specs.Fmt.{Out, accepted, refused, Judge, Fmt, end, field, choice, bytes, also, write_field, read, sized, write, Spot, found, later, spot}
+use Rattle.format.specs.Fmt.{Out, accepted, refused, Judge, Fmt, end, field, choice, bytes, also, write_field, read, sized, write, Spot, found, later, where?, spot}
 use Rattle.format.specs.Laws.Round.{unjudged, lay, written, write_unjudged, sized_inv, sized_at}
 use Rattle.format.proofs.Laws.Round.{agree, write_lay, read_lay, read_write}
 use Rattle.bits.specs.Laws.Digits.{length_digits}
-use Rattle.format.specs.Laws.Correct.{later_inv, none_clash, may, splice_later, splice_here, Spliced, wide_here}
+use Rattle.format.specs.Laws.Correct.{later_inv, none_clash, Spliced}
+
+may : (t : Bool) (x : ℕ) {p w : ℕ} → where? t x ≡ found p w → found 0 x ≡ found p w
+may true x e = e
+may false x e = none_clash e
+
+-- behind a first field of u bits, and in it
+splice_later : (u p w v : ℕ) (d r : List Bool) → length d ≡ u → splice (u + p) w v (d ++ r) ≡ d ++ splice p w v r
+splice_later u p w v d r l = rw (← l, take-append-add, add_assoc, drop-append-add) (simp append_assoc)
+
+splice_here : (w v : ℕ) (d r : List Bool) → length d ≡ w → splice 0 w v (d ++ r) ≡ digits w v ++ r
+splice_here w v d r l = rw (zero-add w, drop_at d r w l) refl
 
 set_here : (w at u v p x : ℕ) (o : Out (List Bool)) (b : List Bool) → write_field w unjudged [] at u o ≡ accepted b → found 0 w ≡ found p x → v < 2 ^ x
     → Spliced (write_field w unjudged [] at v o) b p x v
@@ -73,6 +85,14 @@ spot_within (choice x j f) h at (u ∷ us) b zero p w e s = none_clash s
 spot_within (choice x j f) h at (u ∷ us) b (suc i) p w e s = within_later x at u p w _ _ b e s (λ r q d t. spot_within (f u) (u ∷ h) (at + x) us r i q w d t)
 spot_within (bytes f) h at (u ∷ us) b zero p w e s = none_clash s
 spot_within (bytes f) h at (u ∷ us) b (suc i) p w e s = spot_within (f u) (u ∷ h) at us b i p w (sized_inv u at (lay (f u) at us) e).0 s
+
+-- A value too wide for its field is refused there.
+wide_here : (w : ℕ) (j : Judge) (h : List ℕ) (at v p x : ℕ) (o : Out (List Bool)) → found 0 w ≡ found p x → 2 ^ x ≤ v → write_field w j h at v o ≡ refused 4 (at + p)
+unfolding write_field
+wide_here w j h at v p x o s l =
+    let m : x ≡ w = cc in
+    let z : 0 ≡ p = cc in
+    rw (le-ltb v (2 ^ w) (rw m at l), ← z) refl
 
 wide_later : (w : ℕ) (j : Judge) (h : List ℕ) (at u p x : ℕ) (o o' : Out (List Bool)) (t : Spot) (b : List Bool) → write_field w j h at u o ≡ accepted b → later w t ≡ found p x
     → ((r : List Bool) (q : ℕ) → o ≡ accepted r → t ≡ found q x → o' ≡ refused 4 (at + w + q)) → write_field w j h at u o' ≡ refused 4 (at + p)

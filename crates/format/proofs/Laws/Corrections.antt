@@ -1,6 +1,6 @@
 -- A family's correction in place, from its own answers: laws/Correcting said of the record that was read and where its fields stand. Assumes nothing.
-use Rattle.std.specs.Prelude.{◌≡◌, List, [], ℕ, ◌≤◌, length}
-use Rattle.std.proofs.Common.{ap, ◌∙◌, arith}
+use Rattle.std.specs.Prelude.{◌≡◌, Bool, true, false, List, [], ℕ, ◌-◌, ◌≤◌, length}
+use Rattle.std.proofs.Common.{ap, ◌∙◌, arith, length-take-le}
 use Rattle.bits.specs.Bits.{Bytes, bits_of}
 use Rattle.format.specs.Correcting.{standing, Begins, Finishes}
 use Rattle.format.specs.Fmt.{Out, accepted, also, read, spot}
@@ -11,11 +11,21 @@ use Rattle.format.specs.Promises.{answered, read_record, Corrects}
 use Rattle.format.specs.Laws.Answers.{numbered, read_code}
 use Rattle.format.specs.Laws.Correcting.{accepted_by}
 use Rattle.format.proofs.Laws.Correcting.{in_place}
+use Rattle.format.specs.Laws.Lead.{sized_fields}
 use Rattle.format.specs.Laws.Family.{Family}
 use Rattle.format.proofs.Laws.Family.{record_values}
 use Rattle.format.proofs.Laws.Whole.{was, within_sizes}
 use Rattle.format.proofs.Laws.Zero.{read_zero_message}
-use Rattle.format.specs.Laws.Corrections.{inside, good_size}
+use Rattle.format.specs.Laws.Corrections.{inside}
+
+-- The fields of a message that has a good size are not refused for theirs.
+good_size : (l : Layout) (t : List ℕ) → l.least ≤ length t → length t ≤ l.most
+    → fields_of l.fmt (inside l.seal l.least) (inside l.seal l.most) (body l.seal t) ≡ read l.fmt [] 0 (bits_of (body l.seal t))
+good_size l t least most = sized_fields l.fmt (inside l.seal l.least) (inside l.seal l.most) (body l.seal t) (go l.seal).0 (go l.seal).1
+  where
+    go : (z : Bool) → (inside z l.least ≤ length (body z t)) × (length (body z t) ≤ inside z l.most)
+    go false = (least, most)
+    go true = let n = length-take-le (length t - 1) t (omega arith) in (omega (arith, n), omega (arith, n))
 
 module _ {l : Layout} {R A : Type 0} {Lent : R → Type 0} {values_of : R → List ℕ} {record_of : List ℕ → R} {changed : ℕ → ℕ → R → R} (F : Family l R Lent values_of record_of changed)
     (good : R → A) (bad : Refusal → A) (refusal_of : A → Refusal) (of-good : (r : R) → refusal_of (good r) ≡ bare 0) (of-bad : (c : Refusal) → refusal_of (bad c) ≡ c)

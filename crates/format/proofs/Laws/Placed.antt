@@ -10,11 +10,10 @@ use Rattle.format.specs.Places.{FirstBad, FirstBadValue}
 use Rattle.format.specs.Laws.Lead.{read_first}
 use Rattle.format.specs.Laws.Places.{also_refused, read_first_bad, read_inside}
 use Rattle.format.proofs.Laws.Places.{write_first_bad}
-use Rattle.format.specs.Laws.Round.{refused_inj}
+use Rattle.format.specs.Laws.Round.{clash, refused_inj}
 use Rattle.format.specs.Laws.Sealing.{length_body}
 use Rattle.format.proofs.Laws.Whole.{spot_fits, correct_narrow, correct_wide}
 use Rattle.format.specs.Laws.Zero.{Judged}
-use Rattle.format.specs.Laws.Placed.{early}
 
 -- ---- reading
 
@@ -69,6 +68,11 @@ correction_inside l ok s i v c p j e = go (read_message l s) refl e
     go (accepted vs) r e = spotted vs r (spot l.fmt [] vs i) refl e
 
 -- ---- writing
+
+-- a test before the fields gives no bit, nor does one after them
+early : (k : ℕ) (t : List ℕ) {c p : ℕ} → check (fault k) 0 (accepted t) ≡ refused c p → p ≡ 0
+early zero t e = clash (sym e)
+early (suc k) t e = let (x, y) = refused_inj e in omega (arith, y)
 
 -- Values that are refused: their kind and the size that they make give no bit; else it is where the first bad value's field would start.
 pub values_first_bad : (l : Layout) (vs : List ℕ) (c p : ℕ) → write_message l vs ≡ refused (suc c) p → (p ≡ 0) ⊎ FirstBadValue l.fmt [] 0 vs (suc c) p

@@ -1,10 +1,10 @@
 -- Reading and writing undo each other, for every layout. Assumes nothing.
 use Rattle.std.specs.Prelude.{◌≡◌, refl, Bool, List, [], ◌∷◌, ◌++◌, ℕ, ◌+◌, ◌/◌, ◌^◌, ◌<◌, leb, eqb, length, take, drop}
-use Rattle.std.proofs.Common.{sym, ap, ◌∙◌, subst, le_of_eq, leb→le, eqb→eq, take-append-drop, length-take-le, take_all}
+use Rattle.std.proofs.Common.{sym, ap, ◌∙◌, subst, le_of_eq, pow_pos, leb→le, eqb→eq, eq-eqb, take-append-drop, length-take-le, take_all}
 use Rattle.bits.specs.Bits.{value_of, digits}
 use Rattle.format.specs.Fmt.{Out, accepted, Judge, Fmt, end, field, choice, bytes, pad, or_bad, also, read_field, write_field, read, write}
-use Rattle.bits.specs.Laws.Digits.{value_take_lt, digits_value}
-use Rattle.format.specs.Laws.Round.{unjudged, lay, clash, accepted_inj, checked, passed, also_inv, written, read_written, judged, write_unjudged, sized_inv, sized_at, agree_bytes, agree_end}
+use Rattle.bits.specs.Laws.Digits.{length_digits, value_take_lt, value_digits, digits_value}
+use Rattle.format.specs.Laws.Round.{unjudged, lay, clash, accepted_inj, checked, passed, also_inv, written, read_written, judged, write_unjudged, sized_inv, sized_at, agree_bytes}
 
 -- ---- one field
 
@@ -30,6 +30,15 @@ relaid w j h at b next vs P e k =
     let n : length t ≡ w = length-take-le w b (leb→le _ _ (passed (leb w (length b)) 1 d.0)) in
     let l : value_of t < 2 ^ w = value_take_lt w b in
     subst P a.2 (k (value_of t) a.0 a.1 (λ o x. write_unjudged w at (value_of t) o b l x (ap (◌++ drop w b) (digits_value w t n) ∙ take-append-drop w b)))
+
+-- ---- byte counts
+
+agree_end : (h : List ℕ) (at : ℕ) → read end h at (digits (pad at) 0) ≡ accepted []
+unfolding read
+agree_end h at =
+    let w = pad at in
+    let e : take w (digits w 0) ≡ digits w 0 = take_all w (digits w 0) (le_of_eq (length_digits w 0)) in
+    rw (e, value_digits w (pow_pos w), length_digits w 0, eq-eqb w w refl) refl
 
 -- ---- whole layouts
 

@@ -18,7 +18,6 @@ use Rattle.format.specs.Laws.Round.{clash}
 use Rattle.format.specs.Laws.Whole.{body_sealed, length_sealed}
 use Rattle.format.proofs.Laws.Whole.{was, whole_again, spot_fits, correct_narrow}
 use Rattle.format.proofs.Laws.Zero.{correct_zero}
-use Rattle.format.specs.Laws.Settled.{stays}
 
 -- the bits of one field made v, and the seal anew: nothing else differs
 differs : (z : Bool) (s : List ℕ) (p w v : ℕ) → sealed z (body z s) ≡ s → p + w ≤ length (body z s) * 8 → v < 2 ^ w → Differs z s p w v (sealed z (put_at (body z s) p w v))
@@ -33,6 +32,10 @@ differs z s p w v whole fits narrow =
       before = λ at n h. ap (λ x. field_at x at n) in_Body ∙ field_put_before b p w fits v at n h;
       behind = λ at n h. ap (λ x. field_at x at n) in_Body ∙ field_put_after b p w fits v at n h;
     }
+
+-- a correction that is refused by c
+stays : (l : Layout) (s : List ℕ) (i v c p : ℕ) (code : Refusal) (t : List ℕ) → correct_message l s i v ≡ refused c p → Corrects l s i v code t → Stays (shown c p) s code t
+stays l s i v c p code t e (z, x) = (z ∙ ap told e, x ∙ ap (λ o. leaves o s) e)
 
 -- ---- every correction ends so
 

@@ -1,21 +1,24 @@
 -- Demands 2 and 3 for whole messages, for every layout. Assumes nothing.
-use Rattle.std.specs.Prelude.{◌≡◌, Bool, true, set}
+use Rattle.std.specs.Prelude.{◌≡◌, Bool, true, false, eqb, take, drop, get_or, set}
 use Rattle.std.proofs.Math.Path.{refl, ap}
-use Rattle.std.proofs.Common.{sym, ◌∙◌, arith, add_assoc, length-append}
-use mathlib.Core.List.{List, [], ◌∷◌}
-use Prim.Native.Nat.{ℕ, ◌+◌, ◌*◌, ◌/◌, ◌%◌, ◌^◌, ◌≤◌, ◌<◌}
+use Rattle.std.proofs.Common.{sym, ◌∙◌, arith, add_assoc, eqb→eq, length-append, drop_of_length-le, take_at, eq-eqb}
+use mathlib.Core.List.{List, [], ◌∷◌, ◌++◌}
+use Prim.Native.Nat.{ℕ, zero, suc, ◌+◌, ◌-◌, ◌*◌, ◌/◌, ◌%◌, ◌^◌, ◌≤◌, ◌<◌}
 use Rattle.std.proofs.Math.ListN.{length}
+use Rattle.std.proofs.lemmas.List.{get_or_at}
+use Rattle.std.proofs.Math.Seq.{split_at}
 use Rattle.bits.specs.Bits.{Bytes, digits, bits_of, bytes_of, splice, put_at}
-use Rattle.bits.specs.Laws.Bytes.{length_bits, length_bytes, bytes_bits, bits_bytes, bytes_below}
+use Rattle.bits.specs.Xor.{xor_of}
+use Rattle.bits.specs.Laws.Bytes.{length_bits, length_bytes, bytes_bits, bits_bytes, bytes_below, bytes_take}
 use Rattle.bits.specs.Laws.Digits.{length_digits}
 use Rattle.bits.specs.Laws.Fields.{bits_put}
-use Rattle.format.specs.Fmt.{Out, accepted, refused, good, Fmt, end, field, choice, bytes, also, after, write_field, read, write, found, spot}
-use Rattle.format.specs.Message.{Layout, size, body, sealed, seal_fault, closed, read_message, write_message, correct_message, Sound}
+use Rattle.format.specs.Fmt.{Out, accepted, refused, good, check, Fmt, end, field, choice, bytes, also, after, write_field, read, write, found, spot}
+use Rattle.format.specs.Message.{Layout, fault, size, body, sealed, seal_fault, closed, read_message, write_message, correct_message, Sound}
 use Rattle.format.proofs.Laws.Correct.{laid_set, changed_narrow, changed_wide, spot_within}
 use Rattle.format.specs.Laws.Lead.{sized_by}
-use Rattle.format.specs.Laws.Round.{unjudged, lay, clash, accepted_inj, checked, written, sized_inv}
+use Rattle.format.specs.Laws.Round.{unjudged, lay, clash, accepted_inj, checked, passed, written, sized_inv}
 use Rattle.format.proofs.Laws.Round.{write_lay, read_lay, write_read, read_write}
-use Rattle.format.specs.Laws.Whole.{after_inv, led_by, body_sealed, seal_fits, sealed_body, length_sealed, bytes_body}
+use Rattle.format.specs.Laws.Whole.{after_inv, body_sealed, length_sealed}
 
 whole_field : (w at v : ℕ) (o : Out (List Bool)) (b : List Bool) → write_field w unjudged [] at v o ≡ accepted b
     → ((r : List Bool) → o ≡ accepted r → (at + w + length r) % 8 ≡ 0) → (at + length b) % 8 ≡ 0
@@ -35,6 +38,33 @@ whole (choice w j f) at [] b e = clash e
 whole (choice w j f) at (v ∷ vs) b e = whole_field w at v _ b e (whole (f v) (at + w) vs)
 whole (bytes f) at [] b e = clash e
 whole (bytes f) at (n ∷ vs) b e = whole (f n) at vs b (sized_inv n at _ e).0
+
+-- a first test that lets an answer pass was 0
+led_by : {A : Type 0} (c : ℕ) (o : Out A) {a : A} → check (fault c) 0 o ≡ accepted a → (c ≡ 0) × (o ≡ accepted a)
+led_by zero o e = (refl, e)
+led_by (suc c) o e = clash e
+
+-- ---- seals
+
+seal_fits : (z : Bool) (t : List ℕ) → seal_fault z (sealed z t) ≡ good
+seal_fits false t = refl
+seal_fits true t =
+    let n : length (sealed true t) - 1 ≡ length t = omega (arith, length-append t (xor_of t ∷ [])) in
+    rw (n, take_at t (xor_of t ∷ []) (length t) refl, get_or_at t (xor_of t) [] 0 (length t) refl, eq-eqb (xor_of t) (xor_of t) refl) refl
+
+-- a message whose seal fits is its sealed body
+sealed_body : (z : Bool) (s : List ℕ) → (z ≡ true → 0 < length s) → seal_fault z s ≡ good → sealed z (body z s) ≡ s
+sealed_body false s h e = refl
+sealed_body true s h e =
+    let n = length s - 1 in
+    let l : 0 < length s = h refl in
+    let x : get_or s n 0 ≡ xor_of (take n s) = eqb→eq _ _ (passed (eqb (get_or s n 0) (xor_of (take n s))) 3 e) in
+    let o : drop (suc n) s ≡ [] = drop_of_length-le s {i = suc n} (omega arith) in
+    sym (split_at s n 0 (omega arith) ∙ ap (λ y. take n s ++ get_or s n 0 ∷ y) o ∙ ap (λ y. take n s ++ y ∷ []) x)
+
+bytes_body : (z : Bool) (s : List ℕ) → Bytes s → Bytes (body z s)
+bytes_body false s h = h
+bytes_body true s h = bytes_take (length s - 1) s h
 
 -- ---- whole messages
 

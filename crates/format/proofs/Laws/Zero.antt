@@ -1,13 +1,30 @@
 -- No call answers 0 but to say that all is well. The number 0, which writing answers to too few or too many values or to a wrong byte count, is met by no values that come from a record. Assumes nothing.
-use Rattle.std.specs.Prelude.{◌≡◌, refl, Bool, true, false, cond, List, [], ◌∷◌, ℕ, zero, suc, ◌+◌, ◌-◌, ◌/◌, ◌^◌, ltb, eqb, length, take, get_or, set}
-use Rattle.std.proofs.Common.{sym, ◌∙◌, arith, ltb-true, ltb-false}
-use Rattle.bits.specs.Bits.{bits_of, bytes_of, put_at}
+use Rattle.std.specs.Prelude.{◌≡◌, refl, Bool, true, false, cond, List, [], ◌∷◌, ◌++◌, ℕ, zero, suc, ◌+◌, ◌-◌, ◌/◌, ◌^◌, ltb, eqb, length, take, get_or, set}
+use Rattle.std.proofs.Common.{sym, ap, ◌∙◌, arith, ltb-true, ltb-false}
+use Rattle.bits.specs.Bits.{digits, bits_of, bytes_of, put_at}
 use Rattle.bits.specs.Xor.{xor_of}
-use Rattle.format.specs.Fmt.{Out, accepted, refused, Fmt, end, field, choice, bytes, or_bad, check, also, after, read, sized, write, Spot, none, found, spot, unless10}
+use Rattle.format.specs.Fmt.{Out, accepted, refused, Fault, good, bad, Judge, Fmt, end, field, choice, bytes, or_bad, check, also, after, read, write_field, sized, write, Spot, none, found, spot, unless10}
 use Rattle.format.specs.Message.{Layout, Sound, fault, between, body, sealed, seal_fault, closed, read_message, write_message, correct_message}
+use Rattle.format.specs.Laws.Round.{sized_at}
 use Rattle.format.proofs.Laws.Round.{write_lay}
 use Rattle.format.proofs.Laws.Whole.{correct_narrow, correct_wide}
-use Rattle.format.specs.Laws.Zero.{Counted, Judged, no_zero_field, no_zero_bytes, read_zero}
+use Rattle.format.specs.Laws.Zero.{Counted, Numbered, Judged, read_zero}
+
+no_zero_field : (w : ℕ) (j : Judge) (h : List ℕ) (at v : ℕ) (o : Out (List Bool)) (p : ℕ) → Numbered j → (o ≡ refused 0 p → ⊥) → write_field w j h at v o ≡ refused 0 p → ⊥
+unfolding write_field
+no_zero_field w j h at v o p n k e = go (ltb v (2 ^ w)) (j h (digits w v)) o (n.0 h (digits w v)) k e
+  where
+    go : (t : Bool) (x : Fault) (o : Out (List Bool)) → ((i : ℕ) → x ≡ bad 0 i → ⊥) → (o ≡ refused 0 p → ⊥)
+        → check (or_bad t 4) at (check x at (also (digits w v ++◌) o)) ≡ refused 0 p → ⊥
+    go false x o n k e = let z : ◌≡◌ {A = ℕ} 4 0 = cc in omega arith
+    go true (bad c i) o n k e = let z : c ≡ 0 = cc in n i (ap (λ c. bad c i) z)
+    go true good (accepted b) n k e = let z : ◌≡◌ {A = ℕ} 0 1 = cc in omega arith
+    go true good (refused c q) n k e = k e
+
+no_zero_bytes : (n at p : ℕ) (o : Out (List Bool)) → ((b : List Bool) → o ≡ accepted b → length b / 8 ≡ n) → (o ≡ refused 0 p → ⊥) → sized n at o ≡ refused 0 p → ⊥
+unfolding sized
+no_zero_bytes n at p (accepted b) l k e = let s : sized n at (accepted b) ≡ accepted b = sized_at n at b (l b refl) in let z : ◌≡◌ {A = ℕ} 0 1 = cc in omega arith
+no_zero_bytes n at p (refused c q) l k e = k e
 
 pub no_zero : (f : Fmt) (h : List ℕ) (at : ℕ) (vs : List ℕ) (p : ℕ) → Judged f → Counted f at vs → write f h at vs ≡ refused 0 p → ⊥
 unfolding write sized

@@ -1,8 +1,8 @@
 -- Reading and writing undo each other, for every layout. Assumes nothing.
 use Rattle.std.specs.Prelude.{◌≡◌, refl, Bool, true, false, List, [], ◌∷◌, ◌++◌, ℕ, ◌+◌, ◌/◌, ◌^◌, ◌<◌, T, leb, ltb, eqb, length, take, drop}
-use Rattle.std.proofs.Common.{ap, subst, arith, le_of_eq, pow_pos, ltb→lt, eqb→eq, lt-ltb, le-leb, eq-eqb, length-append, take_at, drop_at, take_all}
+use Rattle.std.proofs.Common.{ap, subst, arith, ltb→lt, eqb→eq, lt-ltb, le-leb, eq-eqb, length-append, take_at, drop_at}
 use Rattle.bits.specs.Bits.{digits}
-use Rattle.format.specs.Fmt.{Out, accepted, refused, Fault, good, bad, Judge, Fmt, end, field, choice, bytes, pad, or_bad, check, also, read_field, write_field, read, sized}
+use Rattle.format.specs.Fmt.{Out, accepted, refused, Fault, good, bad, Judge, Fmt, end, field, choice, bytes, pad, or_bad, check, also, read_field, write_field, sized}
 use Rattle.bits.specs.Laws.Digits.{length_digits, value_digits}
 
 -- ---- laid out
@@ -116,10 +116,3 @@ pub agree_bytes : (n at : ℕ) (vs : List ℕ) (b : List Bool) (o : Out (List Bo
 unfolding sized
 agree_bytes n at vs b (accepted r) l k = rw (← k r refl, l, eq-eqb n n refl) refl
 agree_bytes n at vs b (refused c p) l k = refl
-
-pub agree_end : (h : List ℕ) (at : ℕ) → read end h at (digits (pad at) 0) ≡ accepted []
-unfolding read
-agree_end h at =
-    let w = pad at in
-    let e : take w (digits w 0) ≡ digits w 0 = take_all w (digits w 0) (le_of_eq (length_digits w 0)) in
-    rw (e, value_digits w (pow_pos w), length_digits w 0, eq-eqb w w refl) refl

@@ -5,15 +5,11 @@ use Rattle.std.proofs.Common.{sym, ap, ◌∙◌, arith, eqb-true}
 use Rattle.std.proofs.lemmas.Bool.{eqb-false}
 use Rattle.bits.specs.Laws.Answers.{one_answer}
 use Rattle.format.specs.Fmt.{Out, accepted, refused, Spot, none, found}
-use Rattle.format.specs.Message.{Layout, told, leaves, into, write_message, correct_message}
+use Rattle.format.specs.Message.{Layout, told, leaves, into, write_message}
 use Rattle.format.specs.Refusals.{shown}
 use Rattle.format.specs.declared.Refusal.{Refusal}
-use Rattle.format.specs.Promises.{Writes, Corrects}
+use Rattle.format.specs.Promises.{Writes}
 use Rattle.format.specs.Settled.{Stays, AsWritten, SettledAt, SettledBy, Settled}
-
--- a correction that is refused by c
-pub stays : (l : Layout) (s : List ℕ) (i v c p : ℕ) (code : Refusal) (t : List ℕ) → correct_message l s i v ≡ refused c p → Corrects l s i v code t → Stays (shown c p) s code t
-stays l s i v c p code t e (z, x) = (z ∙ ap told e, x ∙ ap (λ o. leaves o s) e)
 
 -- another promise of writing does, where it says as much of the changed record
 module _ {R : Type 0} (stands : R → Spot) (seal : Bool) (s : List ℕ) (v : ℕ) where

@@ -1,10 +1,10 @@
 -- No call answers 0 but to say that all is well. The number 0, which writing answers to too few or too many values or to a wrong byte count, is met by no values that come from a record. Assumes nothing.
-use Rattle.std.specs.Prelude.{◌≡◌, refl, Bool, true, false, ◌&&◌, List, [], ◌∷◌, ◌++◌, ℕ, suc, ◌+◌, ◌/◌, ◌^◌, ◌≤◌, leb, ltb, eqb, length, take, drop}
+use Rattle.std.specs.Prelude.{◌≡◌, refl, Bool, true, false, ◌&&◌, List, [], ◌∷◌, ℕ, suc, ◌+◌, ◌/◌, ◌≤◌, leb, eqb, length, take, drop}
 use Rattle.std.proofs.Common.{sym, ap, ◌∙◌, arith, leb-true, length-drop}
-use Rattle.bits.specs.Bits.{value_of, digits}
-use Rattle.format.specs.Fmt.{Out, accepted, refused, Fault, good, bad, Judge, Fmt, end, field, choice, bytes, or_bad, pad, check, also, read_field, read, write_field, sized}
+use Rattle.bits.specs.Bits.{value_of}
+use Rattle.format.specs.Fmt.{Out, accepted, refused, Fault, good, bad, Judge, Fmt, end, field, choice, bytes, or_bad, pad, check, also, read_field, read}
 use Rattle.format.specs.Words.{Test, Part, part, or_else, unless, or_zero, walk, only, twice}
-use Rattle.format.specs.Laws.Round.{lay, sized_at}
+use Rattle.format.specs.Laws.Round.{lay}
 
 -- As many values as fields, and each byte count that of what follows.
 abbrev pub Counted : Fmt → ℕ → List ℕ → Type 0
@@ -81,22 +81,6 @@ zero_numbered w j n = (λ h b i e. n.0 h b i (as_judged h b 0 i e), λ h b c i e
         go : (x : Bool) → (eqb (length b) w && eqb (value_of b) 0) ≡ x → j h b ≡ bad c i
         go true ex = let y : or_zero w j h b ≡ good = rw ex refl in let z : ◌≡◌ {A = ℕ} 0 1 = cc in absurd (omega arith)
         go false ex = let y : or_zero w j h b ≡ j h b = rw ex refl in sym y ∙ e
-
-pub no_zero_field : (w : ℕ) (j : Judge) (h : List ℕ) (at v : ℕ) (o : Out (List Bool)) (p : ℕ) → Numbered j → (o ≡ refused 0 p → ⊥) → write_field w j h at v o ≡ refused 0 p → ⊥
-unfolding write_field
-no_zero_field w j h at v o p n k e = go (ltb v (2 ^ w)) (j h (digits w v)) o (n.0 h (digits w v)) k e
-  where
-    go : (t : Bool) (x : Fault) (o : Out (List Bool)) → ((i : ℕ) → x ≡ bad 0 i → ⊥) → (o ≡ refused 0 p → ⊥)
-        → check (or_bad t 4) at (check x at (also (digits w v ++◌) o)) ≡ refused 0 p → ⊥
-    go false x o n k e = let z : ◌≡◌ {A = ℕ} 4 0 = cc in omega arith
-    go true (bad c i) o n k e = let z : c ≡ 0 = cc in n i (ap (λ c. bad c i) z)
-    go true good (accepted b) n k e = let z : ◌≡◌ {A = ℕ} 0 1 = cc in omega arith
-    go true good (refused c q) n k e = k e
-
-pub no_zero_bytes : (n at p : ℕ) (o : Out (List Bool)) → ((b : List Bool) → o ≡ accepted b → length b / 8 ≡ n) → (o ≡ refused 0 p → ⊥) → sized n at o ≡ refused 0 p → ⊥
-unfolding sized
-no_zero_bytes n at p (accepted b) l k e = let s : sized n at (accepted b) ≡ accepted b = sized_at n at b (l b refl) in let z : ◌≡◌ {A = ℕ} 0 1 = cc in omega arith
-no_zero_bytes n at p (refused c q) l k e = k e
 
 -- ---- reading and correcting
 

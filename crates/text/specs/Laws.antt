@@ -1,2 +1,0 @@
--- What is proved of text.
-pub mod Clean
