@@ -119,7 +119,7 @@ def convert(lib, rel, folder, N):
             at = up.get(at)
         return at
 
-    takes = {}
+    takes, lent_places = {}, {}
 
     def shown(v, befores, at, goal, to=None):
         """The record of an earlier place, as a helper takes it: v, which stands at `at`, and so many places back."""
@@ -152,6 +152,8 @@ def convert(lib, rel, folder, N):
         name = norm(rest[0])
         if name not in fields and name[0].lower() + name[1:] in fields:
             name = name[0].lower() + name[1:]
+        if name not in fields and name.rstrip("0123456789") in fields:
+            name = name.rstrip("0123456789")
         if name not in fields:
             return rest
         if name in loops:
@@ -211,7 +213,18 @@ def convert(lib, rel, folder, N):
                 return f"⁋⁋{len(passed) - 1}⁋⁋"
             return ".".join([v] + follow(rest, rise(at[v], k)))
 
+        # the test of an `if !x` says of x itself what it is
+        t = re.sub(r"(?<![\w.'-])not-(?:true|false) _ ", "", t)
         t = re.sub(r"(\.given [^()]*\))\.ranges", r"\1.fits", t)
+        for m in re.finditer(r"let (\S+) = c in\s", t) if "c" in at else []:
+            at[m[1]] = at["c"]
+        if "c" in at:
+            t = re.sub(r"(let \S+ = c) in(?=\s)", r"\1⁋0⁋ in", t)
+
+        def held(m):
+            return f"({m[1]} {m[2]})." + ".".join(follow(m[3].split("."), lent_places[m[1]])) if m[1] in lent_places else m[0]
+
+        t = re.sub(rf"\(([^\s()]+) ([^()]*)\)\.((?:{WORD})(?:\.(?:{WORD}))*)", held, t)
         t = PATH.sub(one, t)
         t = plain(t, at, goal, passed)
         t = re.sub("⁋⁋(\\d+)⁋⁋", lambda m: shown(*passed[int(m[1])][:2], at[passed[int(m[1])][0]], goal, passed[int(m[1])][2]), t)
@@ -299,7 +312,8 @@ def convert(lib, rel, folder, N):
                 if a == v:
                     passed[i] = (w, n + k, to)
             rest = re.sub(rf"= {re.escape(v)}⁋(\d+)⁋", lambda m: f"= {w}⁋{int(m[1]) + k}⁋", rest)
-            kept = f"let {v} = {shown(w, k, at[w], goal)} in\n    " if free(rest, v, "\0").count("\0\0") else ""
+            to = next((takes[m[1]] for m in re.finditer(rf"(?<![^\s(){{}};,])([^\s(){{}};,.]+) {re.escape(v)}(?=[\s(){{}};,]|$)", rest) if m[1] in takes), None)
+            kept = f"let {v} = {shown(w, k, at[w], goal, to)} in\n    " if free(rest, v, "\0").count("\0\0") else ""
             t = t[: found.start()] + kept + rest
 
     imports = [u for u in uses if ".Statement.{statement}" not in u and not re.search(r"\.Tie( as tie)?$", u)]
@@ -316,7 +330,9 @@ def convert(lib, rel, folder, N):
         named[name if name not in named else f"{name} {len(named)}"] = d
     for name, d in named.items():
         if d.lstrip().startswith("module") or "\nmodule" in d:
-            of = next(iter(binders(d).items()), None)
+            for n, p in re.findall(r"(?m)^  abbrev (\S+) : tie\.(\S+)", d):
+                if norm(p) in old_place:
+                    lent_places[n] = old_place[norm(p)]
             m = re.search(r"module \S+ \((\S+) : tie\.([^\s()]+)", d)
             if m and norm(m[2]) in old_place:
                 for n in re.findall(r"(?m)^  (?:(?:abbrev|unfoldable|pub) )*(\S+)(?: \{[^{}]*\})* : ", d):

@@ -184,5 +184,5 @@ pub fn lay(s: &mut [u8], at: usize, part: &[u8])
     if part.len() > s.len() - at {
         return;
     }
-    bytes::copy(part, &mut s[at..]);
+    s[at..at + part.len()].copy_from_slice(part);
 }

@@ -4,7 +4,7 @@ use Rattle.format.specs.Laws.Corrections.{family_refused}
 use Rattle.format.proofs.Laws.Corrections.{family_sized}
 use Rattle.distress.specs.Report.{reports, report_of, refusal_of}
 use Rattle.distress.specs.Laws.Correction.{spotted}
-use Rattle.distress.specs.Laws.Demands.{family}
+use Rattle.distress.proofs.Laws.Demands.{family}
 use Rattle.distress.specs.declared.reading.Answer.TheVariants.{Good, Refused}
 use borrow.Author.Rules.{rules}
 use Rattle.distress.proofs.correcting.correct.Goals as goal

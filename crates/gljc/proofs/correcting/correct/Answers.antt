@@ -1,0 +1,26 @@
+-- `correct` is the correction in place of every family, with the frame's fields read before and behind the change and where `stands` found the field.
+use mathlib.Core.Path.{refl, ◌∙◌}
+use Rattle.format.specs.Laws.Corrections.{family_refused}
+use Rattle.format.proofs.Laws.Corrections.{family_sized}
+use Rattle.gljc.specs.Gljc.{gljcs, record_of, refusal_of}
+use Rattle.gljc.specs.Laws.Correction.{spotted}
+use Rattle.gljc.specs.Laws.Demands.{family}
+use Rattle.gljc.specs.declared.reading.Answer.TheVariants.{Good, Refused}
+use borrow.Author.Rules.{rules}
+use Rattle.gljc.proofs.correcting.correct.Goals as goal
+
+-- the frame was refused
+pub returns-then-own-ne0 : goal.returns-then-own-ne0
+unfolding gljcs
+returns-then-own-ne0 c =
+    let a = c.args in
+    family_refused gljcs record_of Good Refused refusal_of (λ r. refl) (λ c. refl) a.buf.now a.field a.value c.read-was.ensures c.refusal-own.ensures c.if-own-ne0.true
+
+pub returns : goal.returns
+unfolding gljcs
+returns c =
+    let a = c.args in
+    let (there, slim) = c.stands-spot.ensures in
+    family_sized family Good Refused refusal_of (λ r. refl) (λ c. refl) a.buf.now a.field a.value _ _ c.read-was.ensures c.refusal-own.ensures
+    (λ r e. spotted r a.field ∙ there) slim
+    (λ i. (c.slice_known-1.given i).fits) c.begin-begun.ensures c.inner.ensures c.fields-again.ensures c.refusal.ensures c.finish_sealed.ensures

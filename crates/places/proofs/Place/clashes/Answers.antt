@@ -1,0 +1,12 @@
+-- `Place::clashes` meets its contract.
+use mathlib.Core.Path.{refl, sym, ◌∙◌}
+use Prim.Native.Nat.{◌-◌}
+use borrow.Author.Rules.{rules}
+use Rattle.places.specs.Places.{serves}
+use Rattle.places.proofs.Place.clashes.Goals as goal
+
+pub returns-then-other : goal.returns-then-other
+returns-then-other c = c.serves.ensures ∙ sym (rw c.if-other.true refl)
+
+pub returns : goal.returns
+returns c = sym (rw c.if-other.false refl)

@@ -1,0 +1,24 @@
+-- `show` meets its contract: the heights of the first i records stand in the row.
+use Prim.Native.Nat.{◌+◌, ◌-◌, ◌*◌, ◌≤◌}
+use mathlib.Core.Path.{◌≡◌, refl, sym, ap, ◌∙◌}
+use native.Mathlib.Omega.{arith}
+use native.Mathlib.Nat.{zero-add}
+use native.Mathlib.Numerals.{add-one}
+use lib.ListN.{length}
+use lib.Seq.{sets, length-sets}
+use Rattle.walk.specs.Groups.{repeat_at, repeat_end, repeat_sum}
+use Rattle.walk.specs.Laws.Stored.{sum_more, item_within, stored_turn}
+use Rattle.tide.specs.Heights.{entries_shown, record_shown, heights_at}
+use Rattle.tide.specs.Row.{record_most}
+use Rattle.tide.specs.Shapes.{shape_at, entries_in}
+use Rattle.tide.specs.Standing.{front, record_wide, records_end}
+use Rattle.tide.specs.declared.row.Shape.{Shape}
+use Rattle.tide.specs.Laws.Heights.{shown_long, heights_long}
+use Rattle.tide.specs.Laws.Shapes.{record_small, next_more}
+use Rattle.tide.proofs.heights.show.Given as goal
+
+abbrev pub invariant-loop-i : goal.invariant-loop-i
+invariant-loop-i l = (l.i ≤ l.most) × (l.at ≡ records_end l.s l.i front) × (l.at ≤ front + l.i * record_most) × (l.k ≡ entries_in l.s l.i front) × (l.k ≤ l.i * 511) × (length l.row ≡ length l.initial.row) × (l.row ≡ sets l.initial.row 0 (heights_at l.s l.i front))
+
+abbrev pub decreases-loop-i : goal.decreases-loop-i
+decreases-loop-i l = l.most - l.i

@@ -1,0 +1,99 @@
+-- `walk` meets its contract: what is left to do from the records and entries that are passed is what there was to do; a refusal leaves nothing.
+use Prim.Native.Nat.{ℕ, ◌+◌, ◌-◌, ◌≤◌}
+use mathlib.Core.Path.{◌≡◌, sym, ap, ◌∙◌}
+use mathlib.Core.Bool.{cond}
+use mathlib.Core.List.{List}
+use native.Mathlib.Omega.{arith}
+use borrow.Author.Tests.{eq-eqb, ne_eqb}
+use Rattle.walk.specs.Groups.{repeat_walked}
+use Rattle.walk.specs.declared.walk.Walk.{Walk}
+use Rattle.tide.specs.Steps.{entry_step, records_walked}
+use Rattle.tide.specs.Laws.Turns.{record_turn}
+use borrow.Author.Rules.{rules}
+use Rattle.tide.proofs.records.walk.Invariants.{next}
+use Rattle.tide.proofs.records.walk.Goals as goal
+
+records-holds c = let a = c.before.args in let e : a.count ≡ a.count - 0 = omega arith in (omega arith, ap (λ n. records_walked a.s.now n a.from) e)
+
+pub entries-init : goal.entries-init
+entries-init c =
+    let a = c.args in
+    let n = c.open_record-w.result.v in
+    let e : n ≡ n - 0 = omega arith in
+    (omega arith, ap (λ m. repeat_walked m (entry_step a.s.now) (next a.s.now a.count c.records.i) c.open_record-w.result) e, c.if-w-ne0.false)
+
+pub overflow_sub-n : goal.overflow_sub-n
+overflow_sub-n c = omega arith
+
+pub pass-run-requires : goal.pass-run-requires
+pass-run-requires c = (omega arith, c.entries.invariant.2)
+
+pub overflow_add-j : goal.overflow_add-j
+overflow_add-j c =
+    omega (arith, c.pass-run.ensures.1, c.open_record-w.type_inv)
+
+pub entries-smaller : goal.entries-smaller
+entries-smaller c = omega (arith, c.pass-run.ensures.0, c.pass-run.ensures.1)
+
+pub entries-preserved : goal.entries-preserved
+entries-preserved c =
+    let a = c.args in
+    let s = a.s.now in
+    let on = next s a.count c.records.i in
+    let n = c.open_record-w.result.v - c.entries.j in
+    let x = c.pass-run.result in
+    let w = x.walk in
+    let (some, few, so) = c.pass-run.ensures in
+    let left : n - x.count ≡ c.open_record-w.result.v - (c.entries.j + x.count) = omega (arith, few) in
+    (omega (arith, few), c.entries.invariant.1 ∙ so on ∙ ap (λ b. cond b (repeat_walked (n - x.count) (entry_step s) on w) w) (eq-eqb w.code 0 c.if-w-ne0-2.false) ∙ ap (λ n. repeat_walked n (entry_step s) on w) left, c.if-w-ne0-2.false)
+
+pub overflow_add-i : goal.overflow_add-i
+overflow_add-i c = omega arith
+
+records-less c = omega arith
+
+records-again c =
+    let p = c.before in
+    let i = p.before in
+    let o = i.before.before in
+    let l = o.before.before in
+    let a = l.before.before.args in
+    let s = a.s.now in
+    let n = a.count - (l.records.i + 1) in
+    let w = o.open-record.result in
+    let none : w.v - p.entries.j ≡ 0 = omega arith in (
+      omega arith,
+      l.records.invariant.1 ∙ record_turn s n {m = a.count - l.records.i} l.records.w (omega arith) o.open-record.ensures
+          ∙ ap (λ b. cond b (repeat_walked w.v (entry_step s) (records_walked s n) w) w) (eq-eqb w.code 0 i.if1.false)
+          ∙ p.entries.invariant.1 ∙ ap (λ m. repeat_walked m (entry_step s) (records_walked s n) p.entries.w) none,
+    )
+
+pub returns-after-records : goal.returns-after-records
+unfolding repeat_walked
+returns-after-records c =
+    let a = c.args in
+    let none : a.count - c.records.i ≡ 0 = omega arith in
+    sym (c.records.invariant.1 ∙ ap (λ m. records_walked a.s.now m c.records.w) none)
+
+pub returns-then-w-ne0 : goal.returns-then-w-ne0
+returns-then-w-ne0 c =
+    let a = c.args in
+    let s = a.s.now in
+    let n = a.count - (c.records.i + 1) in
+    let w = c.open_record-w.result in
+    sym (c.records.invariant.1 ∙ record_turn s n c.records.w (omega arith) c.open_record-w.ensures
+    ∙ ap (λ b. cond b (repeat_walked w.v (entry_step s) (records_walked s n) w) w) (ne_eqb w.code 0 c.if-w-ne0.true))
+
+pub returns-then-w-ne0-2 : goal.returns-then-w-ne0-2
+returns-then-w-ne0-2 c =
+    let a = c.args in
+    let s = a.s.now in
+    let m = a.count - (c.records.i + 1) in
+    let on = records_walked s m in
+    let u = c.open_record-w.result in
+    let n = u.v - c.entries.j in
+    let x = c.pass-run.result in
+    let w = x.walk in
+    sym (c.records.invariant.1 ∙ record_turn s m c.records.w (omega arith) c.open_record-w.ensures
+    ∙ ap (λ b. cond b (repeat_walked u.v (entry_step s) on u) u) (eq-eqb u.code 0 c.if-w-ne0.false)
+    ∙ c.entries.invariant.1 ∙ c.pass-run.ensures.2 on ∙ ap (λ b. cond b (repeat_walked (n - x.count) (entry_step s) on w) w) (ne_eqb w.code 0 c.if-w-ne0-2.true))

@@ -1,0 +1,29 @@
+-- `walk` meets its contract: what is left to do from the records and entries that are passed is what there was to do; a refusal leaves nothing.
+use Prim.Native.Nat.{ℕ, ◌+◌, ◌-◌, ◌≤◌}
+use mathlib.Core.Path.{◌≡◌, sym, ap, ◌∙◌}
+use mathlib.Core.Bool.{cond}
+use mathlib.Core.List.{List}
+use native.Mathlib.Omega.{arith}
+use borrow.Author.Tests.{eq-eqb, ne_eqb}
+use Rattle.walk.specs.Groups.{repeat_walked}
+use Rattle.walk.specs.declared.walk.Walk.{Walk}
+use Rattle.tide.specs.Steps.{entry_step, records_walked}
+use Rattle.tide.specs.Laws.Turns.{record_turn}
+use borrow.Author.Rules.{rules}
+use Rattle.tide.proofs.records.walk.Given as goal
+
+-- behind the entries of a record, where i records are passed
+abbrev pub next : List ℕ → ℕ → ℕ → Walk → Walk
+next s count i w = records_walked s (count - (i + 1)) w
+
+abbrev pub invariant-entries : goal.invariant-entries
+invariant-entries l = (l.j ≤ l.n) × (repeat_walked l.n (entry_step l.s) (next l.s l.count l.i) l.initial.w ≡ repeat_walked (l.n - l.j) (entry_step l.s) (next l.s l.count l.i) l.w) × (l.w.code ≡ 0)
+
+abbrev pub decreases-entries : goal.decreases-entries
+decreases-entries l = l.n - l.j
+
+abbrev pub invariant-records : goal.invariant-records
+invariant-records l = (l.i ≤ l.count) × (records_walked l.s l.count l.initial.w ≡ records_walked l.s (l.count - l.i) l.w)
+
+abbrev pub decreases-records : goal.decreases-records
+decreases-records l = l.count - l.i

@@ -1,0 +1,25 @@
+-- `read` is the fields behind the first tests, or what these refused.
+use mathlib.Core.Path.{sym, ap, ◌∙◌}
+use mathlib.Core.List.{[]}
+use Rattle.bits.specs.Bits.{bits_of}
+use Rattle.format.specs.Fmt.{also, read}
+use Rattle.format.specs.Laws.Answers.{led_so}
+use Rattle.format.specs.Laws.Lead.{read_first}
+use Rattle.txxx.specs.Txxx.{txxx, txxxs, record_of, answer_of}
+use Rattle.txxx.specs.declared.reading.Answer.TheVariants.{Good, Refused}
+use borrow.Author.Rules.{rules}
+use Rattle.txxx.proofs.reading.read.Goals as goal
+
+pub returns-then-code-ne0 : goal.returns-then-code-ne0
+unfolding txxxs
+returns-then-code-ne0 c =
+    led_so (λ r. Good r.0) Refused record_of txxxs c.args.s.now c.first-code.ensures c.if-code-ne0.true c.bare.ensures
+
+pub returns : goal.returns
+unfolding txxxs
+returns c =
+    let s = c.args.s.now in
+    let passed = sym c.if-code-ne0.false ∙ c.first-code.ensures in
+    c.fields.ensures
+    ∙ ap (λ b. answer_of (also record_of (read txxx [] 0 (bits_of b)))) c.inner.ensures
+    ∙ ap (λ o. answer_of (also record_of o)) (sym (read_first txxxs s passed))

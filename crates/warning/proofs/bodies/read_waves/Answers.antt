@@ -1,0 +1,17 @@
+-- `read_waves` walks the body as its layout stands: one step a field. Printed by tools/bodies.
+use mathlib.Core.Path.{refl}
+use lib.Dec.{lit<, lit≤}
+use Rattle.walk.specs.Laws.Reading.{step_num, step_fill}
+use borrow.Author.Rules.{rules}
+use Rattle.warning.proofs.bodies.read_waves.Goals as goal
+
+pub returns : goal.returns
+returns c =
+    record {
+      kind = refl;
+      on = λ e.
+          let r1 = step_num 8 (lit< tt) (lit≤ tt) (lit< tt) 0 255 e c.num-w.ensures.0 in
+          let r2 = step_num 5 (lit< tt) (lit≤ tt) (lit< tt) 0 31 r1 c.num-w-2.ensures.0 in
+          let r3 = step_num 13 (lit< tt) (lit≤ tt) (lit< tt) 0 8_191 r2 c.num-w-3.ensures.0 in
+          step_fill 24 (lit≤ tt) (lit< tt) r3 c.fill-w.ensures;
+    }

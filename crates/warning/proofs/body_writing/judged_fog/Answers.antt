@@ -1,0 +1,14 @@
+-- `judged_fog` judges the body's values in bit order: one step a field. Printed by tools/bodies.
+use lib.Dec.{lit<}
+use Rattle.walk.specs.Laws.Judging.{judge_num, judge_fixed}
+use borrow.Author.Rules.{rules}
+use Rattle.warning.proofs.body_writing.judged_fog.Goals as goal
+
+pub returns : goal.returns
+returns c =
+    record {
+      on = λ e.
+          let r1 = judge_num 9 (lit< tt) 0 511 (lit< tt) e c.value-w.ensures in
+          let r2 = judge_num 8 (lit< tt) 0 250 (lit< tt) r1 c.value-w-2.ensures in
+          judge_fixed 33 4 0 (lit< tt) (lit< tt) r2 c.fixed.ensures;
+    }

@@ -1,0 +1,15 @@
+-- `judged_waves` judges the body's values in bit order: one step a field. Printed by tools/bodies.
+use lib.Dec.{lit<}
+use Rattle.walk.specs.Laws.Judging.{judge_num, judge_fixed}
+use borrow.Author.Rules.{rules}
+use Rattle.warning.proofs.body_writing.judged_waves.Goals as goal
+
+pub returns : goal.returns
+returns c =
+    record {
+      on = λ e.
+          let r1 = judge_num 8 (lit< tt) 0 255 (lit< tt) e c.value-w.ensures in
+          let r2 = judge_num 5 (lit< tt) 0 31 (lit< tt) r1 c.value-w-2.ensures in
+          let r3 = judge_num 13 (lit< tt) 0 8_191 (lit< tt) r2 c.value-w-3.ensures in
+          judge_fixed 24 4 0 (lit< tt) (lit< tt) r3 c.fixed.ensures;
+    }

@@ -1,0 +1,18 @@
+-- `put` goes by the body's variant.
+use borrow.Author.Rules.{rules}
+use Rattle.warning.proofs.body_writing.put.Goals as goal
+
+pub returns-in-Cyclone : goal.returns-in-Cyclone
+returns-in-Cyclone c = rw c.in-Cyclone.is c.put_cyclone.ensures
+
+pub returns-in-Gale : goal.returns-in-Gale
+returns-in-Gale c = rw c.in-Gale.is c.put_gale.ensures
+
+pub returns-in-Waves : goal.returns-in-Waves
+returns-in-Waves c = rw c.in-Waves.is c.put_waves.ensures
+
+pub returns-in-Fog : goal.returns-in-Fog
+returns-in-Fog c = rw c.in-Fog.is c.put_fog.ensures
+
+pub returns-in-Surge : goal.returns-in-Surge
+returns-in-Surge c = rw c.in-Surge.is c.put_surge.ensures

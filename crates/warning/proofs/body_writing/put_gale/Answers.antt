@@ -1,0 +1,16 @@
+-- `put_gale` puts the body's values in bit order: one step a field. Printed by tools/bodies.
+use lib.Dec.{lit≤}
+use Rattle.format.proofs.Laws.Putting.{put_step}
+use borrow.Author.Rules.{rules}
+use Rattle.warning.proofs.body_writing.put_gale.Goals as goal
+
+pub returns : goal.returns
+returns c =
+    record {
+      on = λ e.
+          let q1 = put_step 8 (lit≤ tt) e c.put.ensures in
+          let q2 = put_step 5 (lit≤ tt) q1 c.put-2.ensures in
+          let q3 = put_step 5 (lit≤ tt) q2 c.put-3.ensures in
+          let q4 = put_step 4 (lit≤ tt) q3 c.put-4.ensures in
+          put_step 28 (lit≤ tt) q4 c.put-5.ensures;
+    }

@@ -1,0 +1,13 @@
+-- `lead` gives 01's first tests: those of every AIS message, from its head as it is got.
+use mathlib.Core.Path.{◌∙◌}
+use lib.Dec.{lit≤}
+use Rattle.ais_common.specs.Laws.Sound.{got_lead}
+use Rattle.warning.specs.Warning.{asked, warnings}
+use borrow.Author.Rules.{rules}
+use Rattle.warning.proofs.reading.lead.Goals as goal
+
+pub returns : goal.returns
+unfolding warnings
+returns c =
+    let s = c.args.s.now in
+    c.lead.ensures ∙ got_lead asked 40 56 4 s _ c.get.ensures c.get-2.ensures c.get-3.ensures (lit≤ tt) (lit≤ tt) (lit≤ tt)
