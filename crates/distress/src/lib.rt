@@ -1,4 +1,6 @@
 // The distress report (paper 01, "Distress report"; 001, A.1): reading, writing and correcting it.
+#![tactic(auto)]
+
 pub use crate::correcting::correct;
 pub use crate::reading::{Answer, CODE, Report, read};
 pub use crate::writing::write;

@@ -2,15 +2,13 @@
 use Rattle.std.specs.Prelude.{◌≡◌, refl, List, [], ◌∷◌, ◌++◌, ℕ, ◌≤◌, ◌^◌, length, get_or, take, drop}
 use Rattle.std.proofs.Common.{sym, ap, ◌∙◌, subst, lit≤}
 use Rattle.bits.specs.Bits.{Bytes}
-use Rattle.format.specs.Fmt.{accepted}
-use Rattle.format.specs.Message.{write_message}
 use Rattle.format.specs.Refusals.{bare}
 use Rattle.format.specs.declared.Refusal.{Refusal}
 use Rattle.format.specs.Promises.{read_record, Writes, Corrects}
-use Rattle.format.specs.Laws.Answers.{good_read, answer_plain}
+use Rattle.format.specs.Laws.Answers.{answer_plain}
 use Rattle.format.specs.Laws.Entries.{entries, legal_entries}
 use Rattle.format.specs.Laws.Family.{Family}
-use Rattle.format.proofs.Laws.Family.{one_size, written_front, read_written}
+use Rattle.format.proofs.Laws.Family.{written_front, read_written}
 use Rattle.format.specs.Settled.{Settled}
 use Rattle.format.proofs.Laws.Settled.{settled}
 use Rattle.format.specs.Laws.Legal.{Legal, exactly}

@@ -1,5 +1,5 @@
 -- The report with one field changed has the values with that one changed, and its fields stand where `spots` says. Assumes nothing.
-use Rattle.std.specs.Prelude.{◌≡◌, refl, cond, [], ◌∷◌, ℕ, ◌≤◌, ◌<◌, ◌^◌, eqb, set}
+use Rattle.std.specs.Prelude.{◌≡◌, refl, cond, [], ◌∷◌, ℕ, ◌<◌, ◌^◌, eqb, set}
 use Rattle.std.proofs.Common.{sym, ◌∙◌, lit≤}
 use Rattle.format.specs.Fmt.{spot, found}
 use Rattle.walk.specs.Sign.{int_of, spell_of}

@@ -1,5 +1,5 @@
 -- Areas judged: a point, what an area holds by its kind, an area, and all of them, by the laws on what a row tells. And one turn of each loop, with the code's own numbers. Assumes nothing.
-use Rattle.std.specs.Prelude.{ℕ, suc, ◌+◌, ◌*◌, ◌≤◌, ◌<◌, ◌≡◌, refl, Bool, true, false, cond, List, eqb, get_or}
+use Rattle.std.specs.Prelude.{ℕ, suc, ◌+◌, ◌*◌, ◌≤◌, ◌≡◌, refl, Bool, true, false, cond, List, eqb, get_or}
 use Rattle.std.proofs.Common.{sym, ap, ap₂, ◌∙◌, arith, lit<, lit≤, eqb-true}
 use Rattle.std.proofs.Math.Path.{subst⁻¹}
 use Rattle.format.specs.Groups.{repeat, repeat_told}

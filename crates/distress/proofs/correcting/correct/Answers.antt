@@ -6,7 +6,6 @@ use Rattle.distress.specs.Report.{reports, report_of, refusal_of}
 use Rattle.distress.specs.Laws.Correction.{spotted}
 use Rattle.distress.proofs.Laws.Demands.{family}
 use Rattle.distress.specs.declared.reading.Answer.TheVariants.{Good, Refused}
-use borrow.Author.Rules.{rules}
 use Rattle.distress.proofs.correcting.correct.Goals as goal
 
 -- the message was refused

@@ -7,7 +7,6 @@ use borrow.Author.Tests.{le-leb, lt-leb, eq-eqb, ne_eqb}
 use Rattle.bits.specs.Laws.Answers.{got_fits}
 use Rattle.bits.specs.Bits.{field_at}
 use Rattle.distress.specs.Report.{reports}
-use borrow.Author.Rules.{rules}
 use Rattle.distress.proofs.reading.lead.Goals as goal
 
 pub returns-then-s-lt-LEAST : goal.returns-then-s-lt-LEAST

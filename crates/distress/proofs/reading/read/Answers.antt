@@ -6,7 +6,6 @@ use Rattle.format.specs.Laws.Lead.{read_first, exact_fields}
 use Rattle.distress.specs.Laws.Sound.{sized}
 use Rattle.distress.specs.Report.{report, reports, report_of, answer_of}
 use Rattle.distress.specs.declared.reading.Answer.TheVariants.{Good, Refused}
-use borrow.Author.Rules.{rules}
 use Rattle.distress.proofs.reading.read.Goals as goal
 
 pub returns-then-code-ne0 : goal.returns-then-code-ne0

@@ -1,6 +1,6 @@
 -- `walked` walks the report as its layout stands: one step a field, then the record is that of the values.
 use mathlib.Core.Path.{refl, sym, ap, ◌∙◌}
-use Prim.Native.Nat.{◌≤◌, ◌<◌, ◌^◌}
+use Prim.Native.Nat.{◌^◌}
 use mathlib.Core.List.{[], ◌∷◌}
 use lib.Dec.{eqb, lit<, lit≤}
 use Rattle.walk.specs.Sign.{spell_of}
@@ -16,7 +16,6 @@ use mir.ValLaws.{to_z-of_z}
 use Rattle.distress.specs.Report.{report, values_of, report_of, answer_of, again}
 use Rattle.format.specs.Laws.Answers.{told_so}
 use Rattle.distress.specs.declared.reading.Answer.TheVariants.{Good, Refused}
-use borrow.Author.Rules.{rules}
 use Rattle.distress.proofs.reading.walked.Goals as goal
 
 pub returns-then-s-ne-LEAST : goal.returns-then-s-ne-LEAST

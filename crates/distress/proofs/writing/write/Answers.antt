@@ -3,7 +3,6 @@ use mathlib.Core.Path.{subst}
 use Rattle.format.specs.Promises.{Writes}
 use Rattle.walk.specs.Laws.Flat.{write_fails, write_cramped, write_flat}
 use Rattle.distress.specs.Report.{reports, plain}
-use borrow.Author.Rules.{rules}
 use Rattle.distress.proofs.writing.write.Goals as goal
 
 pub returns-then-code-ne0 : goal.returns-then-code-ne0

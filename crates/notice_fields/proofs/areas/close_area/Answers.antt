@@ -4,7 +4,6 @@ use mathlib.Core.Bool.{true}
 use Rattle.walk.specs.Reading.{ranged}
 use Rattle.notice_fields.specs.Steps.{closed_as}
 use Rattle.notice_fields.specs.Laws.Kinds.{kind_circle, closed_plain}
-use borrow.Author.Rules.{rules}
 use Rattle.notice_fields.proofs.areas.close_area.Goals as goal
 
 pub returns-then-kind-eq-CIRCLE : goal.returns-then-kind-eq-CIRCLE

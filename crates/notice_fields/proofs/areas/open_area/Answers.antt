@@ -6,7 +6,6 @@ use Rattle.walk.specs.declared.walk.Walk.{Walk}
 use Rattle.notice_fields.specs.Areas.{least_of}
 use Rattle.notice_fields.specs.Steps.{opened_as}
 use Rattle.notice_fields.specs.Laws.Kinds.{kind_sea, kind_circle, kind_several}
-use borrow.Author.Rules.{rules}
 use Rattle.notice_fields.proofs.areas.open_area.Goals as goal
 
 pub returns-then-k-eq-SEA : goal.returns-then-k-eq-SEA

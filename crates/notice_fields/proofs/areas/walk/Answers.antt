@@ -1,15 +1,11 @@
 -- `walk` meets its contract: what is left to do from the areas and points that are passed is what there was to do; the first bad point leaves nothing.
-use Prim.Native.Nat.{ℕ, ◌+◌, ◌-◌, ◌≤◌}
+use Prim.Native.Nat.{◌+◌, ◌-◌}
 use mathlib.Core.Path.{◌≡◌, sym, ap, ◌∙◌}
 use mathlib.Core.Bool.{cond}
-use mathlib.Core.List.{List}
 use native.Mathlib.Omega.{arith}
-use borrow.Author.Rules.{rules}
 use borrow.Author.Tests.{eq-eqb, ne_eqb}
-use Rattle.walk.specs.declared.walk.Walk.{Walk}
-use Rattle.notice_fields.specs.Areas.{kind_of}
 use Rattle.walk.specs.Groups.{repeat_walked}
-use Rattle.notice_fields.specs.Steps.{closed_as, point_step, areas_walked}
+use Rattle.notice_fields.specs.Steps.{point_step, areas_walked}
 use Rattle.notice_fields.specs.Laws.Walking.{point_turn, area_turn}
 use Rattle.notice_fields.proofs.areas.walk.Invariants.{next}
 use Rattle.notice_fields.proofs.areas.walk.Goals as goal

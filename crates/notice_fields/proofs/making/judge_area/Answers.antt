@@ -1,9 +1,8 @@
 -- `judge_area` meets its contract: by the number of the kind, as `kind_of` goes.
-use Prim.Native.Nat.{◌+◌, ◌-◌, ◌*◌}
+use Prim.Native.Nat.{◌+◌, ◌*◌}
 use mathlib.Core.Path.{sym, ap, ap₂, ◌∙◌}
 use mathlib.Core.Bool.{cond}
 use native.Mathlib.Omega.{arith}
-use borrow.Author.Rules.{rules}
 use borrow.Author.Tests.{eq-eqb, ne_eqb}
 use Rattle.walk.specs.Judging.{valued}
 use Rattle.walk.specs.Laws.Judging.{valued_between}

@@ -1,8 +1,7 @@
 -- `judge_points` meets its contract: what is left to judge behind j points is what there was to judge.
-use Prim.Native.Nat.{◌+◌, ◌-◌, ◌*◌, ◌≤◌}
+use Prim.Native.Nat.{◌+◌, ◌-◌, ◌*◌}
 use mathlib.Core.Path.{◌≡◌, sym, ap, ap₂, ◌∙◌}
 use native.Mathlib.Omega.{arith}
-use borrow.Author.Rules.{rules}
 use Rattle.walk.specs.Rows.{even_judged}
 use Rattle.notice_fields.specs.Making.{points_judged}
 use Rattle.notice_fields.specs.Laws.Judging.{point_turn}

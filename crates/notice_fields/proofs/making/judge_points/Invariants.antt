@@ -1,11 +1,7 @@
 -- `judge_points` meets its contract: what is left to judge behind j points is what there was to judge.
 use Prim.Native.Nat.{◌+◌, ◌-◌, ◌*◌, ◌≤◌}
-use mathlib.Core.Path.{◌≡◌, sym, ap, ap₂, ◌∙◌}
-use native.Mathlib.Omega.{arith}
-use borrow.Author.Rules.{rules}
-use Rattle.walk.specs.Rows.{even_judged}
+use mathlib.Core.Path.{◌≡◌}
 use Rattle.notice_fields.specs.Making.{points_judged}
-use Rattle.notice_fields.specs.Laws.Judging.{point_turn}
 use Rattle.notice_fields.proofs.making.judge_points.Given as goal
 
 abbrev pub invariant-loop-j : goal.invariant-loop-j

@@ -1,10 +1,8 @@
 -- `put` meets its contract: what is left to put behind i areas is what there was to put.
-use Prim.Native.Nat.{◌+◌, ◌-◌, ◌*◌, ◌≤◌}
+use Prim.Native.Nat.{◌+◌, ◌-◌}
 use mathlib.Core.Path.{◌≡◌, refl, sym, ap, ◌∙◌}
 use native.Mathlib.Omega.{arith}
-use lib.ListN.{length}
-use Rattle.notice_fields.specs.Row.{long_most}
-use Rattle.notice_fields.specs.Standing.{front, area_most}
+use Rattle.notice_fields.specs.Standing.{front}
 use Rattle.notice_fields.specs.Making.{area_put, areas_put}
 use Rattle.notice_fields.specs.Laws.Putting.{area_small}
 use Rattle.walk.specs.Rows.{Put, repeat_put}

@@ -1,14 +1,10 @@
 -- `put` meets its contract: what is left to put behind i areas is what there was to put.
 use Prim.Native.Nat.{◌+◌, ◌-◌, ◌*◌, ◌≤◌}
-use mathlib.Core.Path.{◌≡◌, refl, sym, ap, ◌∙◌}
-use native.Mathlib.Omega.{arith}
+use mathlib.Core.Path.{◌≡◌}
 use lib.ListN.{length}
 use Rattle.notice_fields.specs.Row.{long_most}
 use Rattle.notice_fields.specs.Standing.{front, area_most}
-use Rattle.notice_fields.specs.Making.{area_put, areas_put}
-use Rattle.notice_fields.specs.Laws.Putting.{area_small}
-use Rattle.walk.specs.Rows.{Put, repeat_put}
-use Rattle.walk.specs.Laws.RowsPut.{repeat_put_turn}
+use Rattle.notice_fields.specs.Making.{areas_put}
 use Rattle.notice_fields.proofs.making.put.Given as goal
 
 abbrev pub invariant-loop-i : goal.invariant-loop-i

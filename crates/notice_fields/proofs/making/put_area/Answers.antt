@@ -1,8 +1,7 @@
 -- `put_area` meets its contract: by the number of the kind, as `kind_of` goes.
-use Prim.Native.Nat.{ℕ, ◌+◌, ◌-◌, ◌*◌, ◌%◌}
+use Prim.Native.Nat.{ℕ, ◌+◌, ◌*◌, ◌%◌}
 use mathlib.Core.Path.{sym, ap, ap₂, ◌∙◌}
 use mathlib.Core.List.{List}
-use borrow.Author.Rules.{rules}
 use Rattle.format.specs.Correcting.{put_in, put_in_lem}
 use Rattle.notice_fields.specs.Areas.{least_of}
 use Rattle.notice_fields.specs.Laws.Kinds.{kind_sea, kind_circle, kind_several}

@@ -1,9 +1,7 @@
 -- `put_points` meets its contract: what is left to put behind j points is what there was to put.
-use Prim.Native.Nat.{◌+◌, ◌-◌, ◌*◌, ◌≤◌}
+use Prim.Native.Nat.{◌+◌, ◌-◌, ◌*◌}
 use mathlib.Core.Path.{◌≡◌, refl, sym, ap, ◌∙◌}
 use native.Mathlib.Omega.{arith}
-use lib.ListN.{length}
-use borrow.Author.Rules.{rules}
 use Rattle.format.specs.Correcting.{put_in_lem}
 use Rattle.walk.specs.Rows.{even_put}
 use Rattle.notice_fields.specs.Parts.{latitude_bits, longitude_bits, point_bits}

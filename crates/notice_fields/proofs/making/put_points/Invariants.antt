@@ -1,14 +1,9 @@
 -- `put_points` meets its contract: what is left to put behind j points is what there was to put.
 use Prim.Native.Nat.{◌+◌, ◌-◌, ◌*◌, ◌≤◌}
-use mathlib.Core.Path.{◌≡◌, refl, sym, ap, ◌∙◌}
-use native.Mathlib.Omega.{arith}
+use mathlib.Core.Path.{◌≡◌}
 use lib.ListN.{length}
-use borrow.Author.Rules.{rules}
-use Rattle.format.specs.Correcting.{put_in_lem}
-use Rattle.walk.specs.Rows.{even_put}
-use Rattle.notice_fields.specs.Parts.{latitude_bits, longitude_bits, point_bits}
+use Rattle.notice_fields.specs.Parts.{point_bits}
 use Rattle.notice_fields.specs.Making.{points_put}
-use Rattle.notice_fields.specs.Laws.Putting.{point_turn}
 use Rattle.notice_fields.proofs.making.put_points.Given as goal
 
 abbrev pub invariant-loop-j : goal.invariant-loop-j

@@ -5,7 +5,6 @@ use Rattle.format.specs.Words.{◌‥◌}
 use Rattle.walk.specs.Pieces.{pieced, piecewise}
 use Rattle.walk.specs.Laws.Pieces.{piece_stuck}
 use Rattle.walk.specs.declared.pieces.Pieces.{Pieces}
-use borrow.Author.Rules.{rules}
 use Rattle.notice_fields.proofs.parts.angle.Goals.{After-piece-degrees}
 use Rattle.notice_fields.proofs.parts.angle.Goals as goal
 

@@ -2,7 +2,6 @@
 use mathlib.Core.List.{[]}
 use mathlib.Core.Path.{ap, ◌∙◌}
 use Rattle.walk.specs.Pieces.{piecewise}
-use borrow.Author.Rules.{rules}
 use Rattle.notice_fields.specs.Parts.{moment}
 use Rattle.notice_fields.proofs.parts.cut_moment.Goals as goal
 

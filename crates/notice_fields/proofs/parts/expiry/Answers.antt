@@ -2,7 +2,6 @@
 use mathlib.Core.Path.{ap, ◌∙◌}
 use Rattle.walk.specs.Pieces.{unless_zero}
 use Rattle.walk.specs.Laws.Parts.{group_whole, group_cut}
-use borrow.Author.Rules.{rules}
 use Rattle.notice_fields.specs.PartsSteps.{expiry_pieces}
 use Rattle.notice_fields.proofs.parts.expiry.Goals as goal
 

@@ -2,7 +2,6 @@
 use mathlib.Core.Path.{ap, ◌∙◌}
 use Rattle.walk.specs.Pieces.{unless_zero}
 use Rattle.walk.specs.Reading.{grouped}
-use borrow.Author.Rules.{rules}
 use Rattle.notice_fields.specs.PartsSteps.{expiry_pieces}
 use Rattle.notice_fields.proofs.parts.judged_expiry.Goals as goal
 

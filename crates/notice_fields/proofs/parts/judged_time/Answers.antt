@@ -3,7 +3,6 @@ use mathlib.Core.List.{[]}
 use mathlib.Core.Path.{ap, ◌∙◌}
 use Rattle.walk.specs.Pieces.{piecewise}
 use Rattle.walk.specs.Reading.{grouped}
-use borrow.Author.Rules.{rules}
 use Rattle.notice_fields.specs.Parts.{moment}
 use Rattle.notice_fields.proofs.parts.judged_time.Goals as goal
 

@@ -2,7 +2,6 @@
 use mathlib.Core.Path.{sym, ◌∙◌}
 use borrow.Author.Tests.{eq-eqb, ne_eqb}
 use Rattle.notice_fields.specs.PartsSteps.{least_subtype, most_subtype}
-use borrow.Author.Rules.{rules}
 use Rattle.notice_fields.proofs.parts.least_subtype.Goals as goal
 
 pub returns-then-most_subtype-eq0 : goal.returns-then-most_subtype-eq0

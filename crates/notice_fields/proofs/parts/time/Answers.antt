@@ -2,7 +2,6 @@
 use mathlib.Core.List.{[]}
 use Rattle.walk.specs.Pieces.{piecewise}
 use Rattle.walk.specs.Laws.Parts.{group_whole, group_cut}
-use borrow.Author.Rules.{rules}
 use Rattle.notice_fields.specs.Parts.{moment}
 use Rattle.notice_fields.proofs.parts.time.Goals as goal
 

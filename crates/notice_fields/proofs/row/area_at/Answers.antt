@@ -1,8 +1,7 @@
 -- `area_at` meets its contract: by the number of the kind, as `kind_of` goes.
-use Prim.Native.Nat.{◌+◌, ◌-◌, ◌*◌}
+use Prim.Native.Nat.{◌+◌, ◌*◌}
 use mathlib.Core.Path.{◌≡◌, sym, ap, ◌∙◌}
 use native.Mathlib.Omega.{arith}
-use borrow.Author.Rules.{rules}
 use Rattle.bits.specs.Answers.{got}
 use Rattle.walk.specs.Laws.Reading.{got_lt}
 use Rattle.notice_fields.specs.Areas.{several, least_of}

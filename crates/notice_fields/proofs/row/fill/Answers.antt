@@ -1,9 +1,7 @@
 -- `fill` measures the areas, and stores their numbers where the row has room for them.
-use Prim.Native.Nat.{◌-◌}
 use mathlib.Core.Path.{refl, ap, ◌∙◌}
 use native.Mathlib.Omega.{arith}
 use lib.ListN.{length}
-use borrow.Author.Rules.{rules}
 use borrow.Author.Tests.{le-leb, lt-leb}
 use Rattle.notice_fields.specs.Standing.{front, areas_at}
 use Rattle.notice_fields.specs.declared.row.Extent.{Extent}

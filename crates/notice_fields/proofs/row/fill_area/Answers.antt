@@ -1,8 +1,7 @@
 -- `fill_area` meets its contract: the kind is stored, then what an area of that kind holds.
-use Prim.Native.Nat.{◌+◌, ◌-◌}
+use Prim.Native.Nat.{◌+◌}
 use mathlib.Core.Path.{ap, ◌∙◌}
 use native.Mathlib.Omega.{arith}
-use borrow.Author.Rules.{rules}
 use lib.ListN.{length, set, length-set}
 use lib.Seq.{length-sets}
 use Rattle.walk.specs.Laws.Reading.{got_lt}

@@ -1,9 +1,8 @@
 -- `fill_points` meets its contract: the first j points stand in the row.
-use Prim.Native.Nat.{◌+◌, ◌-◌, ◌*◌, ◌≤◌}
+use Prim.Native.Nat.{◌+◌, ◌*◌}
 use mathlib.Core.Path.{◌≡◌, refl, ap, ◌∙◌}
 use native.Mathlib.Omega.{arith}
-use borrow.Author.Rules.{rules}
-use lib.ListN.{length, length-set}
+use lib.ListN.{length-set}
 use lib.Seq.{sets}
 use Rattle.walk.specs.Groups.{repeat_at}
 use Rattle.walk.specs.Laws.Reading.{got_lt}

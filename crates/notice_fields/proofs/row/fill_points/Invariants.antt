@@ -1,15 +1,9 @@
 -- `fill_points` meets its contract: the first j points stand in the row.
-use Prim.Native.Nat.{◌+◌, ◌-◌, ◌*◌, ◌≤◌}
-use mathlib.Core.Path.{◌≡◌, refl, ap, ◌∙◌}
-use native.Mathlib.Omega.{arith}
-use borrow.Author.Rules.{rules}
-use lib.ListN.{length, length-set}
+use Prim.Native.Nat.{◌-◌, ◌≤◌}
+use mathlib.Core.Path.{◌≡◌}
+use lib.ListN.{length}
 use lib.Seq.{sets}
-use Rattle.walk.specs.Groups.{repeat_at}
-use Rattle.walk.specs.Laws.Reading.{got_lt}
 use Rattle.notice_fields.specs.Standing.{points_at}
-use Rattle.notice_fields.specs.Parts.{latitude_bits, longitude_bits, point_bits}
-use Rattle.notice_fields.specs.Laws.Rows.{points_turn}
 use Rattle.notice_fields.proofs.row.fill_points.Given as goal
 
 abbrev pub invariant-loop-j : goal.invariant-loop-j

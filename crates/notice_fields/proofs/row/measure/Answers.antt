@@ -1,10 +1,9 @@
 -- `measure` meets its contract: what the first i areas have, and where they end.
-use Prim.Native.Nat.{◌+◌, ◌-◌, ◌*◌, ◌≤◌}
+use Prim.Native.Nat.{◌+◌}
 use mathlib.Core.Path.{◌≡◌, refl, sym, ap, ap₂, ◌∙◌}
 use native.Mathlib.Omega.{arith}
 use native.Mathlib.Numerals.{add-one}
-use Rattle.notice_fields.specs.Row.{long_most}
-use Rattle.notice_fields.specs.Standing.{front, area_wide, area_most, areas_end}
+use Rattle.notice_fields.specs.Standing.{front, area_wide, areas_end}
 use Rattle.notice_fields.specs.Shapes.{shape_at, numbers_in, points_in}
 use Rattle.notice_fields.specs.declared.row.Shape.{Shape}
 use Rattle.notice_fields.specs.Laws.Shapes.{area_small, next_more}

@@ -1,12 +1,12 @@
 -- `store` meets its contract: the numbers of the first i areas stand in the row.
-use Prim.Native.Nat.{◌+◌, ◌-◌, ◌*◌, ◌≤◌}
+use Prim.Native.Nat.{◌+◌}
 use mathlib.Core.Path.{◌≡◌, refl, sym, ap, ap₂, ◌∙◌}
 use native.Mathlib.Omega.{arith}
 use native.Mathlib.Numerals.{add-one}
 use native.Mathlib.Nat.{zero-add}
 use lib.ListN.{length}
 use lib.Seq.{sets, length-sets}
-use Rattle.notice_fields.specs.Standing.{front, area_wide, area_most, area_at, areas_at, areas_end}
+use Rattle.notice_fields.specs.Standing.{front, area_wide, area_at, areas_at, areas_end}
 use Rattle.notice_fields.specs.Shapes.{shape_at, numbers_in}
 use Rattle.notice_fields.specs.declared.row.Shape.{Shape}
 use Rattle.notice_fields.specs.Laws.Shapes.{area_small, numbers_in_lem, next_more}

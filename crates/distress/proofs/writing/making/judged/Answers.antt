@@ -4,7 +4,6 @@ use lib.Dec.{lit<}
 use Rattle.walk.specs.Laws.Judging.{judge_start, judge_fixed, judge_num, judge_signed, judge_end}
 use Rattle.distress.specs.Report.{report}
 use Rattle.distress.specs.Values.{list_of}
-use borrow.Author.Rules.{rules}
 use Rattle.distress.proofs.writing.making.judged.Goals as goal
 
 pub returns : goal.returns

@@ -8,7 +8,6 @@ use Rattle.format.specs.Laws.Putting.{put_start, put_end}
 use Rattle.format.proofs.Laws.Putting.{put_step}
 use Rattle.distress.specs.Report.{report}
 use Rattle.distress.specs.Values.{list_of}
-use borrow.Author.Rules.{rules}
 use Rattle.distress.proofs.writing.making.put.Goals.{After-put-6}
 use Rattle.distress.proofs.writing.making.put.Goals as goal
 

@@ -7,7 +7,6 @@ use Prim.Native.Nat.{◌^◌}
 use Rattle.walk.specs.Sign.{spell_of}
 use Rattle.distress.specs.Report.{values_of}
 use Rattle.distress.specs.Values.{list_of}
-use borrow.Author.Rules.{rules}
 use Rattle.distress.proofs.writing.making.spelled.Goals as goal
 
 pub returns : goal.returns
