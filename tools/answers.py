@@ -30,7 +30,7 @@ def blocks(text):
             continue
         if l[0] not in " \t)" :
             m = re.match(rf"((?:abbrev|unfoldable|pub) )*({WORD})((?: \{{[^{{}}]*\}})*) :( |$)", l)
-            if m or l.startswith(("module", "data", "record", "pub data", "pub record")):
+            if m or l.startswith(("module ", "data ", "record ", "pub data ", "pub record ")):
                 cur = pend + [l]
                 pend = []
                 decls.append([m[2] if m else l.split()[1], cur])
@@ -96,7 +96,9 @@ def convert(lib, rel, folder, N):
         if o:
             fields[norm(o)] = n
     callees = {norm(pl[2][0]): N["params"].get(pl[3]) for pl in N["places"] if pl[3]}
-    places = {norm(pl[0]): nb for pl, nb in zip(N["places"], N["places_by_name"])}
+    # an arm's first steps are one place with its last
+    last_of = lambda n: re.sub(r"-\d+$", "", n) if n.startswith("In-") and re.sub(r"-\d+$", "", n) in N["places_by_name"] else n
+    places = {norm(pl[0]): last_of(nb) for pl, nb in zip(N["places"], N["places_by_name"])}
     loops = {}
     for (pair, vs), ch in zip(N["loops"], N["changed"] or [[]] * len(N["loops"])):
         loops[norm(pair[0])] = (pair[1], vs, ch)
@@ -163,6 +165,9 @@ def convert(lib, rel, folder, N):
             new, i = field_at(at, name)
             callee = N["params"].get(N["places"][i][3])
             out, rest = [new], rest[1:]
+            renamed = dict(N["places"][i][4])
+            if rest and rest[0] in renamed:
+                rest = [renamed[rest[0]]] + rest[1:]
             arm = N["arms"][i] if i < len(N["arms"]) else None
             fit = [(to, subs) for to, of, subs in (arm[2] if arm else []) if norm(of) == name and rest[: len(subs)] == subs]
             if fit:
@@ -213,8 +218,6 @@ def convert(lib, rel, folder, N):
                 return f"⁋⁋{len(passed) - 1}⁋⁋"
             return ".".join([v] + follow(rest, rise(at[v], k)))
 
-        # the test of an `if !x` says of x itself what it is
-        t = re.sub(r"(?<![\w.'-])not-(?:true|false) _ ", "", t)
         t = re.sub(r"(\.given [^()]*\))\.ranges", r"\1.fits", t)
         for m in re.finditer(r"let (\S+) = c in\s", t) if "c" in at else []:
             at[m[1]] = at["c"]
@@ -227,6 +230,8 @@ def convert(lib, rel, folder, N):
         t = re.sub(rf"\(([^\s()]+) ([^()]*)\)\.((?:{WORD})(?:\.(?:{WORD}))*)", held, t)
         t = PATH.sub(one, t)
         t = plain(t, at, goal, passed)
+        # the test of an `if !x` says of x itself what it is: what the lemma made of its raw form
+        t = re.sub(r"(?<![\w.'-])not-(true|false) \S+ ([^\s(){},;]+\.\1)-raw(?![\w'-])", r"\2", t)
         t = re.sub("⁋⁋(\\d+)⁋⁋", lambda m: shown(*passed[int(m[1])][:2], at[passed[int(m[1])][0]], goal, passed[int(m[1])][2]), t)
         return re.sub(r"((?:After|In|Then|Else|At|Start|Arm)[^\s()]*)(?: (?:invariant|decreases)-[^\s()]*)+", r"\1", t)
 
@@ -279,19 +284,24 @@ def convert(lib, rel, folder, N):
     cited = set()
     def free(t, v, w):
         """v. becomes w., but where a λ binds v."""
-        out, depth, bound, i = "", 0, [], 0
+        out, depth, bound, lets, i = "", 0, [], 0, 0
         while i < len(t):
             m = re.match(r"λ ([^.]*)\. ", t[i:])
             if m and re.search(rf"(?<![^\s(]){re.escape(v)}(?![^\s):])", m[1]):
-                bound.append(depth)
+                bound.append((depth, lets))
                 out, i = out + m[0], i + len(m[0])
                 continue
             ch = t[i]
+            if i == 0 or t[i - 1] in " \n(":
+                lets += bool(re.match(r"let\s", t[i:]))
+                if re.match(r"in\s", t[i:]):
+                    lets -= 1
+                    bound = [b for b in bound if b[1] <= lets]
             if ch in "([{":
                 depth += 1
             if ch in ")]}":
                 depth -= 1
-                bound = [b for b in bound if b <= depth]
+                bound = [b for b in bound if b[0] <= depth]
             if not bound and t.startswith(v + ".", i) and (i == 0 or t[i - 1] in " \n(){};,@"):
                 out, i = out + w + ".", i + len(v) + 1
                 continue
@@ -312,6 +322,7 @@ def convert(lib, rel, folder, N):
                 if a == v:
                     passed[i] = (w, n + k, to)
             rest = re.sub(rf"= {re.escape(v)}⁋(\d+)⁋", lambda m: f"= {w}⁋{int(m[1]) + k}⁋", rest)
+            # the place that a helper takes, where it is passed to one: the steps between may be more or fewer today
             to = next((takes[m[1]] for m in re.finditer(rf"(?<![^\s(){{}};,])([^\s(){{}};,.]+) {re.escape(v)}(?=[\s(){{}};,]|$)", rest) if m[1] in takes), None)
             kept = f"let {v} = {shown(w, k, at[w], goal, to)} in\n    " if free(rest, v, "\0").count("\0\0") else ""
             t = t[: found.start()] + kept + rest

@@ -1,5 +1,7 @@
 // AIS (paper 01, "AIS"): both messages with their calls, what reading either answers, and how many slots one needs. A crate above takes
 // all of it from here; crates.txt names `warning` and `area` beside it there, since the kit asks for the crate that declares a type.
+#![tactic(auto)]
+
 ghost use Rattle.std.specs.Prelude.{◌≡◌};
 ghost use Rattle.ais.specs.Ais.{refusal_as, refusal_of};
 

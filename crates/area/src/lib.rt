@@ -1,4 +1,6 @@
 // Message 6 with application 412/11, an area marked off (paper 01, "AIS"; 003, tables 4 and 38 to 40).
+#![tactic(auto)]
+
 pub use crate::correcting::correct;
 pub use crate::reading::shapes::{Circle, Rectangle, Shape};
 pub use crate::reading::{APPLICATION, Answer, Area, MESSAGE, read};

@@ -1,5 +1,5 @@
 -- The bytes from `from` on, moved to the front one by one: those not yet read are as they were. Assumes nothing.
-use Rattle.std.proofs.Common.{◌≡◌, ℕ, suc, ◌+◌, ◌-◌, ◌<◌, List, ◌++◌, length, get_or, take, drop, set, sym, ap, ◌∙◌, add-one, arith, length-drop, length-take-le, get_or-drop, drop-cons, take-suc, drop_at}
+use Rattle.std.proofs.Common.{◌≡◌, ℕ, suc, ◌+◌, ◌<◌, List, ◌++◌, length, get_or, take, drop, set, sym, ap, ◌∙◌, add-one, arith, length-drop, length-take-le, get_or-drop, drop-cons, take-suc, drop_at}
 use lib.Seq.{set_at, append_snoc}
 
 -- the first i moved

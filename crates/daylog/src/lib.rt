@@ -1,5 +1,7 @@
 // The day log (paper 01, "Day log listing"): what stands in it, its listing a window of the log at a time, and the turns of
 // a program that lists a log.
+#![tactic(auto)]
+
 ghost use Rattle.std.specs.Prelude.{◌≡◌, if◌then◌else◌, nat_eq};
 ghost use Rattle.daylog.specs.Promises.{Lists, Ends, Heads};
 

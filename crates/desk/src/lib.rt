@@ -1,4 +1,6 @@
 // The desk (paper 01, "The desk") over a lent row of places: a packet comes in, a notice is asked for, a notice is dropped. Each call takes the first four places, and one of them may become another.
+#![tactic(auto)]
+
 ghost use Rattle.places.specs.Promises.{Accepts, Asks, Drops};
 
 use format::Refusal;

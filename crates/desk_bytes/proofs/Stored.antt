@@ -1,17 +1,13 @@
 -- Bytes stored one behind another are bytes laid, and a place's are read where they stand. Assumes nothing.
 use mathlib.Core.Path.{◌≡◌, refl, sym, ap, ◌∙◌}
-use mathlib.Core.List.{List, [], ◌∷◌, ◌++◌, append_assoc, append-nil}
+use mathlib.Core.List.{List, [], ◌∷◌, ◌++◌, append_assoc}
 use Prim.Native.Nat.{ℕ, suc, ◌+◌, ◌≤◌, ◌<◌}
 use native.Mathlib.Omega.{arith}
-use lib.ListN.{get_or, length, take, drop, set, length-append, drop_of_length-le}
-use lib.Seq.{get_or-take, get_or-drop, length-take-le, take-length, take_at, drop_at, drop-drop, sets-eq}
+use lib.ListN.{get_or, length, take, drop, set, length-append}
+use lib.Seq.{get_or-take, get_or-drop, length-take-le, take_at, drop_at, drop-drop, sets-eq}
 use Rattle.packet.specs.Packet.{most_packets}
 use Rattle.places.specs.Desk.{laid}
 use Rattle.desk_bytes.specs.Bytes.{place_bytes}
-
--- a copy that covers what was there
-pub copied_whole : (s d : List ℕ) → length d ≤ length s → take (length s) s ++ drop (length s) d ≡ s
-copied_whole s d l = rw (take-length s, drop_of_length-le d l) (append-nil s)
 
 -- laid behind bytes that were laid
 pub laid_more : (s : List ℕ) (at : ℕ) (c d : List ℕ) → at + length c ≤ length s → laid (laid s at c) (at + length c) d ≡ laid s at (c ++ d)

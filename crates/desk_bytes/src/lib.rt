@@ -1,4 +1,6 @@
 // The desk with its places as lent bytes, 67 each: the open mark (0 closed, 1 open), message number, language, total, and a size for each of 63 packets.
+#![tactic(auto)]
+
 ghost use Rattle.std.specs.Prelude.{◌≡◌, cond, ◌≤◌, ◌<◌, length};
 ghost use Rattle.places.specs.Desk.{laid};
 ghost use Rattle.places.specs.Places.{four_places};
@@ -96,7 +98,7 @@ fn place(s: &[u8], i: usize) -> Place
     let at = i * PLACE;
     let mark = s[at];
     let mut sizes: [u8; MOST] = [0; MOST];
-    bytes::copy(&s[at + SIZES..at + PLACE], &mut sizes);
+    sizes.copy_from_slice(&s[at + SIZES..at + PLACE]);
     Place {
         open: mark != 0,
         number: s[at + 1],

@@ -1,4 +1,6 @@
 // What the serial frames share (paper 01, "Serial frames"; 004): `$`, four letters, length, own address, and the seal.
+#![tactic(auto)]
+
 ghost use Rattle.std.specs.Prelude.{◌≡◌, true, cond, ◌+◌, ◌<◌, ◌^◌};
 ghost use Rattle.frame.specs.Frame.{leads, declared as Frame·declared, fits};
 ghost use Rattle.frame.specs.Steps.{headed, head_judged, head_put};

@@ -1,4 +1,6 @@
 // The frame GLJC (paper 01, "Serial frames"): one byte, minutes.
+#![tactic(auto)]
+
 pub use crate::correcting::correct;
 pub use crate::reading::{Answer, Gljc, LETTERS, read};
 pub use crate::writing::write;

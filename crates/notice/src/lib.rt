@@ -1,4 +1,6 @@
 // The notice telegram (paper 01, "Notice and packet"; 000, 5.2.2): reading, writing and correcting it.
+#![tactic(auto)]
+
 pub use crate::correcting::correct;
 pub use crate::reading::{Answer, Notice, Told, read, refusal};
 pub use crate::writing::write;

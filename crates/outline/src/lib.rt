@@ -1,4 +1,6 @@
 // The chart outline of a notice (paper 01, "Notice and packet"): its points in a lent row, in hundredths of a minute.
+#![tactic(auto)]
+
 ghost use Rattle.std.specs.Prelude.{◌≡◌, ◌+◌, ◌*◌, ◌^◌, ◌≤◌, length};
 ghost use Rattle.std.proofs.lemmas.List.Edits.{sets};
 ghost use Rattle.notice_fields.specs.Standing.{front};

@@ -1,7 +1,7 @@
 -- The packet (paper 01, "Notice and packet"; 000, 5.1.2 and 5.2.2.2). Assumes nothing.
 use Rattle.std.specs.Prelude.{ℕ, ◌+◌, ◌-◌, ◌*◌, false, ◌&&◌, List, [], ◌∷◌, length, ◌==◌, slice_index, slice_index_or}
 use Rattle.bits.specs.Bits.{value_of, digits, bits_of, bytes_of, field_at}
-use Rattle.format.specs.Fmt.{Out, accepted, refused, Fmt, end, field, bytes}
+use Rattle.format.specs.Fmt.{Out, accepted, Fmt, end, field, bytes}
 use Rattle.format.specs.Message.{Layout, led, between}
 use Rattle.format.specs.Promises.{answered, refused_by}
 use Rattle.format.specs.Refusals.{bare}

@@ -1,4 +1,6 @@
 // A place of the desk (paper 01, "The desk"), by value; the tests of all four are in `four`.
+#![tactic(auto)]
+
 ghost use Rattle.std.specs.Prelude.{◌≡◌, not, cond, ◌&&◌, [], ◌∷◌, leb, ltb};
 ghost use Rattle.packet.specs.Packet.{most_packets, part_bytes_of};
 ghost use Rattle.places.specs.Places.{every_below, lacks, entry_good, good_place, passes, serves, clash, freed};

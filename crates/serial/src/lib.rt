@@ -1,4 +1,6 @@
 // A serial frame of any kind (paper 01, "Serial frames"): what reading it answers.
+#![tactic(auto)]
+
 ghost use Rattle.std.specs.Prelude.{◌≡◌};
 ghost use Rattle.serial.specs.Serial.{refusal_as, refusal_of};
 

@@ -1,4 +1,6 @@
 // The tide telegram (paper 02, C-11; 000, 5.4): reading, writing and correcting it, and its heights.
+#![tactic(auto)]
+
 pub use crate::correcting::correct;
 pub use crate::lending::{Bounds, limits};
 pub use crate::reading::{Answer, Tide, Told, read};

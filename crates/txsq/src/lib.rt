@@ -1,4 +1,6 @@
 // The frame TXSQ (paper 01, "Serial frames"): content for a receiver.
+#![tactic(auto)]
+
 pub use crate::correcting::correct;
 pub use crate::reading::{Answer, LETTERS, Txsq, content, read};
 pub use crate::writing::write;

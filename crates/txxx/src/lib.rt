@@ -1,4 +1,6 @@
 // The frame TXXX (paper 01, "Serial frames"): content from a sender, with the time.
+#![tactic(auto)]
+
 pub use crate::correcting::correct;
 pub use crate::reading::{Answer, LETTERS, Txxx, content, read};
 pub use crate::writing::write;

@@ -1,4 +1,6 @@
 // Message 8 with application 412/03, a warning (paper 01, "AIS"; 003, tables 5 and 56 to 62).
+#![tactic(auto)]
+
 pub use crate::correcting::correct;
 pub use crate::reading::{APPLICATION, Answer, MESSAGE, Warning, read};
 pub use crate::writing::write;

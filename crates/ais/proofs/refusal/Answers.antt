@@ -7,7 +7,6 @@ use lib.ListN.{length}
 use borrow.Author.Tests.{le-leb, lt-leb}
 use Rattle.bits.specs.Laws.Answers.{got_fits}
 use Rattle.ais.specs.Ais.{refusal_as, refusal_of}
-use borrow.Author.Rules.{rules}
 use Rattle.ais.proofs.refusal.Goals as goal
 
 pub returns-then-s-lt-SMALLEST : goal.returns-then-s-lt-SMALLEST

@@ -8,7 +8,6 @@ use Rattle.area.specs.declared.reading.Answer.TheVariants.{Good as area_good, Re
 use Rattle.warning.specs.Warning.{warnings, record_of as warning_of, refusal_of as warning_refusal}
 use Rattle.warning.specs.declared.reading.Answer.TheVariants.{Good as warning_good, Refused as warning_bad}
 use Rattle.ais.specs.Ais.{refusal_as}
-use borrow.Author.Rules.{rules}
 use Rattle.ais.proofs.refusal_as.Goals as goal
 
 pub returns-then-message-eq-MESSAGE : goal.returns-then-message-eq-MESSAGE

@@ -1,5 +1,5 @@
 -- What a call leaves in the bytes is, read as a row, what it leaves of the row: with this a run of calls over lent bytes is a run over places (desk_runs). Assumes nothing.
-use Rattle.std.specs.Prelude.{◌≡◌, refl, Bool, true, false, not, cond, List, [], ◌∷◌, ◌⊎◌, ℕ, zero, suc, ◌+◌, ◌-◌, ◌≤◌, ◌<◌, eqb, length, take, drop, set}
+use Rattle.std.specs.Prelude.{◌≡◌, refl, Bool, true, false, not, cond, List, [], ◌∷◌, ◌⊎◌, ℕ, zero, suc, ◌+◌, ◌≤◌, ◌<◌, eqb, length, take, drop, set}
 use Rattle.std.proofs.Common.{sym, ap, ◌∙◌, inl, inr, arith, le-leb}
 use Rattle.packet.specs.Packet.{most_packets}
 use Rattle.places.specs.Desk.{Change, applied, laid, accepting, asking, dropping}

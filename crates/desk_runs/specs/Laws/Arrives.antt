@@ -132,7 +132,7 @@ earlier x h (gives_up g e r n code bs a) = (e, r)
 
 before : {d e : Lent} (new h : List (Call × ℕ)) → Run d (new ++ h) e → (e' : Lent) × Run d h e'
 before {d} {e} [] h r = (e, r)
-before (x ∷ new) h r = before new h (earlier x (new ++ h) r).1
+before {d = d} {e = e} (x ∷ new) h r = before {d = d} {e = (earlier x (new ++ h) r).0} new h (earlier x (new ++ h) r).1
 
 calls_append : (new old : List (Call × ℕ)) → calls_of (new ++ old) ≡ calls_of new ++ calls_of old
 unfolding calls_of

@@ -4,7 +4,6 @@ use Prim.Native.Nat.{◌+◌}
 use native.Mathlib.Omega.{arith}
 use borrow.Author.Tests.{lt-ltb, le-ltb}
 use Rattle.frame.specs.Frame.{declared}
-use borrow.Author.Rules.{rules}
 use Rattle.frame.proofs.declared.Goals as goal
 
 pub returns-then-content-fixed : goal.returns-then-content-fixed

@@ -2,7 +2,6 @@
 use mathlib.Core.Path.{ap, ◌∙◌}
 use mathlib.Core.Bool.{true}
 use Rattle.format.specs.Message.{first_of, seal_fault}
-use borrow.Author.Rules.{rules}
 use Rattle.frame.proofs.first.Goals as goal
 
 pub returns : goal.returns

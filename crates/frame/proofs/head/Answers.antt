@@ -2,7 +2,6 @@
 use mathlib.Core.Path.{ap, ◌∙◌}
 use mathlib.Core.Bool.{true, false}
 use Rattle.walk.specs.Reading.{ranged}
-use borrow.Author.Rules.{rules}
 use Rattle.frame.proofs.head.Goals as goal
 
 pub returns : goal.returns

@@ -3,7 +3,6 @@ use mathlib.Core.Path.{ap, ◌∙◌}
 use mathlib.Core.Bool.{false}
 use Rattle.walk.specs.Judging.{valued}
 use Rattle.walk.specs.Walk.{onward}
-use borrow.Author.Rules.{rules}
 use Rattle.frame.proofs.judged.Goals as goal
 
 pub returns : goal.returns

@@ -12,7 +12,6 @@ use Rattle.bits.specs.Bits.{field_at}
 use Rattle.bits.specs.Laws.Answers.{got_fits}
 use Rattle.format.specs.Message.{between}
 use Rattle.frame.specs.Frame.{leads}
-use borrow.Author.Rules.{rules}
 use Rattle.frame.proofs.lead.Goals as goal
 
 -- what stands in the head of at least 12 bytes

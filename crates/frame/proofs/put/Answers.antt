@@ -1,7 +1,6 @@
 -- `put` is four puts, one behind another.
 use mathlib.Core.Path.{ap, ◌∙◌}
 use Rattle.format.specs.Correcting.{put_in, put_in_lem}
-use borrow.Author.Rules.{rules}
 use Rattle.frame.proofs.put.Goals as goal
 
 pub returns : goal.returns

@@ -1,5 +1,5 @@
 -- The frame GLJC is a family of format/specs/Laws/Family, whose theorems are demands 2 and 3; said here of the frame's own promises. Assumes nothing.
-use Rattle.std.specs.Prelude.{◌≡◌, refl, Bool, List, [], ◌∷◌, ◌++◌, ℕ, ◌+◌, ◌*◌, ◌≤◌, ◌<◌, length, get_or, take, drop}
+use Rattle.std.specs.Prelude.{◌≡◌, refl, Bool, List, [], ◌∷◌, ◌++◌, ℕ, ◌+◌, ◌*◌, ◌≤◌, length, get_or, take, drop}
 use Rattle.std.proofs.Common.{sym, ap, ◌∙◌, subst, arith, lit<}
 use Rattle.bits.specs.Bits.{Bytes}
 use Rattle.frame.specs.Laws.Head.{head_numbered}

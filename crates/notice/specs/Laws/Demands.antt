@@ -1,5 +1,5 @@
 -- The notice is a family of format/specs/Laws/Family, whose theorems are demands 2 and 3; said here of the notice's own promises, and once more of the expiry, whose correction must leave the count of areas. Assumes nothing.
-use Rattle.std.specs.Prelude.{◌≡◌, refl, Bool, true, false, ◌&&◌, List, [], ◌∷◌, ◌++◌, ℕ, ◌+◌, ◌*◌, ◌≤◌, ◌<◌, ◌^◌, leb, length, take, drop, get_or}
+use Rattle.std.specs.Prelude.{◌≡◌, refl, Bool, true, false, ◌&&◌, List, [], ◌∷◌, ◌++◌, ℕ, ◌*◌, ◌≤◌, ◌<◌, ◌^◌, leb, length, take, drop, get_or}
 use Rattle.std.proofs.Common.{sym, ap, ap₂, ◌∙◌, subst, append-nil, arith, lit≤, take_at}
 use Rattle.std.proofs.Math.Path.{subst⁻¹}
 use Rattle.bits.specs.Bits.{Bytes, digits, field_at}

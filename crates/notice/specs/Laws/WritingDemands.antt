@@ -19,7 +19,7 @@ use Rattle.notice_fields.specs.Laws.Instances.{some_areas}
 use Rattle.notice_fields.specs.Row.{areas_long, areas_told}
 use Rattle.notice.specs.Changed.{spot_of, changed}
 use Rattle.notice_fields.specs.Terms.{Terms}
-use Rattle.notice.specs.Notice.{notice, notices}
+use Rattle.notice.specs.Notice.{notices}
 use Rattle.notice.specs.Promises.{told_of, Reads}
 use Rattle.notice.specs.Record.{values_of, record_of}
 use Rattle.notice.specs.declared.reading.Answer.TheVariants.{Good}

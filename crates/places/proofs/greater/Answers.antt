@@ -1,6 +1,5 @@
 -- `greater` meets its contract.
 use mathlib.Core.Path.{refl, sym}
-use Prim.Native.Nat.{◌-◌}
 use borrow.Author.Tests.{lt-ltb, le-ltb}
 use Rattle.places.proofs.greater.Goals as goal
 

@@ -1,13 +1,12 @@
 -- `lay` meets its contract: where the part does not fit nothing is done, else the copied part is put back into the whole.
-use Prim.Native.Nat.{ℕ, ◌+◌, ◌-◌}
-use mathlib.Core.List.{List, ◌++◌, append-nil}
+use Prim.Native.Nat.{ℕ, ◌+◌}
+use mathlib.Core.List.{List, ◌++◌}
 use mathlib.Core.Path.{◌≡◌, refl, sym, ap, ap₂, ◌∙◌}
 use native.Mathlib.Omega.{arith}
-use lib.ListN.{length, take, drop, length-drop, drop_of_length-le}
-use lib.Seq.{take_all, take-length, drop-drop}
+use lib.ListN.{length, take, drop}
+use lib.Seq.{drop-drop}
 use borrow.Author.Tests.{le-leb, lt-leb}
 use Rattle.places.specs.Desk.{laid}
-use borrow.Author.Rules.{rules}
 use Rattle.places.proofs.lay.Goals as goal
 
 put_back_lem : (s : List ℕ) (at : ℕ) (c y : List ℕ) (n : ℕ) → y ≡ c → n ≡ length c → take at s ++ (y ++ drop n (drop at s)) ≡ laid s at c

@@ -1,7 +1,5 @@
 -- `size_limit` meets its contract.
 use mathlib.Core.Path.{refl, sym}
-use Prim.Native.Nat.{◌-◌}
-use borrow.Author.Rules.{rules}
 use borrow.Author.Tests.{lt-ltb, le-ltb}
 use Rattle.places.proofs.size_limit.Goals as goal
 

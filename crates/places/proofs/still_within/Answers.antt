@@ -1,7 +1,6 @@
 -- `still_within` meets its contract.
 use mathlib.Core.Path.{sym}
 use mathlib.Core.Bool.{and-true, and-false}
-use Prim.Native.Nat.{◌-◌}
 use borrow.Author.Tests.{le-leb, lt-leb}
 use Rattle.places.proofs.still_within.Goals as goal
 

@@ -1,5 +1,5 @@
 -- A tide's records judged: an entry, a position by its type, a record, and all of them, by the laws on what a row tells. And one turn of each loop, with the code's own numbers. Assumes nothing.
-use Rattle.std.specs.Prelude.{ℕ, ◌+◌, ◌*◌, ◌≤◌, ◌<◌, ◌≡◌, Bool, List, [], ◌∷◌, eqb, drop}
+use Rattle.std.specs.Prelude.{ℕ, ◌+◌, ◌*◌, ◌≤◌, ◌≡◌, Bool, List, [], ◌∷◌, eqb, drop}
 use Rattle.std.proofs.Math.Path.{refl, subst, subst⁻¹}
 use Rattle.std.proofs.Common.{sym, ap, ap₂, ◌∙◌, arith, lit<, lit≤, get_or-drop, eqb-true}
 use Rattle.std.proofs.Math.Bool.{true, false, cond}

@@ -1,5 +1,5 @@
 -- The record of a head's and the records' values is these; the ways in which reading answers; and what the walk over a tide telegram is: reading's answer. Assumes nothing.
-use Rattle.std.specs.Prelude.{◌≡◌, Bool, ◌&&◌, List, [], ◌++◌, ℕ, ◌+◌, ◌≤◌, ◌<◌, ◌^◌, leb, length, drop}
+use Rattle.std.specs.Prelude.{◌≡◌, Bool, ◌&&◌, List, [], ◌++◌, ℕ, ◌≤◌, ◌<◌, ◌^◌, leb, length, drop}
 use Rattle.std.proofs.Math.Path.{refl, sym, subst⁻¹}
 use Rattle.std.proofs.Common.{ap, ◌∙◌, append-nil, zero-add, lit<, lit≤}
 use Rattle.std.proofs.Math.Bool.{true, false, cond}

@@ -3,7 +3,6 @@ use mathlib.Core.Path.{refl}
 use lib.Dec.{lit<}
 use borrow.Author.Tests.{eq-eqb, ne_eqb}
 use Rattle.ais.specs.Slots.{slots_for}
-use borrow.Author.Rules.{rules}
 use Rattle.ais.proofs.slot_count.slots.Goals as goal
 
 pub slots_in-requires : goal.slots_in-requires

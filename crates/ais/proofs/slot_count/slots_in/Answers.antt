@@ -1,10 +1,10 @@
 -- `slots_in` goes along the table: what is left of it decides, from the number that it stands at on.
 use mathlib.Core.Path.{◌≡◌, refl, sym, ap, ◌∙◌}
 use mathlib.Core.Bool.{cond}
-use Prim.Native.Nat.{suc, ◌+◌, ◌-◌, ◌≤◌}
+use Prim.Native.Nat.{suc, ◌+◌}
 use native.Mathlib.Omega.{arith}
 use borrow.Author.Tests.{le-leb, lt-leb, eq-eqb, ne_eqb}
-use lib.ListN.{length, get_or, drop}
+use lib.ListN.{get_or, drop}
 use Rattle.format.specs.Fmt.{accepted, refused}
 use Rattle.ais.specs.Slots.{first_of, slots_in, answer_of}
 use Rattle.ais.specs.declared.slot_count.Needed.TheVariants.{Slots}

@@ -3,7 +3,6 @@ use mathlib.Core.Path.{refl}
 use native.Mathlib.Omega.{arith}
 use borrow.Author.Tests.{le-leb, lt-leb}
 use Rattle.ais_common.specs.Lead.{told}
-use borrow.Author.Rules.{rules}
 use Rattle.ais_common.proofs.head.lead.Goals as goal
 
 pub returns-then-len-lt-SMALLEST : goal.returns-then-len-lt-SMALLEST

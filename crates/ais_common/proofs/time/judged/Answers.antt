@@ -5,7 +5,6 @@ use Rattle.format.specs.Words.{◌‥◌}
 use Rattle.walk.specs.Pieces.{pieced, piecewise}
 use Rattle.walk.specs.Reading.{grouped}
 use Rattle.ais_common.specs.Time.{date_parts}
-use borrow.Author.Rules.{rules}
 use Rattle.ais_common.proofs.time.judged.Goals as goal
 
 pub returns : goal.returns

@@ -3,7 +3,6 @@ use mathlib.Core.List.{[]}
 use mathlib.Core.Path.{ap, ◌∙◌}
 use Rattle.format.specs.Words.{◌‥◌}
 use Rattle.walk.specs.Pieces.{pieced, piecewise}
-use borrow.Author.Rules.{rules}
 use Rattle.ais_common.proofs.time.judged_date.Goals as goal
 
 pub returns : goal.returns

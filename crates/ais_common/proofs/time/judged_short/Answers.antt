@@ -4,7 +4,6 @@ use mathlib.Core.Path.{ap, ◌∙◌}
 use Rattle.walk.specs.Pieces.{piecewise}
 use Rattle.walk.specs.Reading.{grouped}
 use Rattle.ais_common.specs.Time.{date_parts}
-use borrow.Author.Rules.{rules}
 use Rattle.ais_common.proofs.time.judged_short.Goals as goal
 
 pub returns : goal.returns

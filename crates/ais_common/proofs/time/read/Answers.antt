@@ -3,7 +3,6 @@ use mathlib.Core.Path.{ap, ◌∙◌}
 use Rattle.walk.specs.Walk.{onward}
 use Rattle.walk.specs.Laws.Reading.{got_lt}
 use Rattle.ais_common.specs.Steps.{time_judged}
-use borrow.Author.Rules.{rules}
 use Rattle.ais_common.proofs.time.read.Goals as goal
 
 pub returns : goal.returns

@@ -7,7 +7,6 @@ use Rattle.area.specs.Area.{areas, record_of, refusal_of}
 use Rattle.area.specs.Changed.{field_of}
 use Rattle.area.specs.Laws.Demands.{family, looked_stands}
 use Rattle.area.specs.declared.reading.Answer.TheVariants.{Good, Refused}
-use borrow.Author.Rules.{rules}
 use Rattle.area.proofs.correcting.correct.Goals as goal
 
 -- the message was refused

@@ -3,7 +3,6 @@ use mathlib.Core.Path.{◌≡◌, refl, ap, ◌∙◌}
 use borrow.Author.Tests.{ne_eqb}
 use Rattle.area.specs.Changed.{own_spot}
 use Rattle.area.specs.Shapes.{rectangle, kind_of}
-use borrow.Author.Rules.{rules}
 use Rattle.area.proofs.correcting.own.Goals as goal
 
 pub returns-in-1 : goal.returns-in-1

@@ -4,7 +4,6 @@ use lib.Dec.{lit≤}
 use Rattle.format.specs.Laws.Spots.{Unnamed}
 use Rattle.area.specs.Shapes.{kind_of}
 use Rattle.area.specs.Laws.Correction.{common_found, not_every}
-use borrow.Author.Rules.{rules}
 use Rattle.area.proofs.correcting.stands.Goals as goal
 
 pub returns-in-1 : goal.returns-in-1

@@ -18,9 +18,6 @@ use Rattle.area.specs.Laws.Told.{recorded}
 use Rattle.area.specs.declared.reading.Area.{Area}
 use Rattle.area.specs.declared.reading.Answer.{Answer}
 use Rattle.area.specs.declared.reading.Answer.TheVariants.{Good, Refused}
-use borrow.Author.Rules.{rules}
-use Rattle.ais_common.proofs.time.ShortTime.of.Reads as ShortTime-of-reads
-use Rattle.ais_common.proofs.time.Time.of.Reads as Time-of-reads
 use Rattle.area.proofs.reading.fields.Goals.{Else-s-ne-LEAST}
 use Rattle.area.proofs.reading.fields.Goals as goal
 

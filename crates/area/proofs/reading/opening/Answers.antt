@@ -14,7 +14,6 @@ use Rattle.area.specs.Area.{tail, area}
 use Rattle.area.specs.Shapes.{kind_of, shape}
 use Rattle.area.specs.Steps.{OpeningRead}
 use Rattle.area.specs.declared.reading.Opened.{Opened}
-use borrow.Author.Rules.{rules}
 use Rattle.area.proofs.reading.opening.Goals.{After-code-w-2, After-fill, After-num-w, After-num-w-2, After-num-w-3, After-num-w-4, After-num-w-5}
 use Rattle.area.proofs.reading.opening.Goals as goal
 

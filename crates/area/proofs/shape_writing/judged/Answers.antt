@@ -1,5 +1,4 @@
 -- `judged` goes by the shape's variant.
-use borrow.Author.Rules.{rules}
 use Rattle.area.proofs.shape_writing.judged.Goals as goal
 
 pub returns-in-Circle : goal.returns-in-Circle

@@ -3,7 +3,6 @@ use mir.Syntax.{w32}
 use mir.ValLaws.{to_z-of_z}
 use lib.Dec.{lit<}
 use Rattle.walk.specs.Laws.Judging.{judge_num, judge_fixed}
-use borrow.Author.Rules.{rules}
 use Rattle.area.proofs.shape_writing.judged_circle.Goals as goal
 
 pub returns : goal.returns

@@ -6,7 +6,6 @@ use Prim.Native.Nat.{◌^◌}
 use Rattle.walk.specs.Judging.{signedly_valued}
 use Rattle.walk.specs.Laws.Judging.{judge_signed}
 use Rattle.area.specs.Shapes.{spell_east, spell_north}
-use borrow.Author.Rules.{rules}
 use Rattle.area.proofs.shape_writing.judged_point.Goals as goal
 
 pub returns : goal.returns

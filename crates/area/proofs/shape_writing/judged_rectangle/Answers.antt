@@ -2,7 +2,6 @@
 use mir.Syntax.{w32}
 use mir.ValLaws.{to_z-of_z}
 use lib.Dec.{lit<}
-use borrow.Author.Rules.{rules}
 use Rattle.area.proofs.shape_writing.judged_rectangle.Goals as goal
 
 pub returns : goal.returns

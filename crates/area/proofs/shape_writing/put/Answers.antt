@@ -1,5 +1,4 @@
 -- `put` goes by the shape's variant.
-use borrow.Author.Rules.{rules}
 use Rattle.area.proofs.shape_writing.put.Goals as goal
 
 pub returns-in-Circle : goal.returns-in-Circle

@@ -8,7 +8,6 @@ use Rattle.format.specs.Correcting.{put_in_lem}
 use Rattle.format.specs.Laws.Extent.{opens_field}
 use Rattle.format.proofs.Laws.Putting.{put_step, put_pair}
 use Rattle.area.specs.Shapes.{spell_east, spell_north}
-use borrow.Author.Rules.{rules}
 use Rattle.area.proofs.shape_writing.put_circle.Goals as goal
 
 pub returns : goal.returns

@@ -6,7 +6,6 @@ use lib.Dec.{lit≤}
 use Rattle.ais_common.specs.Laws.Walking.{put_told}
 use Rattle.format.specs.Laws.Extent.{opens_field}
 use Rattle.area.specs.Shapes.{spell_east, spell_north}
-use borrow.Author.Rules.{rules}
 use Rattle.area.proofs.shape_writing.put_rectangle.Goals as goal
 
 pub returns : goal.returns

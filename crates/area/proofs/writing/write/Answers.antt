@@ -4,9 +4,6 @@ use Rattle.format.specs.Promises.{Writes}
 use Rattle.format.specs.Refusals.{bare}
 use Rattle.walk.specs.Laws.Making.{closing_told, write_refused, write_bare}
 use Rattle.area.specs.Area.{areas, values_as}
-use borrow.Author.Rules.{rules}
-use Rattle.ais_common.proofs.time.ShortTime.spelled.Reads as ShortTime-spelled-reads
-use Rattle.ais_common.proofs.time.Time.spelled.Reads as Time-spelled-reads
 use Rattle.area.proofs.writing.write.Goals as goal
 
 pub returns-then-refusal-ne0 : goal.returns-then-refusal-ne0

@@ -5,7 +5,6 @@ use native.Mathlib.Nat.{lt_of_lt_of_le}
 use lib.Pow.{pow_mono}
 use borrow.Author.Tests.{eq-eqb, ne_eqb, lt-ltb, le-ltb}
 use Rattle.bits.specs.Laws.Digits.{small, large}
-use borrow.Author.Rules.{rules}
 use Rattle.change.proofs.correcting.admits.Goals as goal
 
 pub returns-then-refusal-ne0 : goal.returns-then-refusal-ne0

@@ -2,7 +2,6 @@
 use mathlib.Core.Path.{refl}
 use Rattle.format.specs.Correcting.{put_in_lem}
 use borrow.Author.Tests.{eq-eqb, ne_eqb}
-use borrow.Author.Rules.{rules}
 use Rattle.change.proofs.correcting.finish.Goals as goal
 
 pub returns-then-first-ne0 : goal.returns-then-first-ne0

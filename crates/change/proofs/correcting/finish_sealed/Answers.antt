@@ -8,7 +8,6 @@ use Rattle.format.specs.Correcting.{Finishes}
 use Rattle.format.specs.declared.Refusal.{Refusal}
 use Rattle.format.specs.Sealing.{resealed}
 use borrow.Author.Tests.{eqb-true, eqb-false}
-use borrow.Author.Rules.{rules}
 use Rattle.change.proofs.correcting.finish_sealed.Goals as goal
 
 closes : {code : Refusal} {at width old : ℕ} {d last : Refusal} {t y x : List ℕ} → Finishes false code at width old d t last y → (last.code ≡ 0 → x ≡ resealed y) → ((last.code ≡ 0 → ⊥) → x ≡ y) → Finishes true code at width old d t last x

@@ -1,6 +1,5 @@
 -- `fill`: what a put of no more than seven zero bits leaves.
 use Rattle.format.specs.Correcting.{put_in_lem}
-use borrow.Author.Rules.{rules}
 use Rattle.change.proofs.putting.fill.Goals as goal
 
 pub returns : goal.returns

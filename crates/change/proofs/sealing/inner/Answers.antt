@@ -4,7 +4,6 @@ use native.Mathlib.Omega.{arith}
 use lib.Seq.{length-take-le}
 use mathlib.Core.Path.{ap}
 use lib.ListN.{take}
-use borrow.Author.Rules.{rules}
 use Rattle.change.proofs.sealing.inner.Goals as goal
 
 pub slice_bounds-result-end : goal.slice_bounds-result-end

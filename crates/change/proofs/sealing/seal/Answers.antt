@@ -2,7 +2,6 @@
 use mathlib.Core.Path.{ap, ◌∙◌}
 use Rattle.format.specs.Sealing.{stamped}
 use Rattle.format.specs.Laws.Sealing.{stamp_last}
-use borrow.Author.Rules.{rules}
 use Rattle.change.proofs.sealing.seal.Goals.{After-one_less-n}
 use Rattle.change.proofs.sealing.seal.Goals as goal
 

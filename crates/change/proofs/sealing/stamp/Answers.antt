@@ -3,7 +3,6 @@ use mathlib.Core.Path.{sym}
 use native.Mathlib.Omega.{arith}
 use lib.Seq.{length-take-le}
 use Rattle.format.specs.Laws.Sealing.{set_stamp, stamp_past}
-use borrow.Author.Rules.{rules}
 use Rattle.change.proofs.sealing.stamp.Goals as goal
 
 pub slice_bounds-xor-end-then-n-buf : goal.slice_bounds-xor-end-then-n-buf

@@ -8,7 +8,6 @@ use Prim.Native.Nat.{◌-◌}
 use lib.ListN.{length, get_or}
 use borrow.Author.Tests.{eq-eqb, ne_eqb}
 use Rattle.format.specs.Laws.Sealing.{first_past, stamp_none, stamp_is}
-use borrow.Author.Rules.{rules}
 use Rattle.change.proofs.sealing.tested.Goals as goal
 
 pub returns-then-code-ne0 : goal.returns-then-code-ne0

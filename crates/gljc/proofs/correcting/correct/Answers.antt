@@ -6,7 +6,6 @@ use Rattle.gljc.specs.Gljc.{gljcs, record_of, refusal_of}
 use Rattle.gljc.specs.Laws.Correction.{spotted}
 use Rattle.gljc.specs.Laws.Demands.{family}
 use Rattle.gljc.specs.declared.reading.Answer.TheVariants.{Good, Refused}
-use borrow.Author.Rules.{rules}
 use Rattle.gljc.proofs.correcting.correct.Goals as goal
 
 -- the frame was refused

@@ -10,7 +10,6 @@ use native.Mathlib.Omega.{arith}
 use Rattle.format.specs.Laws.Lead.{exact_fields, other_size}
 use Rattle.gljc.specs.Gljc.{letters, gljc, record_of, answer_of}
 use Rattle.gljc.specs.declared.reading.Answer.TheVariants.{Good, Refused}
-use borrow.Author.Rules.{rules}
 use Rattle.gljc.proofs.reading.fields.Goals as goal
 
 pub returns-then-s-ne-SEALED : goal.returns-then-s-ne-SEALED

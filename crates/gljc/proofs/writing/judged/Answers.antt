@@ -4,7 +4,6 @@ use lib.Dec.{lit<, lit≤}
 use Rattle.frame.specs.Laws.Head.{head_judged_lem}
 use Rattle.walk.specs.Laws.Judging.{judge_num, judge_end}
 use Rattle.gljc.specs.Gljc.{letters, gljc, values_of}
-use borrow.Author.Rules.{rules}
 use Rattle.gljc.proofs.writing.judged.Goals as goal
 
 pub returns : goal.returns

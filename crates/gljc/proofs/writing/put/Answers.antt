@@ -6,8 +6,6 @@ use Rattle.frame.specs.Laws.Head.{head_put_lem}
 use Rattle.format.specs.Laws.Putting.{put_start, put_end}
 use Rattle.format.proofs.Laws.Putting.{put_step}
 use Rattle.gljc.specs.Gljc.{letters, gljc, values_of}
-use borrow.Author.Rules.{rules}
-use Rattle.frame.proofs.put.Reads as put_reads'
 use Rattle.gljc.proofs.writing.put.Goals as goal
 
 pub returns : goal.returns

@@ -5,7 +5,6 @@ use Rattle.format.proofs.Laws.Correcting.{in_place}
 use Rattle.notice.specs.Notice.{ours, notices}
 use Rattle.notice.specs.Laws.Sound.{sound, judged}
 use Rattle.notice.specs.Laws.Told.{walked_refusal, stands, fields_again, fields_are}
-use borrow.Author.Rules.{rules}
 use Rattle.notice.proofs.correcting.correct.Goals as goal
 
 -- the walk finds no wide field

@@ -9,7 +9,6 @@ use Rattle.format.specs.Fmt.{Spot, none}
 use Rattle.format.specs.Laws.Spots.{Unnamed}
 use Rattle.notice.specs.Changed.{spots}
 use Rattle.notice.specs.Laws.Correction.{not_head}
-use borrow.Author.Rules.{rules}
 use Rattle.notice.proofs.correcting.stands.Goals as goal
 
 -- what the definition finds of a number that is k, x being what the walk found

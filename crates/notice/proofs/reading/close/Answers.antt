@@ -1,10 +1,9 @@
 -- `close` walks over the text and the end, unless something was refused before.
-use Prim.Native.Nat.{ℕ, ◌-◌, ◌*◌}
+use Prim.Native.Nat.{ℕ, ◌*◌}
 use mathlib.Core.Path.{◌≡◌, sym, ap, ◌∙◌}
 use mathlib.Core.Bool.{false, cond, ◌&&◌}
 use native.Mathlib.Omega.{arith}
 use lib.ListN.{length}
-use borrow.Author.Rules.{rules}
 use Rattle.bits.specs.Answers.{spanned}
 use Rattle.bits.specs.Bits.{bytes_at}
 use Rattle.walk.specs.Reading.{ended}

@@ -1,7 +1,5 @@
 -- `fields` is the walk over the head, the areas and the text, joined, behind the size's test.
-use Prim.Native.Nat.{◌-◌}
 use mathlib.Core.Path.{sym, ap, ◌∙◌}
-use borrow.Author.Rules.{rules}
 use borrow.Author.Tests.{eq-eqb, ne_eqb}
 use Rattle.notice.specs.Notice.{sizes}
 use Rattle.notice.specs.Steps.{ending_of, unread_by, behind, course_of}

@@ -1,8 +1,6 @@
 -- `head` walks up to the areas: one step a field, the subtype by its limits.
-use Prim.Native.Nat.{◌-◌}
 use mathlib.Core.Path.{ap, ap₂, ◌∙◌}
 use mathlib.Core.Bool.{true, false}
-use borrow.Author.Rules.{rules}
 use Rattle.walk.specs.Reading.{ranged}
 use Rattle.walk.specs.declared.walk.Walk.{Walk}
 use Rattle.notice_fields.specs.PartsSteps.{least_subtype, most_subtype, expiry_read}

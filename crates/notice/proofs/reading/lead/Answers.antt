@@ -1,5 +1,4 @@
 -- `lead` gives the size's answer: each way out decides the tests before it.
-use Prim.Native.Nat.{◌-◌}
 use mathlib.Core.Path.{refl}
 use native.Mathlib.Omega.{arith}
 use lib.ListN.{length}

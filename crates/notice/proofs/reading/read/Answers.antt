@@ -1,9 +1,8 @@
 -- `read` answers as the walk does, then by room; the numbers and the text go to the front of what is lent.
-use Prim.Native.Nat.{◌-◌, ◌≤◌, ◌<◌}
+use Prim.Native.Nat.{◌≤◌, ◌<◌}
 use mathlib.Core.Path.{◌≡◌, sym, ap, ap₂, ◌∙◌}
 use native.Mathlib.Omega.{arith}
 use lib.ListN.{length}
-use borrow.Author.Rules.{rules}
 use Rattle.bits.specs.Bits.{bytes_at}
 use Rattle.bits.specs.Laws.Runs.{length_run}
 use Rattle.format.specs.Fmt.{also}
@@ -11,7 +10,6 @@ use Rattle.notice_fields.specs.Standing.{front, areas_at}
 use Rattle.notice.specs.Record.{record_of}
 use Rattle.notice.specs.Laws.Told.{reads_refused, reads_few, reads_short, reads_good, stored, kept_row, copied, walked_good, walked_bad, fields_are}
 use Rattle.notice.specs.declared.reading.Answer.TheVariants.{Good}
-use borrow.Author.Rules.{rules}
 use Rattle.notice.specs.Notice.{ours}
 use Rattle.notice.proofs.reading.read.Goals as goal
 

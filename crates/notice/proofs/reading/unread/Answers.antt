@@ -2,7 +2,6 @@
 use mathlib.Core.Path.{ap}
 use Rattle.notice.specs.Steps.{unread_by}
 use Rattle.walk.specs.declared.walk.Walk.{Walk}
-use borrow.Author.Rules.{rules}
 use Rattle.notice.proofs.reading.unread.Goals as goal
 
 pub returns : goal.returns

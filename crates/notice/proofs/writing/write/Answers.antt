@@ -1,8 +1,6 @@
 -- `write` answers as the judging, the size and the room decide; then all of it is put.
-use Prim.Native.Nat.{◌-◌}
 use mathlib.Core.List.{[]}
 use native.Mathlib.Omega.{arith}
-use borrow.Author.Rules.{rules}
 use Rattle.format.proofs.Laws.Legal.{legal}
 use Rattle.notice.specs.Notice.{ours, notice as Notice·notice}
 use Rattle.notice.specs.Record.{values_of}

@@ -1,5 +1,5 @@
 -- `content` is the part of a good packet where its content stands.
-use Rattle.std.proofs.Common.{arith, rules}
+use Rattle.std.proofs.Common.{arith}
 use Rattle.packet.specs.Laws.Shown.{hidden, shown}
 use Rattle.packet.proofs.reading.content.Goals as goal
 

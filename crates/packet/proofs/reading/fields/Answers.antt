@@ -1,5 +1,5 @@
 -- `fields` walks the packet as its layout stands: one step a field, then the record is that of the values.
-use Rattle.std.proofs.Common.{◌≡◌, ℕ, ◌-◌, ◌*◌, ◌≤◌, true, List, [], ◌∷◌, length, sym, refl, ap, ◌∙◌, arith, lit<, lit≤, rules}
+use Rattle.std.proofs.Common.{◌≡◌, ℕ, ◌-◌, ◌*◌, ◌≤◌, true, List, [], ◌∷◌, length, sym, refl, ap, ◌∙◌, arith, lit<, lit≤}
 use Rattle.bits.specs.Bits.{bits_of}
 use Rattle.walk.specs.Faults.{wholly}
 use Rattle.format.specs.Fmt.{also, read}

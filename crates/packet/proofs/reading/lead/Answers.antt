@@ -1,5 +1,5 @@
 -- `lead` gives 01's first tests: each way out decides the tests before it.
-use Rattle.std.proofs.Common.{◌≡◌, length, sym, refl, ◌∙◌, arith, lit≤, rules, eq-eqb, ne_eqb, le-leb}
+use Rattle.std.proofs.Common.{◌≡◌, length, sym, refl, ◌∙◌, arith, lit≤, eq-eqb, ne_eqb, le-leb}
 use borrow.Author.Tests.{lt-leb}
 use Rattle.bits.specs.Laws.Answers.{got_fits}
 use Rattle.bits.specs.Bits.{field_at}

@@ -1,5 +1,5 @@
 -- `read` is the fields behind the first tests, or what these refused.
-use Rattle.std.proofs.Common.{sym, ap, ◌∙◌, rules}
+use Rattle.std.proofs.Common.{sym, ap, ◌∙◌}
 use Rattle.format.specs.Fmt.{also}
 use Rattle.format.specs.Laws.Answers.{led_so}
 use Rattle.format.specs.Laws.Lead.{read_first, sized_fields}

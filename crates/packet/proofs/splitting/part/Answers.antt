@@ -1,5 +1,5 @@
 -- `part` is what is left from the packet's first byte on, or the front of that.
-use Rattle.std.proofs.Common.{◌-◌, ◌*◌, length, take, drop, sym, ap, ◌∙◌, arith, length-drop, length-take, length-take-le, take_all, rules}
+use Rattle.std.proofs.Common.{◌-◌, ◌*◌, length, take, drop, sym, ap, ◌∙◌, arith, length-drop, length-take, length-take-le, take_all}
 use Rattle.packet.specs.Packet.{part_bytes_of}
 use Rattle.packet.proofs.splitting.part.Goals as goal
 

@@ -1,5 +1,5 @@
 -- `split` tests the size and the packet's number, and then is the writing of that packet.
-use Rattle.std.proofs.Common.{◌≡◌, ◌+◌, ◌-◌, ◌/◌, length, sym, refl, ap, ◌∙◌, arith, rules, le-ltb, lt-ltb, le-leb}
+use Rattle.std.proofs.Common.{◌≡◌, ◌+◌, ◌-◌, ◌/◌, length, sym, refl, ap, ◌∙◌, arith, le-ltb, lt-ltb, le-leb}
 use mathlib.Core.Bool.{and-false}
 use borrow.Author.Tests.{lt-leb}
 use Rattle.format.specs.Fmt.{refused}

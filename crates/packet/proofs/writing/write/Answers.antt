@@ -1,5 +1,5 @@
 -- `write` answers as the walk over the head, the content's size and the room decide.
-use Rattle.std.proofs.Common.{refl, rules}
+use Rattle.std.proofs.Common.{refl}
 use Rattle.walk.specs.Laws.Making.{write_refused, write_bare}
 use Rattle.packet.specs.Packet.{packets, values_of}
 use Rattle.packet.proofs.writing.write.Goals as goal

@@ -1,8 +1,5 @@
 -- `Place::clashes` meets its contract.
 use mathlib.Core.Path.{refl, sym, ◌∙◌}
-use Prim.Native.Nat.{◌-◌}
-use borrow.Author.Rules.{rules}
-use Rattle.places.specs.Places.{serves}
 use Rattle.places.proofs.Place.clashes.Goals as goal
 
 pub returns-then-other : goal.returns-then-other

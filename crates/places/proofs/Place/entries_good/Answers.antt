@@ -1,10 +1,8 @@
 -- `Place::entries_good` meets its contract: of the entries below k, whether all are good, and whether the greatest is 0.
 use mathlib.Core.Path.{◌≡◌, refl, sym, ap, ap₂, ◌∙◌}
 use mathlib.Core.Bool.{true, false, ◌&&◌}
-use Prim.Native.Nat.{◌-◌, ◌≤◌}
 use native.Mathlib.Omega.{arith}
 use lib.Dec.{eqb, leb}
-use borrow.Author.Rules.{rules}
 use borrow.Author.Tests.{eq-eqb, ne_eqb}
 use Rattle.packet.specs.Packet.{most_packets}
 use Rattle.places.specs.Places.{every_below, held, lacks, entry_good}

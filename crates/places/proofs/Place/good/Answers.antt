@@ -1,8 +1,6 @@
 -- `Place::good` meets its contract: the total, then the entries.
 use mathlib.Core.Path.{refl, sym, ◌∙◌}
-use Prim.Native.Nat.{◌-◌}
 use native.Mathlib.Omega.{arith}
-use borrow.Author.Rules.{rules}
 use borrow.Author.Tests.{le-leb, lt-leb}
 use Rattle.packet.specs.Packet.{most_packets}
 use Rattle.places.specs.Places.{good_place}

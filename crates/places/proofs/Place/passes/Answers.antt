@@ -1,8 +1,5 @@
 -- `Place::passes` meets its contract.
 use mathlib.Core.Path.{refl, sym, ◌∙◌}
-use Prim.Native.Nat.{◌-◌}
-use borrow.Author.Rules.{rules}
-use Rattle.places.specs.Places.{passes}
 use Rattle.places.proofs.Place.passes.Goals as goal
 
 pub returns-then-self : goal.returns-then-self

@@ -1,7 +1,5 @@
 -- `Place::serves` meets its contract.
 use mathlib.Core.Path.{refl, sym}
-use Prim.Native.Nat.{◌-◌}
-use Rattle.places.specs.Places.{serves}
 use Rattle.places.proofs.Place.serves.Goals as goal
 
 pub returns-then-self : goal.returns-then-self

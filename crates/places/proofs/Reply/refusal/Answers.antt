@@ -1,7 +1,6 @@
 -- `refusal` goes by the reply: what is not refused has none, or 9.
 use mathlib.Core.Path.{sym, ap}
 use Rattle.places.specs.Desk.{refusal_of}
-use borrow.Author.Rules.{rules}
 use Rattle.places.proofs.Reply.refusal.Goals as goal
 
 pub returns-in-Done : goal.returns-in-Done

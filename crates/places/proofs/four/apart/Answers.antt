@@ -1,7 +1,5 @@
 -- `apart` meets its contract: each pair is asked in turn.
 use mathlib.Core.Path.{refl, sym, ◌∙◌}
-use Prim.Native.Nat.{◌-◌}
-use borrow.Author.Rules.{rules}
 use Rattle.places.specs.Laws.Four.{apart_four}
 use Rattle.places.proofs.four.apart.Goals as goal
 

@@ -1,7 +1,5 @@
 -- `first_tests` meets its contract: four places are a row long enough.
 use mathlib.Core.Path.{refl, sym, ◌∙◌}
-use Prim.Native.Nat.{◌-◌}
-use borrow.Author.Rules.{rules}
 use borrow.Author.Tests.{le-leb, lt-leb}
 use Rattle.places.specs.Desk.{first_tests}
 use Rattle.places.proofs.four.first_tests.Goals as goal

@@ -1,6 +1,5 @@
 -- `free_at` meets its contract: each place is asked in turn.
 use mathlib.Core.Path.{refl, sym, ◌∙◌}
-use Prim.Native.Nat.{◌-◌}
 use Rattle.places.specs.Laws.Four.{free_four}
 use Rattle.places.proofs.four.free_at.Goals as goal
 

@@ -1,8 +1,5 @@
 -- `open_at` meets its contract: each place is asked in turn.
 use mathlib.Core.Path.{refl, sym, ◌∙◌}
-use Prim.Native.Nat.{◌-◌}
-use borrow.Author.Rules.{rules}
-use Rattle.places.specs.Places.{serves}
 use Rattle.places.specs.Laws.Four.{open_four}
 use Rattle.places.proofs.four.open_at.Goals as goal
 

@@ -1,6 +1,5 @@
 -- `place_at` meets its contract: each number in turn.
 use mathlib.Core.Path.{refl, sym}
-use Prim.Native.Nat.{◌-◌}
 use native.Mathlib.Omega.{arith}
 use borrow.Author.Tests.{le-ltb}
 use Rattle.places.proofs.four.place_at.Goals as goal

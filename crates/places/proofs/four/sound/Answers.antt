@@ -1,9 +1,5 @@
 -- `sound` meets its contract: the pairs, then each place in turn.
 use mathlib.Core.Path.{refl, sym, ◌∙◌}
-use Prim.Native.Nat.{◌-◌}
-use borrow.Author.Rules.{rules}
-use borrow.Author.Tests.{not-true, not-false}
-use Rattle.places.specs.Places.{passes}
 use Rattle.places.specs.Laws.Four.{good_four}
 use Rattle.places.proofs.four.sound.Goals as goal
 

@@ -8,12 +8,11 @@ use Rattle.sentence.specs.Spelling.{closing_of}
 use Rattle.sentence.specs.Pattern.{opening, summed_up}
 use Rattle.sentence.specs.Laws.Front.{all_laid}
 use Rattle.sentence.specs.Laws.Parts.{summed_long}
-use borrow.Author.Rules.{rules}
-use Rattle.sentence.proofs.laying.lay.Goals.{After-slice_known-1, Start}
+use Rattle.sentence.proofs.laying.lay.Goals.{Start}
 use Rattle.sentence.proofs.laying.lay.Goals as goal
 
 size : (c : Start) → length c.args.bytes ≡ 17
-size c = c.well-formed.1.1.0.1.0.1
+size c = omega arith
 
 pub returns-then-buf-lt-AROUND : goal.returns-then-buf-lt-AROUND
 returns-then-buf-lt-AROUND c = let a = (goal.at.returns-then-buf-lt-AROUND c).Start in
@@ -26,7 +25,7 @@ returns-then-buf-digits c = let a = (goal.at.returns-then-buf-digits c).Start in
     (sym (lt-leb (length (summed_up (opening c.args.digits.now c.args.bytes))) (length c.args.buf.now) (omega arith)), refl)
 
 pub returns : goal.returns
-returns c = let a = (goal.at.returns c).After-slice_known-1 in
+returns c = let a = (goal.at.returns c).Start in
     let ds = c.args.digits.now in
     let mark = 7 + length ds in
     let n = summed_long ds c.args.bytes (size a) in (

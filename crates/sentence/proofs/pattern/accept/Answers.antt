@@ -1,17 +1,15 @@
 -- `accept`: the first tests give the size, which the parts' chars need; each way out is one case of the definition.
-use borrow.Author.Rules.{rules}
 use mathlib.Core.Path.{◌≡◌, refl, sym, ap, ◌∙◌}
 use mathlib.Core.Bool.{true}
 use Rattle.sentence.specs.declared.pattern.Around.TheVariants.{Accepted}
 use Prim.Native.Nat.{◌≤◌, ◌-◌}
 use native.Mathlib.Omega.{arith}
 use lib.ListN.{length}
-use borrow.Author.Tests.{not-true, not-false}
 use Rattle.sentence.specs.Spelling.{all_digits}
 use Rattle.sentence.specs.Pattern.{same_bytes, inner_mark, inner_part, hex_part, address_part, around_of, lead_of}
 use Rattle.sentence.specs.Laws.Parts.{length_part}
 use Rattle.sentence.specs.Laws.Tests.{led, around_led, around_unlike, around_like, pattern_is, address_none, address_some}
-use Rattle.sentence.proofs.pattern.accept.Goals.{After-same-arg-1, Else-code-ne0, Else-not-all_digits, Else-not-same}
+use Rattle.sentence.proofs.pattern.accept.Goals.{Else-code-ne0, Else-not-all_digits, Else-not-same}
 use Rattle.sentence.proofs.pattern.accept.Goals as goal
 
 -- what stands after the first tests
@@ -22,10 +20,10 @@ long : (c : Else-code-ne0) → 54 ≤ length c.args.s.now
 long c = (led c.args.s.now (first c)).least
 
 marked : (c : Else-not-same) → same_bytes (inner_part c.args.s.now) inner_mark ≡ true
-marked c = sym c.same.ensures ∙ not-false c.same.result c.if-not-same.false
+marked c = sym c.same.ensures ∙ c.if-not-same.false
 
 figured : (c : Else-not-all_digits) → all_digits 16 (hex_part c.args.s.now) ≡ true
-figured c = sym c.all_digits.ensures ∙ not-false c.all_digits.result c.if-not-all_digits.false
+figured c = sym c.all_digits.ensures ∙ c.if-not-all_digits.false
 
 pub returns-then-code-ne0 : goal.returns-then-code-ne0
 returns-then-code-ne0 c =
@@ -48,9 +46,9 @@ slice_bounds-same-end c = omega (arith, long c)
 
 pub returns-then-not-same : goal.returns-then-not-same
 returns-then-not-same c =
-    let e = (goal.at.returns-then-not-same c).After-same-arg-1 in
+    let e = (goal.at.returns-then-not-same c).Else-code-ne0 in
     let s = c.args.s.now in
-    sym (ap around_of (around_unlike s (first e) (pattern_is s (sym c.same.ensures ∙ not-true c.same.result c.if-not-same.true) refl refl)))
+    sym (ap around_of (around_unlike s (first e) (pattern_is s (sym c.same.ensures ∙ c.if-not-same.true) refl refl)))
 
 pub overflow_sub-n-3 : goal.overflow_sub-n-3
 overflow_sub-n-3 c = omega (arith, long (goal.at.overflow_sub-n-3 c).Else-code-ne0)
@@ -61,9 +59,9 @@ overflow_sub-n-4 c = omega (arith, long (goal.at.overflow_sub-n-4 c).Else-code-n
 pub returns-then-not-all_digits : goal.returns-then-not-all_digits
 returns-then-not-all_digits c =
     let m = (goal.at.returns-then-not-all_digits c).Else-not-same in
-    let e = (goal.at.returns-then-not-all_digits c).After-same-arg-1 in
+    let e = (goal.at.returns-then-not-all_digits c).Else-code-ne0 in
     let s = c.args.s.now in
-    sym (ap around_of (around_unlike s (first e) (pattern_is s (marked m) (sym c.all_digits.ensures ∙ not-true c.all_digits.result c.if-not-all_digits.true) refl)))
+    sym (ap around_of (around_unlike s (first e) (pattern_is s (marked m) (sym c.all_digits.ensures ∙ c.if-not-all_digits.true) refl)))
 
 pub overflow_sub-n-5 : goal.overflow_sub-n-5
 overflow_sub-n-5 c = omega (arith, long (goal.at.overflow_sub-n-5 c).Else-code-ne0)
@@ -76,7 +74,7 @@ slice_bounds-address-start c = omega (arith, long (goal.at.slice_bounds-address-
 
 pub address-to-requires : goal.address-to-requires
 address-to-requires c =
-    let e = (goal.at.address-to-requires c).After-same-arg-1 in
+    let e = (goal.at.address-to-requires c).Else-code-ne0 in
     let n = length c.args.s.now in
     rw (length_part 7 (n - 46) c.args.s.now (omega (arith, long e)) (omega arith)) (omega (arith, long e))
 
@@ -84,7 +82,7 @@ pub returns-then-to-eq0 : goal.returns-then-to-eq0
 returns-then-to-eq0 c =
     let q = (goal.at.returns-then-to-eq0 c).Else-not-all_digits in
     let m = (goal.at.returns-then-to-eq0 c).Else-not-same in
-    let e = (goal.at.returns-then-to-eq0 c).After-same-arg-1 in
+    let e = (goal.at.returns-then-to-eq0 c).Else-code-ne0 in
     let s = c.args.s.now in
     let none = address_none (address_part s) c.address-to.result c.address-to.ensures c.if-to-eq0.true in
     sym (ap around_of (around_unlike s (first e) (pattern_is s (marked m) (figured q) none)))
@@ -93,7 +91,7 @@ pub returns : goal.returns
 returns c =
     let q = (goal.at.returns c).Else-not-all_digits in
     let m = (goal.at.returns c).Else-not-same in
-    let e = (goal.at.returns c).After-same-arg-1 in
+    let e = (goal.at.returns c).Else-code-ne0 in
     let s = c.args.s.now in
     let some = address_some (address_part s) c.address-to.result c.address-to.ensures c.if-to-eq0.false in
     ap Accepted some.1 ∙ sym (ap around_of (around_like s (first e) (pattern_is s (marked m) (figured q) some.0)))

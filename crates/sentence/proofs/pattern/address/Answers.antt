@@ -1,5 +1,4 @@
 -- `address`: each way out is one test of the definition.
-use borrow.Author.Rules.{rules}
 use mathlib.Core.Path.{sym, ◌∙◌}
 use Rattle.sentence.specs.Laws.Tests.{address_zero, address_other, address_digits}
 use Rattle.sentence.proofs.pattern.address.Goals as goal

@@ -1,9 +1,7 @@
 -- `lead`: each way out is one of the first tests, in their order.
-use borrow.Author.Rules.{rules}
 use mathlib.Core.Path.{◌≡◌, sym, ap, ◌∙◌}
 use mathlib.Core.Bool.{cond, true}
 use native.Mathlib.Omega.{arith}
-use borrow.Author.Tests.{not-true, not-false}
 use Prim.Native.Nat.{◌-◌}
 use lib.ListN.{length, length-drop}
 use lib.Seq.{take_all}
@@ -19,7 +17,7 @@ use Rattle.sentence.proofs.pattern.lead.Goals as goal
 summing : (c : After-same-2) → lead_of c.args.s.now ≡ cond c.same-2.result 0 3
 summing c =
     let s = c.args.s.now in
-    let start : same_bytes (take 7 s) start_mark ≡ true = sym c.same.ensures ∙ not-false c.same.result c.if-not-same.false in
+    let start : same_bytes (take 7 s) start_mark ≡ true = sym c.same.ensures ∙ c.if-not-same.false in
     let n = length s in
     let five : take (n - (n - 5)) (last_five s) ≡ last_five s = take_all (n - (n - 5)) (last_five s) (omega (arith, length-drop (n - 5) s)) in
     let last : closing_of (xor_of (summed s)) ≡ c.closing-last.result = ap closing_of (sym c.xor.ensures) ∙ sym c.closing-last.ensures in
@@ -33,10 +31,10 @@ returns-then-n-gt-GREATEST c = sym (lead_long c.args.s.now c.if-n-gt-GREATEST.tr
 
 pub returns-then-not-same : goal.returns-then-not-same
 returns-then-not-same c =
-    sym (lead_start c.args.s.now (omega arith) (omega arith) (sym c.same.ensures ∙ not-true c.same.result c.if-not-same.true))
+    sym (lead_start c.args.s.now (omega arith) (omega arith) (sym c.same.ensures ∙ c.if-not-same.true))
 
 pub returns-then-not-same-2 : goal.returns-then-not-same-2
-returns-then-not-same-2 c = sym (summing (goal.at.returns-then-not-same-2 c).After-same-2 ∙ ap (λ z. cond z 0 3) (not-true c.same-2.result c.if-not-same-2.true))
+returns-then-not-same-2 c = sym (summing (goal.at.returns-then-not-same-2 c).After-same-2 ∙ ap (λ z. cond z 0 3) (c.if-not-same-2.true))
 
 pub returns : goal.returns
-returns c = sym (summing (goal.at.returns c).After-same-2 ∙ ap (λ z. cond z 0 3) (not-false c.same-2.result c.if-not-same-2.false))
+returns c = sym (summing (goal.at.returns c).After-same-2 ∙ ap (λ z. cond z 0 3) (c.if-not-same-2.false))

@@ -1,14 +1,8 @@
 -- `number`: the digits from offset i on spell the rest of the number, which only grows.
-use borrow.Author.Rules.{rules}
-use mathlib.Core.Path.{◌≡◌, refl, sym, ap, ◌∙◌}
-use Prim.Native.Nat.{◌≤◌, ◌-◌, ◌*◌, ◌+◌}
-use native.Mathlib.Omega.{arith}
-use lib.ListN.{length, drop, get_or}
-use lib.Seq.{drop-length}
-use borrow.Author.Tests.{le-leb, lt-leb}
+use mathlib.Core.Path.{◌≡◌}
+use Prim.Native.Nat.{◌≤◌, ◌-◌}
+use lib.ListN.{length, drop}
 use Rattle.sentence.specs.Spelling.{spelt}
-use Rattle.sentence.specs.Laws.Digits.{spelt_nil, spelt_grows, value_most}
-use Rattle.sentence.specs.Laws.Turns.{spelt_turn}
 use Rattle.sentence.proofs.pattern.number.Given as goal
 
 abbrev pub invariant-loop-i : goal.invariant-loop-i

@@ -1,5 +1,4 @@
 -- `read`: a refused sentence gives its number, with no bit; an accepted one, taken apart, gives the report's own answer.
-use borrow.Author.Rules.{rules}
 use mathlib.Core.Path.{◌≡◌, sym, ap, ◌∙◌}
 use native.Mathlib.Omega.{arith}
 use Prim.Native.Nat.{◌-◌}

@@ -1,13 +1,8 @@
 -- `all_digits`: what is left from offset i on is all digits just where the whole is.
-use borrow.Author.Rules.{rules}
-use mathlib.Core.Path.{◌≡◌, refl, sym, ap, ◌∙◌}
+use mathlib.Core.Path.{◌≡◌}
 use Prim.Native.Nat.{◌≤◌, ◌-◌}
-use native.Mathlib.Omega.{arith}
 use lib.ListN.{length, drop}
-use lib.Seq.{drop-length}
-use borrow.Author.Tests.{lt-ltb, le-ltb}
 use Rattle.sentence.specs.Spelling.{all_digits}
-use Rattle.sentence.specs.Laws.Turns.{all_turn}
 use Rattle.sentence.proofs.spelling.all_digits.Given as goal
 
 abbrev pub invariant-loop-i : goal.invariant-loop-i

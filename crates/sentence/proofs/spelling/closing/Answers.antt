@@ -1,5 +1,4 @@
 -- `closing` makes the five bytes that the definition lists.
-use borrow.Author.Rules.{rules}
 use Rattle.sentence.specs.Spelling.{closing_of}
 use Rattle.sentence.proofs.spelling.closing.Goals as goal
 

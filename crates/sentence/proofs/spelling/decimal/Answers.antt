@@ -1,10 +1,8 @@
 -- `decimal` stores the digits last to first: those of the rest, then those that stand, are the whole.
-use borrow.Author.Rules.{rules}
 use mathlib.Core.Path.{◌≡◌, refl, sym, ap, ◌∙◌}
 use mathlib.Core.List.{◌++◌, append-nil}
-use Prim.Native.Nat.{◌≤◌, ◌<◌, ◌^◌}
 use native.Mathlib.Omega.{arith}
-use lib.ListN.{length, take, drop, replicate, length-set, take-append-drop}
+use lib.ListN.{drop, length-set, take-append-drop}
 use Rattle.sentence.specs.Spelling.{decimal}
 use Rattle.sentence.specs.Laws.Digits.{decimal_none}
 use Rattle.sentence.specs.Laws.Turns.{offset_left, decimal_turn, blank_turn}

@@ -1,5 +1,4 @@
 -- `digit_value` tests the bounds of both kinds of digit: each way out rewrites the definition by the tests on it.
-use borrow.Author.Rules.{rules}
 use borrow.Author.Tests.{le-leb, lt-leb}
 use native.Mathlib.Omega.{arith}
 use Rattle.sentence.specs.Spelling.{digit_value}

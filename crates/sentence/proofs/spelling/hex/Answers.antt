@@ -1,8 +1,7 @@
 -- `hex`: the digits that stand, then those of the bytes from i on, are all.
-use borrow.Author.Rules.{rules}
 use mathlib.Core.Path.{◌≡◌, refl, sym, ap, ◌∙◌}
 use mathlib.Core.List.{◌∷◌, ◌++◌}
-use Prim.Native.Nat.{◌≤◌, ◌-◌, ◌*◌, ◌+◌, ◌/◌, ◌%◌}
+use Prim.Native.Nat.{◌*◌, ◌+◌, ◌/◌, ◌%◌}
 use native.Mathlib.Omega.{arith}
 use lib.ListN.{length, take, drop, get_or, set, length-set, drop_of_length-le}
 use Rattle.sentence.specs.Spelling.{hex_of, lower}
@@ -14,8 +13,8 @@ loop-i-init c = (omega arith, refl, refl)
 
 pub loop-i-preserved : goal.loop-i-preserved
 loop-i-preserved c =
-    let s = c.args.t1 in
-    let n : length s ≡ 17 = c.well-formed.0.1.0.1 in
+    let s = c.args.bytes in
+    let n : length s ≡ 17 = omega arith in
     let out = c.loop-i.out in
     let i = c.loop-i.i in
     let b = get_or s i 0 in
@@ -29,6 +28,6 @@ loop-i-preserved c =
 pub returns : goal.returns
 unfolding hex_of
 returns c =
-    let s = c.args.t1 in
-    let n : length s ≡ 17 = c.well-formed.0.1.0.1 in
+    let s = c.args.bytes in
+    let n : length s ≡ 17 = omega arith in
     store_end c.loop-i.out (2 * c.loop-i.i) (hex_of (drop c.loop-i.i s)) (hex_of s) (omega arith) (ap hex_of (drop_of_length-le s {i = c.loop-i.i} (omega arith))) c.loop-i.invariant.2

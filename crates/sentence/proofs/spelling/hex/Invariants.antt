@@ -1,12 +1,9 @@
 -- `hex`: the digits that stand, then those of the bytes from i on, are all.
-use borrow.Author.Rules.{rules}
-use mathlib.Core.Path.{◌≡◌, refl, sym, ap, ◌∙◌}
-use mathlib.Core.List.{◌∷◌, ◌++◌}
-use Prim.Native.Nat.{◌≤◌, ◌-◌, ◌*◌, ◌+◌, ◌/◌, ◌%◌}
-use native.Mathlib.Omega.{arith}
-use lib.ListN.{length, take, drop, get_or, set, length-set, drop_of_length-le}
-use Rattle.sentence.specs.Spelling.{hex_of, lower}
-use Rattle.sentence.specs.Laws.Turns.{hex_turn, store_turn, store_end}
+use mathlib.Core.Path.{◌≡◌}
+use mathlib.Core.List.{◌++◌}
+use Prim.Native.Nat.{◌≤◌, ◌-◌, ◌*◌}
+use lib.ListN.{length, take, drop}
+use Rattle.sentence.specs.Spelling.{hex_of}
 use Rattle.sentence.proofs.spelling.hex.Given as goal
 
 abbrev pub invariant-loop-i : goal.invariant-loop-i

@@ -1,8 +1,7 @@
 -- `unhex`: the bytes that stand, then those of the digits from 2 * i on, are all.
-use borrow.Author.Rules.{rules}
 use mathlib.Core.Path.{◌≡◌, refl, sym, ap, ◌∙◌}
 use mathlib.Core.List.{◌++◌}
-use Prim.Native.Nat.{◌≤◌, ◌-◌, ◌*◌, ◌+◌, ◌%◌}
+use Prim.Native.Nat.{◌*◌, ◌+◌, ◌%◌}
 use native.Mathlib.Omega.{arith}
 use lib.ListN.{length, take, drop, get_or, length-set, drop_of_length-le}
 use Rattle.sentence.specs.Spelling.{digit_value, unhexed}

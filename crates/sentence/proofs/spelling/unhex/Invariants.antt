@@ -1,13 +1,9 @@
 -- `unhex`: the bytes that stand, then those of the digits from 2 * i on, are all.
-use borrow.Author.Rules.{rules}
-use mathlib.Core.Path.{◌≡◌, refl, sym, ap, ◌∙◌}
+use mathlib.Core.Path.{◌≡◌}
 use mathlib.Core.List.{◌++◌}
-use Prim.Native.Nat.{◌≤◌, ◌-◌, ◌*◌, ◌+◌, ◌%◌}
-use native.Mathlib.Omega.{arith}
-use lib.ListN.{length, take, drop, get_or, length-set, drop_of_length-le}
-use Rattle.sentence.specs.Spelling.{digit_value, unhexed}
-use borrow.Author.Tests.{eq-eqb, ne_eqb}
-use Rattle.sentence.specs.Laws.Turns.{unhexed_turn, store_turn, store_end}
+use Prim.Native.Nat.{◌≤◌, ◌-◌, ◌*◌}
+use lib.ListN.{length, take, drop}
+use Rattle.sentence.specs.Spelling.{unhexed}
 use Rattle.sentence.proofs.spelling.unhex.Given as goal
 
 abbrev pub invariant-loop-i : goal.invariant-loop-i

@@ -11,8 +11,7 @@ use Rattle.sentence.specs.Pattern.{address_good}
 use Rattle.sentence.specs.Spelling.{decimal}
 use Rattle.sentence.specs.Laws.Digits.{decimal_wide, spells_from, spells_digits}
 use Rattle.sentence.specs.Laws.Calls.{Reported, reported, bad_address, bad_report, all_laid, none_laid}
-use borrow.Author.Rules.{rules}
-use Rattle.sentence.proofs.writing.write.Goals.{After-bytes-1, After-decimal-figures, After-write-refusal, Else-address-gt-GREATEST_ADDRESS, Else-address-lt-LEAST_ADDRESS, Else-refusal-ne0}
+use Rattle.sentence.proofs.writing.write.Goals.{After-decimal-figures, After-write-refusal, Else-address-gt-GREATEST_ADDRESS}
 use Rattle.sentence.proofs.writing.write.Goals as goal
 
 within : (c : Else-address-gt-GREATEST_ADDRESS) → address_good c.args.address ≡ true
@@ -61,18 +60,18 @@ slice_bounds-lay-start c = omega (arith, from_there (goal.at.slice_bounds-lay-st
 
 pub returns-then-lay : goal.returns-then-lay
 returns-then-lay c =
-    let d = (goal.at.returns-then-lay c).Else-refusal-ne0 in
-    let w = (goal.at.returns-then-lay c).After-bytes-1 in
-    let g = (goal.at.returns-then-lay c).Else-address-lt-LEAST_ADDRESS in
+    let d = (goal.at.returns-then-lay c).After-decimal-figures in
+    let w = (goal.at.returns-then-lay c).After-write-refusal in
+    let g = (goal.at.returns-then-lay c).Else-address-gt-GREATEST_ADDRESS in
     let a = c.args in
-    all_laid a.buf.now a.address a.r (within g) c.write-refusal.new.buf ((report w).well-formed c.if-refusal-ne0.false) _ c.lay.new.buf c.lay.result (digits d) c.lay.ensures
+    all_laid a.buf.now a.address a.r (within g) c.write-refusal.new.buf ((report w).good c.if-refusal-ne0.false) _ c.lay.new.buf c.lay.result (digits d) c.lay.ensures
     (63 - c.decimal-figures.result.from) (omega (arith, from_there d)) c.if-lay.true
 
 pub returns : goal.returns
 returns c =
-    let d = (goal.at.returns c).Else-refusal-ne0 in
-    let w = (goal.at.returns c).After-bytes-1 in
-    let g = (goal.at.returns c).Else-address-lt-LEAST_ADDRESS in
+    let d = (goal.at.returns c).After-decimal-figures in
+    let w = (goal.at.returns c).After-write-refusal in
+    let g = (goal.at.returns c).Else-address-gt-GREATEST_ADDRESS in
     let a = c.args in
-    none_laid a.buf.now a.address a.r (within g) c.write-refusal.new.buf ((report w).well-formed c.if-refusal-ne0.false) _ c.lay.new.buf c.lay.result (digits d) c.lay.ensures
+    none_laid a.buf.now a.address a.r (within g) c.write-refusal.new.buf ((report w).good c.if-refusal-ne0.false) _ c.lay.new.buf c.lay.result (digits d) c.lay.ensures
     c.if-lay.false

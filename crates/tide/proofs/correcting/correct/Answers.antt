@@ -6,7 +6,6 @@ use Rattle.tide.specs.Tide.{tides}
 use Rattle.format.specs.Codes.{headed}
 use Rattle.tide.specs.Laws.Sound.{sound, judged}
 use Rattle.tide.specs.Laws.Told.{walked_told, stands, fields_again, fields_are}
-use borrow.Author.Rules.{rules}
 use Rattle.tide.proofs.correcting.correct.Goals as goal
 
 pub returns : goal.returns

@@ -1,6 +1,5 @@
 -- `good` meets its contract: what is found good passed each test.
 use mathlib.Core.Bool.{false≢true}
-use borrow.Author.Rules.{rules}
 use Rattle.tide.proofs.entries.good.Goals as goal
 
 pub returns-then-month-lt1 : goal.returns-then-month-lt1

@@ -1,10 +1,8 @@
 -- `good_from` meets its contract: the entries that are passed are good.
-use Prim.Native.Nat.{◌+◌, ◌-◌, ◌*◌, ◌/◌, ◌%◌, ◌≤◌}
+use Prim.Native.Nat.{◌+◌, ◌*◌, ◌/◌, ◌%◌}
 use mathlib.Core.Path.{◌≡◌, ap, ◌∙◌}
 use native.Mathlib.Omega.{arith}
-use borrow.Author.Rules.{rules}
-use borrow.Author.Tests.{not-false}
-use Rattle.tide.specs.Entries.{word_at, AllGood}
+use Rattle.tide.specs.Entries.{word_at}
 use Rattle.tide.specs.Row.{entry_bits}
 use Rattle.tide.specs.Laws.Entries.{good_more}
 use Rattle.tide.proofs.entries.good_from.Goals as goal
@@ -36,7 +34,7 @@ loop-j-preserved c =
     let s = a.s.now in
     let j = c.loop-j.j in
     let here : (a.at / 8 + j * 4) * 8 + a.at % 8 ≡ a.at + j * entry_bits = omega arith in
-    (omega arith, good_more s a.at j c.loop-j.invariant.1 (omega arith) (c.word_of_five-bits.ensures ∙ ap (word_at s) here) (c.good2.ensures (not-false c.good2.result c.if-not-good.false)))
+    (omega arith, good_more s a.at j c.loop-j.invariant.1 (omega arith) (c.word_of_five-bits.ensures ∙ ap (word_at s) here) (c.good.ensures c.if-not-good.false))
 
 pub returns : goal.returns
 returns c = (omega arith, c.loop-j.invariant.1)

@@ -1,12 +1,6 @@
 -- `good_from` meets its contract: the entries that are passed are good.
-use Prim.Native.Nat.{◌+◌, ◌-◌, ◌*◌, ◌/◌, ◌%◌, ◌≤◌}
-use mathlib.Core.Path.{◌≡◌, ap, ◌∙◌}
-use native.Mathlib.Omega.{arith}
-use borrow.Author.Rules.{rules}
-use borrow.Author.Tests.{not-false}
-use Rattle.tide.specs.Entries.{word_at, AllGood}
-use Rattle.tide.specs.Row.{entry_bits}
-use Rattle.tide.specs.Laws.Entries.{good_more}
+use Prim.Native.Nat.{◌-◌, ◌≤◌}
+use Rattle.tide.specs.Entries.{AllGood}
 use Rattle.tide.proofs.entries.good_from.Given as goal
 
 abbrev pub invariant-loop-j : goal.invariant-loop-j

@@ -3,7 +3,6 @@ use Prim.Native.Nat.{◌-◌}
 use native.Mathlib.Omega.{arith}
 use Rattle.tide.specs.Laws.Entries.{passed_as, run_passes}
 use Rattle.tide.specs.Laws.Turns.{entry_turn}
-use borrow.Author.Rules.{rules}
 use Rattle.tide.proofs.entries.pass.Goals as goal
 
 pub returns-then-count-eq0 : goal.returns-then-count-eq0

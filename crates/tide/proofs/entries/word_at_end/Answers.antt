@@ -2,7 +2,6 @@
 use Prim.Native.Nat.{◌^◌, ◌<◌}
 use native.Mathlib.Omega.{arith}
 use Rattle.walk.specs.Laws.Reading.{got_lt}
-use borrow.Author.Rules.{rules}
 use Rattle.tide.proofs.entries.word_at_end.Goals.{After-get-value}
 use Rattle.tide.proofs.entries.word_at_end.Goals as goal
 

@@ -2,7 +2,6 @@
 use Prim.Native.Nat.{◌-◌, ◌/◌, ◌%◌, ◌^◌}
 use mathlib.Core.Path.{ap, ◌∙◌}
 use Rattle.tide.specs.Laws.Word.{word_by_five}
-use borrow.Author.Rules.{rules}
 use Rattle.tide.proofs.entries.word_of_five.Goals as goal
 
 pub returns : goal.returns

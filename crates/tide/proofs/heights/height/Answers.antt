@@ -1,6 +1,5 @@
 -- `height` is the value, or its negative: both fit 32 signed bits.
 use Rattle.tide.specs.Laws.Heights.{minus_fits, height_kept, height_turned}
-use borrow.Author.Rules.{rules}
 use Rattle.tide.proofs.heights.height.Goals as goal
 
 pub overflow_sub-result : goal.overflow_sub-result

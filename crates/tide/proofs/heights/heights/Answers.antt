@@ -1,5 +1,5 @@
 -- `heights` answers as the walk does, then by room; the heights go to the front of the row.
-use Prim.Native.Nat.{◌-◌, ◌≤◌}
+use Prim.Native.Nat.{◌≤◌}
 use mathlib.Core.Path.{sym, ap, ◌∙◌}
 use native.Mathlib.Omega.{arith}
 use lib.ListN.{length}
@@ -12,7 +12,6 @@ use Rattle.tide.specs.declared.heights.Answer.TheVariants.{Good, Refused}
 use Rattle.tide.specs.declared.row.Extent.{Extent}
 use Rattle.tide.specs.Laws.Heights.{heights_stand, heights_long, shows_refused, shows_short, shows_good}
 use Rattle.tide.specs.Laws.Told.{walked_good, walked_bad}
-use borrow.Author.Rules.{rules}
 use Rattle.tide.proofs.heights.heights.Goals as goal
 
 pub returns-then-code-ne0 : goal.returns-then-code-ne0

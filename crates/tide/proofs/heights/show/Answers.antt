@@ -1,5 +1,5 @@
 -- `show` meets its contract: the heights of the first i records stand in the row.
-use Prim.Native.Nat.{◌+◌, ◌-◌, ◌*◌, ◌≤◌}
+use Prim.Native.Nat.{◌+◌}
 use mathlib.Core.Path.{◌≡◌, refl, sym, ap, ◌∙◌}
 use native.Mathlib.Omega.{arith}
 use native.Mathlib.Nat.{zero-add}
@@ -9,7 +9,6 @@ use lib.Seq.{sets, length-sets}
 use Rattle.walk.specs.Groups.{repeat_at, repeat_end, repeat_sum}
 use Rattle.walk.specs.Laws.Stored.{sum_more, item_within, stored_turn}
 use Rattle.tide.specs.Heights.{entries_shown, record_shown, heights_at}
-use Rattle.tide.specs.Row.{record_most}
 use Rattle.tide.specs.Shapes.{shape_at, entries_in}
 use Rattle.tide.specs.Standing.{front, record_wide, records_end}
 use Rattle.tide.specs.declared.row.Shape.{Shape}
@@ -24,7 +23,8 @@ pub loop-i-init : goal.loop-i-init
 unfolding repeat_at repeat_end repeat_sum
 loop-i-init c = (omega arith, refl, omega arith, refl, omega arith, refl, refl)
 
-record-at-requires c κs = omega arith
+pub record_at-shape-requires : goal.record_at-shape-requires
+record_at-shape-requires c = omega arith
 
 pub show_entries-requires : goal.show_entries-requires
 show_entries-requires c =

@@ -1,20 +1,12 @@
 -- `show` meets its contract: the heights of the first i records stand in the row.
 use Prim.Native.Nat.{◌+◌, ◌-◌, ◌*◌, ◌≤◌}
-use mathlib.Core.Path.{◌≡◌, refl, sym, ap, ◌∙◌}
-use native.Mathlib.Omega.{arith}
-use native.Mathlib.Nat.{zero-add}
-use native.Mathlib.Numerals.{add-one}
+use mathlib.Core.Path.{◌≡◌}
 use lib.ListN.{length}
-use lib.Seq.{sets, length-sets}
-use Rattle.walk.specs.Groups.{repeat_at, repeat_end, repeat_sum}
-use Rattle.walk.specs.Laws.Stored.{sum_more, item_within, stored_turn}
-use Rattle.tide.specs.Heights.{entries_shown, record_shown, heights_at}
+use lib.Seq.{sets}
+use Rattle.tide.specs.Heights.{heights_at}
 use Rattle.tide.specs.Row.{record_most}
-use Rattle.tide.specs.Shapes.{shape_at, entries_in}
-use Rattle.tide.specs.Standing.{front, record_wide, records_end}
-use Rattle.tide.specs.declared.row.Shape.{Shape}
-use Rattle.tide.specs.Laws.Heights.{shown_long, heights_long}
-use Rattle.tide.specs.Laws.Shapes.{record_small, next_more}
+use Rattle.tide.specs.Shapes.{entries_in}
+use Rattle.tide.specs.Standing.{front, records_end}
 use Rattle.tide.proofs.heights.show.Given as goal
 
 abbrev pub invariant-loop-i : goal.invariant-loop-i

@@ -3,7 +3,6 @@ use mathlib.Core.Path.{sym, ap, ◌∙◌}
 use borrow.Author.Tests.{eq-eqb, ne_eqb}
 use Rattle.tide.specs.Steps.{unread_by, course_of}
 use Rattle.tide.specs.Tide.{tides}
-use borrow.Author.Rules.{rules}
 use Rattle.tide.proofs.reading.fields.Goals as goal
 
 pub returns-then-first-ne0 : goal.returns-then-first-ne0

@@ -3,7 +3,6 @@ use mathlib.Core.Path.{ap, ◌∙◌}
 use mathlib.Core.Bool.{false}
 use Rattle.walk.specs.Reading.{ranged}
 use Rattle.walk.specs.declared.walk.Walk.{Walk}
-use borrow.Author.Rules.{rules}
 use Rattle.tide.proofs.reading.head.Goals as goal
 
 pub returns : goal.returns

@@ -1,5 +1,5 @@
 -- `lead` gives the first tests' answer: each way out decides the tests before it.
-use Prim.Native.Nat.{◌-◌, ◌≤◌}
+use Prim.Native.Nat.{◌≤◌}
 use mathlib.Core.Path.{◌≡◌, refl, sym, ◌∙◌}
 use native.Mathlib.Omega.{arith}
 use lib.Dec.{lit≤}
@@ -10,7 +10,6 @@ use Rattle.bits.specs.Laws.Answers.{got_fits}
 use Rattle.format.specs.Codes.{headed, there}
 use Rattle.format.specs.Laws.Codes.{just_so, just_not}
 use Rattle.tide.specs.Tide.{tides}
-use borrow.Author.Rules.{rules}
 use Rattle.tide.proofs.reading.lead.Goals as goal
 
 pub returns-then-size-lt-LEAST : goal.returns-then-size-lt-LEAST

@@ -1,5 +1,5 @@
 -- `read` answers as the walk does, then by room; the numbers go to the front of the row.
-use Prim.Native.Nat.{◌-◌, ◌≤◌, ◌<◌}
+use Prim.Native.Nat.{◌≤◌, ◌<◌}
 use mathlib.Core.Path.{ap, ◌∙◌}
 use native.Mathlib.Omega.{arith}
 use lib.ListN.{length}
@@ -8,7 +8,6 @@ use Rattle.tide.specs.Record.{record_of}
 use Rattle.tide.specs.Standing.{front, records_at}
 use Rattle.tide.specs.declared.reading.Answer.TheVariants.{Good, Refused}
 use Rattle.tide.specs.Laws.Told.{reads_refused, reads_few, reads_good, stored, kept_row, walked_good, walked_bad}
-use borrow.Author.Rules.{rules}
 use Rattle.tide.proofs.reading.read.Goals as goal
 
 pub returns-then-code-ne0 : goal.returns-then-code-ne0

@@ -4,7 +4,6 @@ use native.Mathlib.Omega.{arith}
 use Rattle.walk.specs.Reading.{ended}
 use Rattle.walk.specs.declared.walk.Walk.{Walk}
 use Rattle.tide.specs.Steps.{behind}
-use borrow.Author.Rules.{rules}
 use Rattle.tide.proofs.reading.walked.Goals as goal
 
 pub overflow_cast-count : goal.overflow_cast-count

@@ -5,7 +5,6 @@ use Rattle.walk.specs.Reading.{ranged}
 use Rattle.walk.specs.declared.walk.Walk.{Walk}
 use Rattle.tide.specs.Steps.{level_read}
 use Rattle.tide.specs.Tide.{least_of}
-use borrow.Author.Rules.{rules}
 use Rattle.tide.proofs.records.entry.Goals as goal
 
 pub returns : goal.returns

@@ -6,7 +6,6 @@ use borrow.Author.Tests.{eq-eqb, ne_eqb}
 use Rattle.walk.specs.Reading.{ranged}
 use Rattle.walk.specs.declared.walk.Walk.{Walk}
 use Rattle.tide.specs.Steps.{count_read}
-use borrow.Author.Rules.{rules}
 use Rattle.tide.proofs.records.open_record.Goals as goal
 
 pub returns-then-kind-ne0 : goal.returns-then-kind-ne0

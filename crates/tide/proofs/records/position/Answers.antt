@@ -3,7 +3,6 @@ use mathlib.Core.Path.{refl, ap, ◌∙◌}
 use borrow.Author.Tests.{eq-eqb, ne_eqb}
 use Rattle.walk.specs.declared.walk.Walk.{Walk}
 use Rattle.notice_fields.specs.PartsSteps.{longitude_read}
-use borrow.Author.Rules.{rules}
 use Rattle.tide.proofs.records.position.Goals as goal
 
 pub returns-then-kind-eq-PORT : goal.returns-then-kind-eq-PORT

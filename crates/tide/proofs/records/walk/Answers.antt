@@ -1,19 +1,17 @@
 -- `walk` meets its contract: what is left to do from the records and entries that are passed is what there was to do; a refusal leaves nothing.
-use Prim.Native.Nat.{ℕ, ◌+◌, ◌-◌, ◌≤◌}
+use Prim.Native.Nat.{◌+◌, ◌-◌}
 use mathlib.Core.Path.{◌≡◌, sym, ap, ◌∙◌}
 use mathlib.Core.Bool.{cond}
-use mathlib.Core.List.{List}
 use native.Mathlib.Omega.{arith}
 use borrow.Author.Tests.{eq-eqb, ne_eqb}
 use Rattle.walk.specs.Groups.{repeat_walked}
-use Rattle.walk.specs.declared.walk.Walk.{Walk}
 use Rattle.tide.specs.Steps.{entry_step, records_walked}
 use Rattle.tide.specs.Laws.Turns.{record_turn}
-use borrow.Author.Rules.{rules}
 use Rattle.tide.proofs.records.walk.Invariants.{next}
 use Rattle.tide.proofs.records.walk.Goals as goal
 
-records-holds c = let a = c.before.args in let e : a.count ≡ a.count - 0 = omega arith in (omega arith, ap (λ n. records_walked a.s.now n a.from) e)
+pub records-init : goal.records-init
+records-init c = let a = c.args in let e : a.count ≡ a.count - 0 = omega arith in (omega arith, ap (λ n. records_walked a.s.now n a.from) e)
 
 pub entries-init : goal.entries-init
 entries-init c =
@@ -50,22 +48,21 @@ entries-preserved c =
 pub overflow_add-i : goal.overflow_add-i
 overflow_add-i c = omega arith
 
-records-less c = omega arith
+pub records-smaller : goal.records-smaller
+records-smaller c = omega arith
 
-records-again c =
-    let p = c.before in
-    let i = p.before in
-    let o = i.before.before in
-    let l = o.before.before in
-    let a = l.before.before.args in
+pub records-preserved : goal.records-preserved
+unfolding repeat_walked
+records-preserved c =
+    let a = c.args in
     let s = a.s.now in
-    let n = a.count - (l.records.i + 1) in
-    let w = o.open-record.result in
-    let none : w.v - p.entries.j ≡ 0 = omega arith in (
+    let n = a.count - (c.records.i + 1) in
+    let w = c.open_record-w.result in
+    let none : w.v - c.entries.j ≡ 0 = omega arith in (
       omega arith,
-      l.records.invariant.1 ∙ record_turn s n {m = a.count - l.records.i} l.records.w (omega arith) o.open-record.ensures
-          ∙ ap (λ b. cond b (repeat_walked w.v (entry_step s) (records_walked s n) w) w) (eq-eqb w.code 0 i.if1.false)
-          ∙ p.entries.invariant.1 ∙ ap (λ m. repeat_walked m (entry_step s) (records_walked s n) p.entries.w) none,
+      c.records.invariant.1 ∙ record_turn s n {m = a.count - c.records.i} c.records.w (omega arith) c.open_record-w.ensures
+          ∙ ap (λ b. cond b (repeat_walked w.v (entry_step s) (records_walked s n) w) w) (eq-eqb w.code 0 c.if-w-ne0.false)
+          ∙ c.entries.invariant.1 ∙ ap (λ m. repeat_walked m (entry_step s) (records_walked s n) c.entries.w) none,
     )
 
 pub returns-after-records : goal.returns-after-records

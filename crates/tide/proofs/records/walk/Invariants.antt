@@ -1,15 +1,10 @@
 -- `walk` meets its contract: what is left to do from the records and entries that are passed is what there was to do; a refusal leaves nothing.
 use Prim.Native.Nat.{ℕ, ◌+◌, ◌-◌, ◌≤◌}
-use mathlib.Core.Path.{◌≡◌, sym, ap, ◌∙◌}
-use mathlib.Core.Bool.{cond}
+use mathlib.Core.Path.{◌≡◌}
 use mathlib.Core.List.{List}
-use native.Mathlib.Omega.{arith}
-use borrow.Author.Tests.{eq-eqb, ne_eqb}
 use Rattle.walk.specs.Groups.{repeat_walked}
 use Rattle.walk.specs.declared.walk.Walk.{Walk}
 use Rattle.tide.specs.Steps.{entry_step, records_walked}
-use Rattle.tide.specs.Laws.Turns.{record_turn}
-use borrow.Author.Rules.{rules}
 use Rattle.tide.proofs.records.walk.Given as goal
 
 -- behind the entries of a record, where i records are passed

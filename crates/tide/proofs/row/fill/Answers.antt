@@ -1,5 +1,4 @@
 -- `fill` measures the records, and stores their numbers where the row has room for them.
-use Prim.Native.Nat.{◌-◌}
 use mathlib.Core.Path.{refl, ap, ◌∙◌}
 use native.Mathlib.Omega.{arith}
 use lib.ListN.{length}
@@ -7,7 +6,6 @@ use borrow.Author.Tests.{le-leb, lt-leb}
 use Rattle.tide.specs.Standing.{front, records_at}
 use Rattle.tide.specs.declared.row.Extent.{Extent}
 use Rattle.tide.specs.Laws.Shapes.{numbers_in_lem}
-use borrow.Author.Rules.{rules}
 use Rattle.tide.proofs.row.fill.Goals as goal
 
 pub returns-then-row-numbers : goal.returns-then-row-numbers

@@ -1,16 +1,9 @@
 -- `fill_entries` meets its contract: the first j entries stand in the row.
-use Prim.Native.Nat.{◌+◌, ◌-◌, ◌*◌, ◌/◌, ◌%◌, ◌^◌, ◌≤◌, ◌<◌}
-use mathlib.Core.Path.{◌≡◌, refl, ap, ◌∙◌}
-use native.Mathlib.Omega.{arith}
-use lib.ListN.{length, length-set}
+use Prim.Native.Nat.{◌-◌, ◌≤◌}
+use mathlib.Core.Path.{◌≡◌}
+use lib.ListN.{length}
 use lib.Seq.{sets}
-use Rattle.walk.specs.Groups.{repeat_at}
-use Rattle.bits.specs.Answers.{got}
-use Rattle.tide.specs.Entries.{word_at}
-use Rattle.tide.specs.Row.{entry_bits}
-use Rattle.tide.specs.Laws.Word.{word_fields}
 use Rattle.tide.specs.Standing.{entries_at}
-use Rattle.tide.specs.Laws.Rows.{entries_turn}
 use Rattle.tide.proofs.row.fill_entries.Given as goal
 
 abbrev pub invariant-loop-j : goal.invariant-loop-j

@@ -1,5 +1,4 @@
 -- `fill_place` meets its contract: by the position type.
-use Prim.Native.Nat.{◌+◌, ◌-◌}
 use mathlib.Core.Path.{◌≡◌, refl, ap}
 use native.Mathlib.Omega.{arith}
 use native.Mathlib.Numerals.{add-one}
@@ -8,7 +7,6 @@ use lib.ListN.{set, length-set}
 use Rattle.walk.specs.Laws.Reading.{got_lt}
 use Rattle.notice_fields.specs.Parts.{latitude_bits, longitude_bits}
 use Rattle.tide.specs.Row.{placed_long}
-use borrow.Author.Rules.{rules}
 use Rattle.tide.proofs.row.fill_place.Goals as goal
 
 pub overflow_cast-row : goal.overflow_cast-row

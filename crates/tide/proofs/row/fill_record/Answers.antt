@@ -1,5 +1,5 @@
 -- `fill_record` meets its contract: the position type, the position, the mark, the count and the entries stand one behind another.
-use Prim.Native.Nat.{◌+◌, ◌-◌, ◌^◌, ◌≤◌}
+use Prim.Native.Nat.{◌+◌, ◌^◌, ◌≤◌}
 use mathlib.Core.Path.{◌≡◌, ap, ◌∙◌}
 use native.Mathlib.Omega.{arith}
 use lib.ListN.{length, set, length-set}
@@ -9,7 +9,6 @@ use Rattle.tide.specs.Standing.{placed_at, entries_at}
 use Rattle.tide.specs.declared.row.Place.{Place}
 use Rattle.tide.specs.Laws.Rows.{record_stored, record_length, record_room}
 use Rattle.tide.specs.Laws.Shapes.{place_small}
-use borrow.Author.Rules.{rules}
 use Rattle.tide.proofs.row.fill_record.Goals.{After-place_of-place}
 use Rattle.tide.proofs.row.fill_record.Goals as goal
 

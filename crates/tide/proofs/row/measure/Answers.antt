@@ -1,11 +1,10 @@
 -- `measure` meets its contract: what the first i records have, and where they end.
-use Prim.Native.Nat.{◌+◌, ◌-◌, ◌*◌, ◌≤◌}
+use Prim.Native.Nat.{◌+◌}
 use mathlib.Core.Path.{◌≡◌, refl, sym, ap, ap₂, ◌∙◌}
 use native.Mathlib.Omega.{arith}
 use native.Mathlib.Numerals.{add-one}
 use Rattle.walk.specs.Groups.{repeat_end, repeat_sum}
 use Rattle.walk.specs.Laws.Stored.{sum_more}
-use Rattle.tide.specs.Row.{long_most, record_most}
 use Rattle.tide.specs.Shapes.{shape_at, numbers_in, entries_in}
 use Rattle.tide.specs.Standing.{front, record_wide, records_end}
 use Rattle.tide.specs.declared.row.Shape.{Shape}
@@ -19,7 +18,8 @@ pub loop-i-init : goal.loop-i-init
 unfolding repeat_sum repeat_end
 loop-i-init c = (omega arith, refl, refl, refl, omega arith, omega arith, omega arith)
 
-record-at-requires c κs = omega arith
+pub record_at-shape-requires : goal.record_at-shape-requires
+record_at-shape-requires c = omega arith
 
 pub overflow_add-numbers : goal.overflow_add-numbers
 overflow_add-numbers c =

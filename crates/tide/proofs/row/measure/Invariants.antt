@@ -1,15 +1,9 @@
 -- `measure` meets its contract: what the first i records have, and where they end.
 use Prim.Native.Nat.{◌+◌, ◌-◌, ◌*◌, ◌≤◌}
-use mathlib.Core.Path.{◌≡◌, refl, sym, ap, ap₂, ◌∙◌}
-use native.Mathlib.Omega.{arith}
-use native.Mathlib.Numerals.{add-one}
-use Rattle.walk.specs.Groups.{repeat_end, repeat_sum}
-use Rattle.walk.specs.Laws.Stored.{sum_more}
+use mathlib.Core.Path.{◌≡◌}
 use Rattle.tide.specs.Row.{long_most, record_most}
-use Rattle.tide.specs.Shapes.{shape_at, numbers_in, entries_in}
-use Rattle.tide.specs.Standing.{front, record_wide, records_end}
-use Rattle.tide.specs.declared.row.Shape.{Shape}
-use Rattle.tide.specs.Laws.Shapes.{record_small, next_more}
+use Rattle.tide.specs.Shapes.{numbers_in, entries_in}
+use Rattle.tide.specs.Standing.{front, records_end}
 use Rattle.tide.proofs.row.measure.Given as goal
 
 abbrev pub invariant-loop-i : goal.invariant-loop-i

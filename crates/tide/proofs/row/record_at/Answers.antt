@@ -1,5 +1,5 @@
 -- `record_at` meets its contract: by the position type, then the count.
-use Prim.Native.Nat.{◌+◌, ◌*◌, ◌-◌}
+use Prim.Native.Nat.{◌+◌, ◌*◌}
 use mathlib.Core.Path.{◌≡◌, ap, ◌∙◌}
 use native.Mathlib.Omega.{arith}
 use Rattle.bits.specs.Answers.{got}
@@ -8,17 +8,13 @@ use Rattle.tide.specs.Row.{placed_long, placed_bits, entry_bits}
 use Rattle.tide.specs.Shapes.{shape_at}
 use Rattle.tide.specs.declared.row.Place.{Place}
 use Rattle.tide.specs.Laws.Shapes.{place_small}
-use borrow.Author.Rules.{rules}
-use Rattle.tide.proofs.row.record_at.Goals.{close, spec}
 use Rattle.tide.proofs.row.record_at.Goals as goal
 
 pub overflow_add-counted : goal.overflow_add-counted
 overflow_add-counted c =
-    let p = c in
-    let g = p.before in
-    let a = g.before.before.args in
-    let w = ap (λ (r : Place). r.wide) p.place_of.ensures in
-    let (few, small) = place_small g.get.result in
+    let a = c.args in
+    let w = ap (λ (r : Place). r.wide) c.place_of-place.ensures in
+    let (few, small) = place_small c.get.result in
     omega (arith, w, small)
 
 pub overflow_add-counted-2 : goal.overflow_add-counted-2
@@ -37,30 +33,27 @@ overflow_add-counted-3 c =
 
 pub overflow_add-first : goal.overflow_add-first
 overflow_add-first c =
-    let g2 = c in
     let a = c.args in
     let w = ap (λ (r : Place). r.wide) c.place_of-place.ensures in
     let l = ap (λ (r : Place). r.long) c.place_of-place.ensures in
     let (few, small) = place_small c.get.result in
-    omega (arith, w, small, l, few, got_lt a.s.now (a.at + 1 + c.place_of-place.result.wide + 1) 9 g2.get2.ensures)
+    omega (arith, w, small, l, few, got_lt a.s.now (a.at + 1 + c.place_of-place.result.wide + 1) 9 c.get-entries.ensures)
 
 pub overflow_mul-result : goal.overflow_mul-result
 overflow_mul-result c =
-    let g2 = c in
     let a = c.args in
     let w = ap (λ (r : Place). r.wide) c.place_of-place.ensures in
     let l = ap (λ (r : Place). r.long) c.place_of-place.ensures in
     let (few, small) = place_small c.get.result in
-    omega (arith, w, small, l, few, got_lt a.s.now (a.at + 1 + c.place_of-place.result.wide + 1) 9 g2.get2.ensures)
+    omega (arith, w, small, l, few, got_lt a.s.now (a.at + 1 + c.place_of-place.result.wide + 1) 9 c.get-entries.ensures)
 
 pub overflow_add-result : goal.overflow_add-result
 overflow_add-result c =
-    let g2 = c in
     let a = c.args in
     let w = ap (λ (r : Place). r.wide) c.place_of-place.ensures in
     let l = ap (λ (r : Place). r.long) c.place_of-place.ensures in
     let (few, small) = place_small c.get.result in
-    omega (arith, w, small, l, few, got_lt a.s.now (a.at + 1 + c.place_of-place.result.wide + 1) 9 g2.get2.ensures)
+    omega (arith, w, small, l, few, got_lt a.s.now (a.at + 1 + c.place_of-place.result.wide + 1) 9 c.get-entries.ensures)
 
 pub overflow_add-result-2 : goal.overflow_add-result-2
 overflow_add-result-2 c =
@@ -97,19 +90,3 @@ returns c =
     let counted : a.at + 1 + c.place_of-place.result.wide + 1 ≡ a.at + (1 + placed_bits (got s a.at 1)) + 1 = omega (arith, w) in
     let n : c.get-entries.result ≡ got s (a.at + (1 + placed_bits (got s a.at 1)) + 1) 9 = c.get-entries.ensures ∙ ap (λ p. got s p 9) counted in
     λ i. record { entries = n i; first = counted i + 9; next = counted i + 9 + n i * entry_bits; numbers = l i + 3 + n i * 3 }
-
-record-at-spec =
-    close
-    (spec
-    (λ c κs. search rules) (λ c κs. search rules)
-    add-counted
-    add-counted-2
-    add-counted-3
-    (λ c κs. search rules)
-    add-first
-    mul-t10
-    add-t9
-    add-t11
-    mul-t12
-    add-t13
-    returns)

@@ -1,5 +1,5 @@
 -- `store` meets its contract: the numbers of the first i records stand in the row.
-use Prim.Native.Nat.{◌+◌, ◌-◌, ◌*◌, ◌≤◌}
+use Prim.Native.Nat.{◌+◌}
 use mathlib.Core.Path.{◌≡◌, refl, sym, ap, ap₂, ◌∙◌}
 use native.Mathlib.Omega.{arith}
 use native.Mathlib.Nat.{zero-add}
@@ -8,7 +8,6 @@ use lib.ListN.{length}
 use lib.Seq.{sets, length-sets}
 use Rattle.walk.specs.Groups.{repeat_at, repeat_end}
 use Rattle.walk.specs.Laws.Stored.{sum_more, item_within, stored_turn}
-use Rattle.tide.specs.Row.{long_most, record_most}
 use Rattle.tide.specs.Shapes.{shape_at, numbers_in}
 use Rattle.tide.specs.Standing.{front, record_at, record_wide, records_at, records_end}
 use Rattle.tide.specs.declared.row.Shape.{Shape}
@@ -22,7 +21,8 @@ pub loop-i-init : goal.loop-i-init
 unfolding repeat_at repeat_end
 loop-i-init c = (omega arith, refl, omega arith, refl, omega arith, refl, refl)
 
-record-at-requires c κs = omega arith
+pub record_at-shape-requires : goal.record_at-shape-requires
+record_at-shape-requires c = omega arith
 
 pub overflow_cast-at-in-loop-i : goal.overflow_cast-at-in-loop-i
 overflow_cast-at-in-loop-i c = omega arith

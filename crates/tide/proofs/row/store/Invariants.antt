@@ -1,18 +1,10 @@
 -- `store` meets its contract: the numbers of the first i records stand in the row.
 use Prim.Native.Nat.{◌+◌, ◌-◌, ◌*◌, ◌≤◌}
-use mathlib.Core.Path.{◌≡◌, refl, sym, ap, ap₂, ◌∙◌}
-use native.Mathlib.Omega.{arith}
-use native.Mathlib.Nat.{zero-add}
-use native.Mathlib.Numerals.{add-one}
+use mathlib.Core.Path.{◌≡◌}
 use lib.ListN.{length}
-use lib.Seq.{sets, length-sets}
-use Rattle.walk.specs.Groups.{repeat_at, repeat_end}
-use Rattle.walk.specs.Laws.Stored.{sum_more, item_within, stored_turn}
+use lib.Seq.{sets}
 use Rattle.tide.specs.Row.{long_most, record_most}
-use Rattle.tide.specs.Shapes.{shape_at, numbers_in}
-use Rattle.tide.specs.Standing.{front, record_at, record_wide, records_at, records_end}
-use Rattle.tide.specs.declared.row.Shape.{Shape}
-use Rattle.tide.specs.Laws.Shapes.{record_small, numbers_in_lem, next_more}
+use Rattle.tide.specs.Standing.{front, records_at, records_end}
 use Rattle.tide.proofs.row.store.Given as goal
 
 abbrev pub invariant-loop-i : goal.invariant-loop-i

@@ -1,7 +1,5 @@
 -- `write` answers as the judging, the size and the room decide; then all of it is put.
-use Prim.Native.Nat.{◌-◌}
 use Rattle.tide.specs.Laws.Writing.{tide_refused, tide_stands}
-use borrow.Author.Rules.{rules}
 use Rattle.tide.proofs.writing.write.Goals as goal
 
 pub returns-then-refusal-ne0 : goal.returns-then-refusal-ne0

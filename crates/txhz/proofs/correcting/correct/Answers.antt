@@ -6,7 +6,6 @@ use Rattle.txhz.specs.Txhz.{txhzs, record_of, refusal_of}
 use Rattle.txhz.specs.Laws.Correction.{looked_stands}
 use Rattle.txhz.specs.Laws.Demands.{family}
 use Rattle.txhz.specs.declared.reading.Answer.TheVariants.{Good, Refused}
-use borrow.Author.Rules.{rules}
 use Rattle.txhz.proofs.correcting.correct.Goals as goal
 
 -- the message was refused

@@ -1,13 +1,11 @@
 -- `receipt` goes by its tests: nothing in front of the receipts, the rule for a byte of theirs, and nothing behind them.
 use mathlib.Core.Path.{refl, ◌∙◌}
-use native.Mathlib.Omega.{arith}
 use borrow.Author.Tests.{lt-ltb, le-ltb}
 use lib.Dec.{lit≤}
 use lib.ListN.{get_or-eq_default}
 use Rattle.format.specs.Fmt.{none}
 use Rattle.txhz.specs.Changed.{spots}
 use Rattle.txhz.specs.Laws.Correction.{byte_at}
-use borrow.Author.Rules.{rules}
 use Rattle.txhz.proofs.correcting.receipt.Goals as goal
 
 pub returns-then-field-lt-FIRST_RECEIPT : goal.returns-then-field-lt-FIRST_RECEIPT

@@ -5,7 +5,6 @@ use lib.ListN.{get_or}
 use Rattle.format.specs.Fmt.{none}
 use Rattle.txhz.specs.Changed.{spots}
 use Rattle.txhz.specs.Laws.Correction.{behind}
-use borrow.Author.Rules.{rules}
 use Rattle.txhz.proofs.correcting.stands.Goals as goal
 
 pub returns-in-3 : goal.returns-in-3

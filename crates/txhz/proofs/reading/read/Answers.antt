@@ -8,7 +8,6 @@ use Rattle.format.specs.Laws.Answers.{led_so}
 use Rattle.format.specs.Laws.Lead.{read_first, exact_fields}
 use Rattle.txhz.specs.Txhz.{letters, txhz, txhzs, record_of, answer_of}
 use Rattle.txhz.specs.declared.reading.Answer.TheVariants.{Good, Refused}
-use borrow.Author.Rules.{rules}
 use Rattle.txhz.proofs.reading.read.Goals as goal
 
 pub returns-then-code-ne0 : goal.returns-then-code-ne0

@@ -1,7 +1,6 @@
 -- `read_receipt` is four steps of the walk.
 use mathlib.Core.Path.{ap, ◌∙◌}
 use Rattle.txhz.specs.Steps.{slot_read_of, receipt_read}
-use borrow.Author.Rules.{rules}
 use Rattle.txhz.proofs.reading.read_receipt.Goals as goal
 
 pub returns : goal.returns

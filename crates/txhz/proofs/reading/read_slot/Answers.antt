@@ -4,7 +4,6 @@ use Prim.Native.Nat.{◌*◌, ◌/◌}
 use Rattle.walk.specs.Faults.{ranging}
 use Rattle.walk.specs.Walk.{onward}
 use Rattle.walk.specs.Laws.Reading.{got_lt}
-use borrow.Author.Rules.{rules}
 use Rattle.txhz.proofs.reading.read_slot.Goals as goal
 
 pub returns : goal.returns

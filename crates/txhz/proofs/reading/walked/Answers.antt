@@ -11,7 +11,6 @@ use Rattle.format.specs.Laws.Lead.{exact_fields, other_size}
 use Rattle.txhz.specs.Txhz.{letters, txhz, record_of, answer_of}
 use Rattle.txhz.specs.Laws.Receipts.{receipt_read_lem}
 use Rattle.txhz.specs.declared.reading.Answer.TheVariants.{Good, Refused}
-use borrow.Author.Rules.{rules}
 use Rattle.txhz.proofs.reading.walked.Goals as goal
 
 pub returns-then-s-ne-SEALED : goal.returns-then-s-ne-SEALED

@@ -1,7 +1,6 @@
 -- `judge_receipt` is four steps of the walk.
 use mathlib.Core.Path.{ap, ◌∙◌}
 use Rattle.txhz.specs.Steps.{slot_judged}
-use borrow.Author.Rules.{rules}
 use Rattle.txhz.proofs.writing.judge_receipt.Goals as goal
 
 pub returns : goal.returns

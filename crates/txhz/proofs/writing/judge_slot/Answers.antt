@@ -1,5 +1,4 @@
 -- `judge_slot` is one step of the walk, by whether the receipt is counted.
-use borrow.Author.Rules.{rules}
 use Rattle.txhz.proofs.writing.judge_slot.Goals as goal
 
 pub returns-then-live : goal.returns-then-live

@@ -1,13 +1,11 @@
 -- `judged` walks the values in bit order: each step is a law of judging, each receipt one law.
 use mathlib.Core.Path.{refl}
 use mathlib.Core.List.{[], ◌∷◌}
-use Prim.Native.Nat.{◌<◌}
 use lib.Dec.{lit<, lit≤}
 use Rattle.frame.specs.Laws.Head.{head_judged_lem}
 use Rattle.walk.specs.Laws.Judging.{judge_num, judge_end}
 use Rattle.txhz.specs.Txhz.{letters, txhz, times, values_of}
 use Rattle.txhz.specs.Laws.Receipts.{receipt_judged_lem}
-use borrow.Author.Rules.{rules}
 use Rattle.txhz.proofs.writing.judged.Goals as goal
 
 pub returns : goal.returns

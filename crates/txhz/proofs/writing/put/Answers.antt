@@ -7,7 +7,6 @@ use Rattle.format.specs.Laws.Putting.{put_start, put_end}
 use Rattle.format.proofs.Laws.Putting.{put_step}
 use Rattle.txhz.specs.Txhz.{letters, txhz, values_of}
 use Rattle.txhz.specs.Laws.Receipts.{receipt_put_lem}
-use borrow.Author.Rules.{rules}
 use Rattle.txhz.proofs.writing.put.Goals as goal
 
 pub shape_of-buf : goal.shape_of-buf

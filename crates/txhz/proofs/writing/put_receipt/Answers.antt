@@ -2,7 +2,6 @@
 use mathlib.Core.Path.{ap, ◌∙◌}
 use Prim.Native.Nat.{◌+◌}
 use Rattle.format.specs.Correcting.{put_in, put_in_lem}
-use borrow.Author.Rules.{rules}
 use Rattle.txhz.proofs.writing.put_receipt.Goals as goal
 
 pub returns : goal.returns

@@ -4,7 +4,6 @@ use mathlib.Core.Bool.{true}
 use Rattle.walk.specs.Judging.{closing}
 use Rattle.walk.specs.Laws.Making.{closing_told}
 use Rattle.txhz.specs.Txhz.{txhzs, values_of}
-use borrow.Author.Rules.{rules}
 use Rattle.txhz.proofs.writing.refused.Goals as goal
 
 pub returns : goal.returns

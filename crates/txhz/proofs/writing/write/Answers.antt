@@ -2,7 +2,6 @@
 use mathlib.Core.Path.{refl}
 use Rattle.walk.specs.Laws.Making.{write_refused, write_stamped}
 use Rattle.txhz.specs.Txhz.{txhzs, values_of}
-use borrow.Author.Rules.{rules}
 use Rattle.txhz.proofs.writing.write.Goals as goal
 
 pub returns-then-first-ne0 : goal.returns-then-first-ne0

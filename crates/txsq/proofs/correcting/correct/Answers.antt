@@ -6,7 +6,6 @@ use Rattle.txsq.specs.Txsq.{txsqs, record_of, refusal_of}
 use Rattle.txsq.specs.Laws.Correction.{spotted}
 use Rattle.txsq.specs.Laws.Demands.{family}
 use Rattle.txsq.specs.declared.reading.Answer.TheVariants.{Good, Refused}
-use borrow.Author.Rules.{rules}
 use Rattle.txsq.proofs.correcting.correct.Goals as goal
 
 -- the message was refused

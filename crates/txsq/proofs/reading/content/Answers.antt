@@ -4,7 +4,6 @@ use native.Mathlib.Omega.{arith}
 use lib.ListN.{length, take, drop}
 use Rattle.txsq.specs.Promises.{Shows}
 use Rattle.txsq.specs.Laws.Shown.{hidden, shown}
-use borrow.Author.Rules.{rules}
 use Rattle.txsq.proofs.reading.content.Goals.{Else-refusal-ne0}
 use Rattle.txsq.proofs.reading.content.Goals as goal
 

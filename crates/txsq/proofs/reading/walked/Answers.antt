@@ -14,7 +14,6 @@ use Rattle.format.specs.Laws.Tells.{twice_tells}
 use Rattle.walk.specs.Laws.Walked.{finish}
 use Rattle.txsq.specs.Txsq.{letters, allowed, bounded, limits, filling, txsq, record_of}
 use Rattle.txsq.specs.declared.reading.Answer.TheVariants.{Good, Refused}
-use borrow.Author.Rules.{rules}
 use Rattle.txsq.proofs.reading.walked.Goals as goal
 
 pub returns : goal.returns

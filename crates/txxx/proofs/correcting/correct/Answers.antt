@@ -8,7 +8,6 @@ use Rattle.txxx.specs.Laws.Correction.{spotted}
 use Rattle.txxx.specs.Laws.Demands.{family}
 use Rattle.txxx.specs.Laws.Shown.{mark_stands}
 use Rattle.txxx.specs.declared.reading.Answer.TheVariants.{Good, Refused}
-use borrow.Author.Rules.{rules}
 use Rattle.txxx.proofs.correcting.correct.Goals as goal
 
 -- the message was refused

@@ -3,7 +3,6 @@ use mathlib.Core.Path.{refl}
 use mathlib.Core.Bool.{and-false}
 use native.Mathlib.Omega.{arith}
 use borrow.Author.Tests.{le-leb, lt-leb}
-use borrow.Author.Rules.{rules}
 use Rattle.txxx.proofs.correcting.mark.Goals as goal
 
 pub returns-then-len-lt-LEAST : goal.returns-then-len-lt-LEAST

@@ -2,7 +2,6 @@
 use mathlib.Core.Path.{refl, ◌∙◌}
 use native.Mathlib.Omega.{arith}
 use borrow.Author.Tests.{le-leb, lt-leb}
-use borrow.Author.Rules.{rules}
 use Rattle.txxx.proofs.reading.limit.Goals as goal
 
 pub returns-then-size-gt1680 : goal.returns-then-size-gt1680

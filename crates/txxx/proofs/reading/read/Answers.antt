@@ -7,7 +7,6 @@ use Rattle.format.specs.Laws.Answers.{led_so}
 use Rattle.format.specs.Laws.Lead.{read_first}
 use Rattle.txxx.specs.Txxx.{txxx, txxxs, record_of, answer_of}
 use Rattle.txxx.specs.declared.reading.Answer.TheVariants.{Good, Refused}
-use borrow.Author.Rules.{rules}
 use Rattle.txxx.proofs.reading.read.Goals as goal
 
 pub returns-then-code-ne0 : goal.returns-then-code-ne0

@@ -13,7 +13,6 @@ use Rattle.format.specs.Laws.Tells.{twice_tells}
 use Rattle.walk.specs.Laws.Walked.{finish}
 use Rattle.txxx.specs.Txxx.{letters, bounded, limits, filling, txxx, record_of}
 use Rattle.txxx.specs.declared.reading.Answer.TheVariants.{Good, Refused}
-use borrow.Author.Rules.{rules}
 use Rattle.txxx.proofs.reading.walked.Goals as goal
 
 pub returns : goal.returns

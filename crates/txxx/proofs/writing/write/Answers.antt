@@ -2,7 +2,6 @@
 use mathlib.Core.Path.{refl}
 use Rattle.walk.specs.Laws.Making.{write_refused, write_stamped}
 use Rattle.txxx.specs.Txxx.{txxxs, values_of}
-use borrow.Author.Rules.{rules}
 use Rattle.txxx.proofs.writing.write.Goals as goal
 
 pub returns-then-refusal-ne0 : goal.returns-then-refusal-ne0

@@ -1,6 +1,5 @@
 -- `read` goes by the warning type.
 use borrow.Author.Tests.{ne_eqb}
-use borrow.Author.Rules.{rules}
 use Rattle.warning.proofs.bodies.read.Goals as goal
 
 pub returns-then-kind-eq1 : goal.returns-then-kind-eq1

@@ -2,7 +2,6 @@
 use mathlib.Core.Path.{refl}
 use lib.Dec.{lit<, lit≤}
 use Rattle.walk.specs.Laws.Reading.{step_num, step_fill}
-use borrow.Author.Rules.{rules}
 use Rattle.warning.proofs.bodies.read_waves.Goals as goal
 
 pub returns : goal.returns

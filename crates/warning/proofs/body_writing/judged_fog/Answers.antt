@@ -1,7 +1,6 @@
 -- `judged_fog` judges the body's values in bit order: one step a field. Printed by tools/bodies.
 use lib.Dec.{lit<}
 use Rattle.walk.specs.Laws.Judging.{judge_num, judge_fixed}
-use borrow.Author.Rules.{rules}
 use Rattle.warning.proofs.body_writing.judged_fog.Goals as goal
 
 pub returns : goal.returns

@@ -1,5 +1,4 @@
 -- `put` goes by the body's variant.
-use borrow.Author.Rules.{rules}
 use Rattle.warning.proofs.body_writing.put.Goals as goal
 
 pub returns-in-Cyclone : goal.returns-in-Cyclone

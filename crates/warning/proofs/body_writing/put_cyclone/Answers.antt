@@ -4,7 +4,6 @@ use native.Mathlib.Omega.{arith}
 use lib.Dec.{lit≤}
 use lib.ListN.{length}
 use Rattle.format.proofs.Laws.Putting.{put_step}
-use borrow.Author.Rules.{rules}
 use Rattle.warning.proofs.body_writing.put_cyclone.Goals.{After-put-4}
 use Rattle.warning.proofs.body_writing.put_cyclone.Goals as goal
 

@@ -4,7 +4,6 @@ use lib.Dec.{lit<, lit≤}
 use Rattle.format.specs.Correcting.{put_in_lem}
 use Rattle.format.specs.Laws.Extent.{opens_field}
 use Rattle.format.proofs.Laws.Putting.{put_step, put_pair}
-use borrow.Author.Rules.{rules}
 use Rattle.warning.proofs.body_writing.put_fog.Goals as goal
 
 pub returns : goal.returns

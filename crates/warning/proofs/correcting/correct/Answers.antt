@@ -7,7 +7,6 @@ use Rattle.warning.specs.Warning.{warnings, record_of, refusal_of}
 use Rattle.warning.specs.Changed.{field_of}
 use Rattle.warning.specs.Laws.Demands.{family, looked_stands}
 use Rattle.warning.specs.declared.reading.Answer.TheVariants.{Good, Refused}
-use borrow.Author.Rules.{rules}
 use Rattle.warning.proofs.correcting.correct.Goals as goal
 
 -- the message was refused

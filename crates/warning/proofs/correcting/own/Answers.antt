@@ -3,7 +3,6 @@ use mathlib.Core.Path.{◌≡◌, refl, ap, ◌∙◌}
 use borrow.Author.Tests.{ne_eqb}
 use Rattle.warning.specs.Bodies.{surge, kind_of}
 use Rattle.warning.specs.Changed.{own_spot}
-use borrow.Author.Rules.{rules}
 use Rattle.warning.proofs.correcting.own.Goals as goal
 
 pub returns-in-1 : goal.returns-in-1

@@ -4,7 +4,6 @@ use lib.Dec.{lit≤}
 use Rattle.format.specs.Laws.Spots.{Unnamed}
 use Rattle.warning.specs.Bodies.{kind_of}
 use Rattle.warning.specs.Laws.Correction.{common_found, not_every}
-use borrow.Author.Rules.{rules}
 use Rattle.warning.proofs.correcting.stands.Goals as goal
 
 pub returns-in-1 : goal.returns-in-1

@@ -23,8 +23,6 @@ use Rattle.warning.specs.Laws.Told.{recorded}
 use Rattle.warning.specs.declared.reading.Warning.{Warning}
 use Rattle.warning.specs.declared.reading.Answer.{Answer}
 use Rattle.warning.specs.declared.reading.Answer.TheVariants.{Good, Refused}
-use borrow.Author.Rules.{rules}
-use Rattle.ais_common.proofs.time.read.Reads as read_reads'
 use Rattle.warning.proofs.reading.fields.Goals.{After-fill, After-num-w, After-num-w-2, After-number-w, Else-s-ne-LEAST}
 use Rattle.warning.proofs.reading.fields.Goals as goal
 

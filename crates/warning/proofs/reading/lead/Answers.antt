@@ -3,7 +3,6 @@ use mathlib.Core.Path.{◌∙◌}
 use lib.Dec.{lit≤}
 use Rattle.ais_common.specs.Laws.Sound.{got_lead}
 use Rattle.warning.specs.Warning.{asked, warnings}
-use borrow.Author.Rules.{rules}
 use Rattle.warning.proofs.reading.lead.Goals as goal
 
 pub returns : goal.returns

@@ -6,7 +6,6 @@ use Rattle.format.specs.Laws.Lead.{read_first, exact_fields}
 use Rattle.warning.specs.Warning.{warning, warnings, record_of, answer_of}
 use Rattle.warning.specs.Laws.Sound.{sized}
 use Rattle.warning.specs.declared.reading.Answer.TheVariants.{Good, Refused}
-use borrow.Author.Rules.{rules}
 use Rattle.warning.proofs.reading.read.Goals as goal
 
 pub returns-then-code-ne0 : goal.returns-then-code-ne0

@@ -4,7 +4,6 @@ use Rattle.format.specs.Promises.{Writes}
 use Rattle.format.specs.Refusals.{bare}
 use Rattle.walk.specs.Laws.Making.{closing_told, write_refused, write_bare}
 use Rattle.warning.specs.Warning.{warnings, values_as}
-use borrow.Author.Rules.{rules}
 use Rattle.warning.proofs.writing.write.Goals as goal
 
 pub returns-then-refusal-ne0 : goal.returns-then-refusal-ne0

@@ -3,7 +3,6 @@ use mathlib.Core.Path.{refl}
 use native.Mathlib.Omega.{arith}
 use borrow.Author.Tests.{lt-ltb, le-ltb}
 use Rattle.ais_common.specs.Time.{spell_short}
-use borrow.Author.Rules.{rules}
 use Rattle.ais_common.proofs.time.ShortTime.spelled.Goals as goal
 
 pub returns-then-month-ge16 : goal.returns-then-month-ge16

@@ -1,7 +1,6 @@
 -- `of` divides the number as its parts stand in it.
 use Prim.Native.Nat.{◌%◌}
 use Rattle.ais_common.specs.Time.{time_of, short_of}
-use borrow.Author.Rules.{rules}
 use Rattle.ais_common.proofs.time.Time.of.Goals as goal
 
 pub returns : goal.returns

@@ -3,7 +3,6 @@ use mathlib.Core.Path.{◌≡◌, refl, ap, ◌∙◌}
 use Prim.Native.Nat.{ℕ, ◌+◌, ◌*◌, ◌^◌}
 use borrow.Author.Tests.{lt-ltb, le-ltb}
 use Rattle.ais_common.specs.Time.{spell_short, spell_time, timed}
-use borrow.Author.Rules.{rules}
 use Rattle.ais_common.proofs.time.Time.spelled.Goals as goal
 
 pub returns-then-date-ge16384 : goal.returns-then-date-ge16384

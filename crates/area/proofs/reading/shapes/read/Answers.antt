@@ -1,6 +1,5 @@
 -- `read` goes by the shape's number.
 use borrow.Author.Tests.{ne_eqb}
-use borrow.Author.Rules.{rules}
 use Rattle.area.proofs.reading.shapes.read.Goals as goal
 
 pub returns-then-kind-eq1 : goal.returns-then-kind-eq1

@@ -5,7 +5,6 @@ use mathlib.Core.Path.{refl, ◌∙◌}
 use lib.Dec.{lit<, lit≤}
 use Rattle.walk.specs.Laws.Reading.{step_num, step_blank}
 use Rattle.area.specs.Laws.Walking.{Angle, angle_narrow, angle_read}
-use borrow.Author.Rules.{rules}
 use Rattle.area.proofs.reading.shapes.read_circle.Goals as goal
 
 pub returns : goal.returns

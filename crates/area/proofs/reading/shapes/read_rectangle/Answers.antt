@@ -4,7 +4,6 @@ use mir.ValLaws.{to_z-of_z}
 use mathlib.Core.Path.{refl, ◌∙◌}
 use lib.Dec.{lit<, lit≤}
 use Rattle.area.specs.Laws.Walking.{Angle, angle_narrow, angle_read}
-use borrow.Author.Rules.{rules}
 use Rattle.area.proofs.reading.shapes.read_rectangle.Goals as goal
 
 pub returns : goal.returns

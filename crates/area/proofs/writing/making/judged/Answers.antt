@@ -10,7 +10,6 @@ use Rattle.ais_common.specs.Laws.Walking.{time_judged_lem, short_judged_lem}
 use Rattle.area.specs.Area.{area, values_as}
 use Rattle.area.specs.Shapes.{shape_kind}
 use Rattle.area.specs.Laws.Walking.{kind_judged}
-use borrow.Author.Rules.{rules}
 use Rattle.area.proofs.writing.making.judged.Goals as goal
 
 pub overflow_cast-kind : goal.overflow_cast-kind

@@ -11,7 +11,6 @@ use Rattle.format.specs.Laws.Putting.{put_start, put_end}
 use Rattle.format.proofs.Laws.Putting.{put_step}
 use Rattle.area.specs.Area.{area, values_as}
 use Rattle.ais_common.specs.Laws.Walking.{put_told}
-use borrow.Author.Rules.{rules}
 use Rattle.area.proofs.writing.making.put.Goals.{After-put-10, After-put-4}
 use Rattle.area.proofs.writing.making.put.Goals as goal
 

@@ -1,11 +1,10 @@
 -- `judged` walks the head, the areas and the text; a refused head ends it.
-use Prim.Native.Nat.{◌+◌, ◌-◌, ◌*◌}
+use Prim.Native.Nat.{◌*◌}
 use mathlib.Core.Path.{◌≡◌, sym, ap, ◌∙◌, subst⁻¹}
 use mathlib.Core.Bool.{cond}
 use mathlib.Core.List.{◌++◌}
 use native.Mathlib.Omega.{arith}
 use lib.ListN.{length}
-use borrow.Author.Rules.{rules}
 use Rattle.bits.specs.Bits.{Bytes}
 use Rattle.walk.specs.Walk.{onward}
 use Rattle.walk.specs.declared.walk.Walk.{Walk}
@@ -38,14 +37,14 @@ returns c =
     let t = a.text.now in
     let fine : Bytes t = λ i. (c.shared_slice_known-2-1.given i).fits in
     let x = c.judged_head-head.ensures in
-    let few = x.few i.if-head-ne0.false in
+    let few = x.few c.if-head-ne0.false in
     let row = a.areas.now in
     let n = a.r.count in
     let y = areas_judged_lem row n in
     let all = areas_judged row n 0 fresh in
     let is : c.judge-all.result ≡ all = c.judge-all.ensures in
     let near = ap (λ (r : Stepped). r.walk.at) is in
-    let g = (subst⁻¹ (λ (r : Stepped). JudgesAlong (areas our_point n) (λ f. f) fresh (areas_told n row) r.walk) is (y.along 0 fresh (omega (arith, few)))).on (from_front i.if-head-ne0.false (x.is a.english (areas_told a.r.count a.areas.now ++ texted t))) in
+    let g = (subst⁻¹ (λ (r : Stepped). JudgesAlong (areas our_point n) (λ f. f) fresh (areas_told n row) r.walk) is (y.along 0 fresh (omega (arith, few)))).on (from_front c.if-head-ne0.false (x.is a.english (areas_told a.r.count a.areas.now ++ texted t))) in
     record {
       judged = text_judged a.english t c.choose_code-fault.result fine (omega (arith, near, y.near 0 fresh, few)) (c.choose_code-fault.ensures ∙ ap (λ b. cond b 0 4) (c.in_language.ensures ∙ spoken_whole a.english t fine)) c.wide-walk.ensures g;
       asked = λ z. ap (λ (r : Stepped). r.next) is ∙ y.next 0 fresh (ap (λ (r : Stepped). r.walk.code) (sym is) ∙ (clean c.judge-all.result.walk.code c.choose_code-fault.result (ap (λ (w : Walk). w.code) (sym c.wide-walk.ensures) ∙ z)).0) ∙ omega arith;

@@ -1,9 +1,7 @@
 -- `judged_head` walks the head's values in bit order: each step is a law of judging.
-use Prim.Native.Nat.{◌-◌, ◌<◌}
 use mathlib.Core.Path.{ap₂, ◌∙◌}
 use mathlib.Core.List.{[], ◌∷◌}
 use lib.Dec.{lit<}
-use borrow.Author.Rules.{rules}
 use Rattle.walk.specs.Judging.{valued}
 use Rattle.walk.specs.Laws.Judging.{judge_start, judge_num, judge_limits, judge_deciding, valued_between}
 use Rattle.notice_fields.specs.Parts.{subtypes, subtype}

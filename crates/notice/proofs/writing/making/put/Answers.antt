@@ -1,9 +1,8 @@
 -- `put` puts the head, the areas, the text and the fill behind one another.
-use Prim.Native.Nat.{ℕ, ◌+◌, ◌-◌}
+use Prim.Native.Nat.{ℕ}
 use mathlib.Core.Path.{subst⁻¹}
 use mathlib.Core.List.{List, ◌++◌}
 use native.Mathlib.Omega.{arith}
-use borrow.Author.Rules.{rules}
 use Rattle.bits.specs.Bits.{Bytes, put_bytes_at}
 use Rattle.format.specs.Laws.Extent.{opens_field}
 use Rattle.format.specs.Laws.Putting.{put_bytes, put_run, put_fill, put_end}

@@ -1,8 +1,6 @@
 -- `put_head` puts the head's values in bit order.
-use Prim.Native.Nat.{◌-◌, ◌≤◌}
 use mathlib.Core.Path.{◌∙◌}
 use lib.Dec.{lit≤}
-use borrow.Author.Rules.{rules}
 use Rattle.format.specs.Laws.Putting.{put_start}
 use Rattle.format.proofs.Laws.Putting.{put_step, put_choice}
 use Rattle.notice.specs.Notice.{ours, notice as Notice·notice}

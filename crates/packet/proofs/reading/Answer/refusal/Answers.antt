@@ -1,5 +1,5 @@
 -- `refusal` goes by the answer: a good one has none.
-use Rattle.std.proofs.Common.{sym, ap, rules}
+use Rattle.std.proofs.Common.{sym, ap}
 use Rattle.packet.specs.Packet.{refusal_of}
 use Rattle.packet.proofs.reading.Answer.refusal.Goals as goal
 

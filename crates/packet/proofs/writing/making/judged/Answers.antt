@@ -1,5 +1,5 @@
 -- `judged` walks the head's values in bit order, each step a law of judging; the content is as many bits as its bytes have, and any will do.
-use Rattle.std.proofs.Common.{ℕ, ◌-◌, ◌*◌, Bool, List, [], ◌∷◌, length, refl, ap, ◌∙◌, arith, lit<, rules}
+use Rattle.std.proofs.Common.{ℕ, ◌-◌, ◌*◌, Bool, List, [], ◌∷◌, length, refl, ap, ◌∙◌, arith, lit<}
 use Rattle.bits.specs.Bits.{value_of, bits_of}
 use Rattle.bits.specs.Laws.Runs.{bytes_value_lt}
 use Rattle.format.specs.Fmt.{Out, end, field, write}

@@ -1,5 +1,5 @@
 -- `put` puts the values in bit order: each step is a law of putting, and the content is one run of bytes.
-use Rattle.std.proofs.Common.{◌∙◌, arith, lit≤, rules}
+use Rattle.std.proofs.Common.{◌∙◌, arith, lit≤}
 use Rattle.bits.specs.Bits.{Bytes, put_bytes_at}
 use Rattle.format.specs.Laws.Extent.{opens_field}
 use Rattle.format.specs.Laws.Putting.{put_start, put_bytes, put_run, put_end}

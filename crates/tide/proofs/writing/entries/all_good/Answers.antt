@@ -1,7 +1,6 @@
 -- `all_good` tells what its tests of the walk found, and what `good_entries` did.
 use mathlib.Core.Bool.{false≢true}
 use native.Mathlib.Omega.{arith}
-use borrow.Author.Rules.{rules}
 use Rattle.tide.proofs.writing.entries.all_good.Goals as goal
 
 pub returns-then-w-ne0 : goal.returns-then-w-ne0

@@ -1,11 +1,7 @@
 -- `good_entries` tells that every entry is good: those before j are.
-use Prim.Native.Nat.{◌-◌, ◌≤◌}
 use mathlib.Core.Bool.{false≢true}
 use native.Mathlib.Omega.{arith}
-use borrow.Author.Tests.{not-false}
-use Rattle.tide.specs.RowEntries.{GoodEntries}
 use Rattle.tide.specs.Laws.RowEntries.{good_turn}
-use borrow.Author.Rules.{rules}
 use Rattle.tide.proofs.writing.entries.good_entries.Goals as goal
 
 pub overflow_mul-n : goal.overflow_mul-n
@@ -63,7 +59,7 @@ pub loop-j-preserved : goal.loop-j-preserved
 loop-j-preserved c =
     let a = c.args in
     let j = c.loop-j.j in
-    (omega arith, good_turn a.row.now a.k j c.loop-j.invariant.1 (omega arith) (c.good_entry.ensures (not-false _ c.if-not-good_entry.false)))
+    (omega arith, good_turn a.row.now a.k j c.loop-j.invariant.1 (omega arith) (c.good_entry.ensures c.if-not-good_entry.false))
 
 pub returns : goal.returns
 returns c e j l = c.loop-j.invariant.1 j (omega arith)

@@ -1,11 +1,6 @@
 -- `good_entries` tells that every entry is good: those before j are.
 use Prim.Native.Nat.{◌-◌, ◌≤◌}
-use mathlib.Core.Bool.{false≢true}
-use native.Mathlib.Omega.{arith}
-use borrow.Author.Tests.{not-false}
 use Rattle.tide.specs.RowEntries.{GoodEntries}
-use Rattle.tide.specs.Laws.RowEntries.{good_turn}
-use borrow.Author.Rules.{rules}
 use Rattle.tide.proofs.writing.entries.good_entries.Given as goal
 
 abbrev pub invariant-loop-j : goal.invariant-loop-j

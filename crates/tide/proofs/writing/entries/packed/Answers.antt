@@ -1,6 +1,5 @@
 -- `packed` is the sum that it promises.
 use native.Mathlib.Omega.{arith}
-use borrow.Author.Rules.{rules}
 use Rattle.tide.proofs.writing.entries.packed.Goals as goal
 
 pub returns : goal.returns

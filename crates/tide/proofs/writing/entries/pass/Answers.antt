@@ -1,7 +1,5 @@
 -- `pass` leaves the walk where judging n good entries one by one does (`entries_quiet`).
-use Prim.Native.Nat.{◌-◌}
 use Rattle.tide.specs.Laws.RowEntries.{pass_quiet}
-use borrow.Author.Rules.{rules}
 use Rattle.tide.proofs.writing.entries.pass.Goals as goal
 
 pub returns : goal.returns

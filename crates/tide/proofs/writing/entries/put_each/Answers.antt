@@ -1,13 +1,11 @@
 -- `put_each` meets its contract: what is left to put behind j entries is what there was to put.
-use Prim.Native.Nat.{◌+◌, ◌-◌, ◌*◌, ◌≤◌}
+use Prim.Native.Nat.{◌+◌, ◌-◌, ◌*◌}
 use mathlib.Core.Path.{◌≡◌, refl, sym, ap, ◌∙◌}
 use native.Mathlib.Omega.{arith}
-use lib.ListN.{length}
 use Rattle.walk.specs.Rows.{even_put}
 use Rattle.walk.specs.Laws.RowsPut.{even_put_turn}
 use Rattle.tide.specs.Making.{three_put, entry_put, entries_put}
 use Rattle.tide.specs.Row.{entry_bits}
-use borrow.Author.Rules.{rules}
 use Rattle.tide.proofs.writing.entries.put_each.Goals as goal
 
 pub loop-j-init : goal.loop-j-init

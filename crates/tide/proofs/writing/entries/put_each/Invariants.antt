@@ -1,13 +1,9 @@
 -- `put_each` meets its contract: what is left to put behind j entries is what there was to put.
 use Prim.Native.Nat.{◌+◌, ◌-◌, ◌*◌, ◌≤◌}
-use mathlib.Core.Path.{◌≡◌, refl, sym, ap, ◌∙◌}
-use native.Mathlib.Omega.{arith}
+use mathlib.Core.Path.{◌≡◌}
 use lib.ListN.{length}
-use Rattle.walk.specs.Rows.{even_put}
-use Rattle.walk.specs.Laws.RowsPut.{even_put_turn}
-use Rattle.tide.specs.Making.{three_put, entry_put, entries_put}
+use Rattle.tide.specs.Making.{entries_put}
 use Rattle.tide.specs.Row.{entry_bits}
-use borrow.Author.Rules.{rules}
 use Rattle.tide.proofs.writing.entries.put_each.Given as goal
 
 abbrev pub invariant-loop-j : goal.invariant-loop-j

@@ -6,7 +6,6 @@ use lib.ListN.{length}
 use Rattle.bits.specs.Laws.Answers.{within_true}
 use Rattle.format.specs.Correcting.{put_in, put_in_lem}
 use Rattle.tide.specs.Laws.Packed.{entry_packed}
-use borrow.Author.Rules.{rules}
 use Rattle.tide.proofs.writing.entries.put_entry.Goals as goal
 
 pub packed-all-requires : goal.packed-all-requires

@@ -1,11 +1,10 @@
 -- `judge_entries` meets its contract: good entries are passed at once; else what is left to judge behind j entries is what there was to judge.
-use Prim.Native.Nat.{◌+◌, ◌-◌, ◌*◌, ◌≤◌}
+use Prim.Native.Nat.{◌+◌, ◌-◌, ◌*◌}
 use mathlib.Core.Path.{◌≡◌, sym, ap, ap₂, ◌∙◌}
 use native.Mathlib.Omega.{arith}
 use Rattle.walk.specs.Rows.{even_judged}
 use Rattle.walk.specs.Laws.RowsJudged.{even_judged_turn}
 use Rattle.tide.specs.Making.{entry_judged, entries_judged}
-use borrow.Author.Rules.{rules}
 use Rattle.tide.proofs.writing.making.judge_entries.Goals as goal
 
 pub pass-requires : goal.pass-requires

@@ -1,11 +1,7 @@
 -- `judge_entries` meets its contract: good entries are passed at once; else what is left to judge behind j entries is what there was to judge.
 use Prim.Native.Nat.{◌+◌, ◌-◌, ◌*◌, ◌≤◌}
-use mathlib.Core.Path.{◌≡◌, sym, ap, ap₂, ◌∙◌}
-use native.Mathlib.Omega.{arith}
-use Rattle.walk.specs.Rows.{even_judged}
-use Rattle.walk.specs.Laws.RowsJudged.{even_judged_turn}
-use Rattle.tide.specs.Making.{entry_judged, entries_judged}
-use borrow.Author.Rules.{rules}
+use mathlib.Core.Path.{◌≡◌}
+use Rattle.tide.specs.Making.{entries_judged}
 use Rattle.tide.proofs.writing.making.judge_entries.Given as goal
 
 abbrev pub invariant-loop-j : goal.invariant-loop-j

@@ -1,5 +1,5 @@
 -- `judge_entry` judges a time, a sign, and a value whose least hangs on the sign.
-use Prim.Native.Nat.{◌+◌, ◌-◌}
+use Prim.Native.Nat.{◌+◌}
 use mathlib.Core.Path.{ap, ap₂, ◌∙◌}
 use lib.ListN.{get_or}
 use Rattle.walk.specs.Judging.{valued}
@@ -8,7 +8,6 @@ use Rattle.notice_fields.specs.PartsSteps.{time_judged}
 use Rattle.tide.specs.Row.{some_time}
 use Rattle.tide.specs.Making.{level_judged}
 use Rattle.tide.specs.Tide.{least_of}
-use borrow.Author.Rules.{rules}
 use Rattle.tide.proofs.writing.making.judge_entry.Goals as goal
 
 pub returns : goal.returns

@@ -1,11 +1,10 @@
 -- `judge_place` meets its contract: by the position type.
-use Prim.Native.Nat.{◌+◌, ◌-◌}
+use Prim.Native.Nat.{◌+◌}
 use mathlib.Core.Path.{ap, ap₂, ◌∙◌}
 use borrow.Author.Tests.{eq-eqb, ne_eqb}
 use Rattle.walk.specs.Judging.{valued}
 use Rattle.walk.specs.declared.walk.Walk.{Walk}
 use Rattle.notice_fields.specs.PartsSteps.{latitude_judged, longitude_judged}
-use borrow.Author.Rules.{rules}
 use Rattle.tide.proofs.writing.making.judge_place.Goals as goal
 
 pub returns-then-kind-eq-PORT : goal.returns-then-kind-eq-PORT

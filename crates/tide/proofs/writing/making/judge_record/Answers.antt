@@ -1,5 +1,5 @@
 -- `judge_record` judges the position type, the position, the mark, the count and the entries; a refused count ends it.
-use Prim.Native.Nat.{◌+◌, ◌-◌, ◌*◌, ◌≤◌}
+use Prim.Native.Nat.{◌+◌, ◌*◌, ◌≤◌}
 use mathlib.Core.Path.{sym, ap, ◌∙◌, subst⁻¹}
 use mathlib.Core.Bool.{cond}
 use native.Mathlib.Omega.{arith}
@@ -11,7 +11,6 @@ use Rattle.walk.specs.declared.making.Stepped.{Stepped}
 use Rattle.walk.specs.declared.walk.Walk.{Walk}
 use Rattle.tide.specs.Making.{entry_judged}
 use Rattle.tide.specs.Laws.Judging.{record_turn, place_small}
-use borrow.Author.Rules.{rules}
 use Rattle.tide.proofs.writing.making.judge_record.Goals as goal
 
 pub overflow_add-next : goal.overflow_add-next
@@ -22,31 +21,15 @@ overflow_add-next c =
 
 pub overflow_add-first : goal.overflow_add-first
 overflow_add-first c =
-    let v3 = c in
-    let e3 = v3.before in
-    let v2 = e3.before in
-    let e2 = v2.before in
-    let jp = e2.before.before in
-    let v = jp.before in
-    let e = v.before in
-    let st = e.before.before in
-    let a = st.args in
-    let few = subst⁻¹ (λ (p : Stepped). p.next ≤ a.k + 1 + 2) jp.judge-place.ensures (place_small a.row.now e.entry.result (a.k + 1) v.value.result) in
-    omega (arith, few, st.requires)
+    let a = c.args in
+    let few = subst⁻¹ (λ (p : Stepped). p.next ≤ a.k + 1 + 2) c.judge_place-place.ensures (place_small a.row.now c.entry-kind.result (a.k + 1) c.value.result) in
+    omega (arith, few, c.requires)
 
 pub overflow_add-first-2 : goal.overflow_add-first-2
 overflow_add-first-2 c =
-    let v3 = c in
-    let e3 = v3.before in
-    let v2 = e3.before in
-    let e2 = v2.before in
-    let jp = e2.before.before in
-    let v = jp.before in
-    let e = v.before in
-    let st = e.before.before in
-    let a = st.args in
-    let few = subst⁻¹ (λ (p : Stepped). p.next ≤ a.k + 1 + 2) jp.judge-place.ensures (place_small a.row.now e.entry.result (a.k + 1) v.value.result) in
-    omega (arith, few, st.requires)
+    let a = c.args in
+    let few = subst⁻¹ (λ (p : Stepped). p.next ≤ a.k + 1 + 2) c.judge_place-place.ensures (place_small a.row.now c.entry-kind.result (a.k + 1) c.value.result) in
+    omega (arith, few, c.requires)
 
 -- before `returns`: a build that lets a count of 0 pass is wrong here, and there it is not
 pub returns : goal.returns

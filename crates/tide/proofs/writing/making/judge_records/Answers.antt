@@ -1,5 +1,5 @@
 -- `judge_records` meets its contract: what is left to judge behind i records is what there was to judge; a refused one leaves nothing.
-use Prim.Native.Nat.{◌+◌, ◌-◌, ◌*◌, ◌≤◌}
+use Prim.Native.Nat.{◌+◌, ◌-◌}
 use mathlib.Core.Path.{◌≡◌, sym, ap, ◌∙◌}
 use mathlib.Core.Bool.{cond}
 use native.Mathlib.Omega.{arith}
@@ -7,7 +7,6 @@ use borrow.Author.Tests.{eq-eqb, ne_eqb}
 use Rattle.walk.specs.Rows.{repeat_judged}
 use Rattle.walk.specs.Laws.RowsJudged.{repeat_judged_turn}
 use Rattle.tide.specs.Making.{record_judged, records_judged}
-use Rattle.tide.specs.Row.{long_most}
 use Rattle.tide.specs.Laws.Judging.{record_small}
 use Rattle.tide.proofs.writing.making.judge_records.Goals as goal
 

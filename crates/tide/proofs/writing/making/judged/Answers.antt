@@ -1,5 +1,4 @@
 -- `judged` walks the head and the records; a refused head ends it.
-use Prim.Native.Nat.{◌-◌, ◌<◌}
 use mathlib.Core.List.{[], ◌∷◌}
 use lib.Dec.{lit<}
 use Rattle.format.specs.Codes.{codes, headed}
@@ -7,7 +6,6 @@ use Rattle.walk.specs.Laws.Judging.{judge_start, judge_fixed, judge_deciding, va
 use Rattle.tide.specs.Record.{leading}
 use Rattle.tide.specs.Tide.{tides}
 use Rattle.tide.specs.Laws.Writing.{HeadJudged, head_refused, head_on}
-use borrow.Author.Rules.{rules}
 use Rattle.tide.proofs.writing.making.judged.Goals as goal
 
 -- before `returns`: a build that lets a count of 0 pass is wrong here, and there it is not

@@ -1,5 +1,4 @@
 -- `put` puts the head, the records and the fill behind one another.
-use Prim.Native.Nat.{◌-◌}
 use mathlib.Core.Path.{subst⁻¹}
 use mathlib.Core.List.{append-nil}
 use native.Mathlib.Omega.{arith}
@@ -13,7 +12,6 @@ use Rattle.tide.specs.Row.{records_told}
 use Rattle.tide.specs.Standing.{front}
 use Rattle.tide.specs.Tide.{rest, tide_record}
 use Rattle.tide.specs.Laws.Putting.{records_put_lem}
-use borrow.Author.Rules.{rules}
 use Rattle.tide.proofs.writing.making.put.Goals as goal
 
 pub returns : goal.returns

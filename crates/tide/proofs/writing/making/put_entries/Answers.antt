@@ -1,14 +1,12 @@
 -- `put_entries` meets its contract: what is left to put behind j entries is what there was to put; a row that is too short is left to `put_each`.
-use Prim.Native.Nat.{◌+◌, ◌-◌, ◌*◌, ◌≤◌}
+use Prim.Native.Nat.{◌+◌, ◌-◌, ◌*◌}
 use mathlib.Core.Path.{◌≡◌, refl, sym, ap, ◌∙◌}
 use native.Mathlib.Omega.{arith}
-use lib.ListN.{length}
 use Rattle.walk.specs.Rows.{even_put}
 use Rattle.walk.specs.Laws.RowsPut.{even_put_turn}
 use Rattle.tide.specs.Making.{entry_put, entries_put}
 use Rattle.tide.specs.Row.{entry_bits}
 use Rattle.tide.specs.Laws.RowEntries.{entry_there}
-use borrow.Author.Rules.{rules}
 use Rattle.tide.proofs.writing.making.put_entries.Goals as goal
 
 pub overflow_mul-n : goal.overflow_mul-n

@@ -1,5 +1,4 @@
 -- `put_head` puts the codes and the count.
-use Prim.Native.Nat.{◌-◌, ◌≤◌}
 use mathlib.Core.Path.{◌∙◌}
 use lib.Dec.{lit≤}
 use Rattle.format.specs.Codes.{codes, headed}
@@ -7,7 +6,6 @@ use Rattle.format.specs.Laws.Putting.{put_start}
 use Rattle.format.proofs.Laws.Putting.{put_step, put_choice}
 use Rattle.tide.specs.Record.{leading}
 use Rattle.tide.specs.Tide.{tides}
-use borrow.Author.Rules.{rules}
 use Rattle.tide.proofs.writing.making.put_head.Goals as goal
 
 pub shape_of-buf : goal.shape_of-buf

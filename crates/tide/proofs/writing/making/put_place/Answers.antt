@@ -1,10 +1,9 @@
 -- `put_place` meets its contract: by the position type.
-use Prim.Native.Nat.{◌+◌, ◌-◌}
+use Prim.Native.Nat.{◌+◌}
 use mathlib.Core.Path.{ap, ap₂, ◌∙◌}
 use borrow.Author.Tests.{eq-eqb, ne_eqb}
 use Rattle.format.specs.Correcting.{put_in, put_in_lem}
 use Rattle.notice_fields.specs.Parts.{latitude_bits, longitude_bits, point_bits}
-use borrow.Author.Rules.{rules}
 use Rattle.tide.proofs.writing.making.put_place.Goals as goal
 
 pub returns-then-kind-eq-PORT : goal.returns-then-kind-eq-PORT

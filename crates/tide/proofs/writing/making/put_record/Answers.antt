@@ -1,12 +1,11 @@
 -- `put_record` puts the position type, the position, the mark, the count and the entries behind one another.
-use Prim.Native.Nat.{◌+◌, ◌-◌, ◌*◌, ◌%◌}
+use Prim.Native.Nat.{◌+◌, ◌*◌, ◌%◌}
 use mathlib.Core.Path.{sym, ap, ◌∙◌}
 use native.Mathlib.Omega.{arith}
 use Rattle.format.specs.Correcting.{put_in, put_in_lem}
 use Rattle.walk.specs.Rows.{Put}
 use Rattle.tide.specs.Row.{entry_bits}
 use Rattle.tide.specs.Laws.Putting.{record_turn, place_small}
-use borrow.Author.Rules.{rules}
 use Rattle.tide.proofs.writing.making.put_record.Goals as goal
 
 pub overflow_add-next : goal.overflow_add-next

@@ -1,12 +1,10 @@
 -- `put_records` meets its contract: what is left to put behind i records is what there was to put.
-use Prim.Native.Nat.{◌+◌, ◌-◌, ◌*◌, ◌≤◌}
+use Prim.Native.Nat.{◌+◌, ◌-◌}
 use mathlib.Core.Path.{◌≡◌, refl, sym, ap, ◌∙◌}
 use native.Mathlib.Omega.{arith}
-use lib.ListN.{length}
 use Rattle.walk.specs.Rows.{repeat_put}
 use Rattle.walk.specs.Laws.RowsPut.{repeat_put_turn}
 use Rattle.tide.specs.Making.{record_put, records_put}
-use Rattle.tide.specs.Row.{long_most, record_most}
 use Rattle.tide.specs.Standing.{front}
 use Rattle.tide.specs.Laws.Putting.{record_small}
 use Rattle.tide.proofs.writing.making.put_records.Goals as goal

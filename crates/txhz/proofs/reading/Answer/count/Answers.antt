@@ -1,7 +1,6 @@
 -- `count` looks at the record of a good answer.
 use mathlib.Core.Path.{sym, ap}
 use Rattle.txhz.specs.Txhz.{count_of}
-use borrow.Author.Rules.{rules}
 use Rattle.txhz.proofs.reading.Answer.count.Goals as goal
 
 pub returns-in-Good : goal.returns-in-Good

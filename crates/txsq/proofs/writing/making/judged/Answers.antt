@@ -21,7 +21,6 @@ use Rattle.walk.specs.Laws.Judging.{Judging, judge_fixed, judge_num, judge_limit
 use Rattle.format.specs.Laws.Tells.{only_tells, twice_tells}
 use Rattle.txsq.specs.Txsq.{letters, body, rest, allowed, bounded, limits, filling, txsq, values_of}
 use Rattle.txsq.specs.Laws.Demands.{allowed_below}
-use borrow.Author.Rules.{rules}
 use Rattle.txsq.proofs.writing.making.judged.Goals.{After-on-w, After-value-w-4}
 use Rattle.txsq.proofs.writing.making.judged.Goals as goal
 

@@ -14,8 +14,6 @@ use Rattle.format.specs.Laws.Putting.{put_start, begins_then, put_run, put_end}
 use Rattle.format.proofs.Laws.Putting.{put_step, put_choice, begins}
 use Rattle.txsq.specs.Txsq.{letters, body, txsq, values_of}
 use Rattle.txsq.specs.Laws.Demands.{content_size}
-use borrow.Author.Rules.{rules}
-use Rattle.frame.proofs.put.Reads as put_reads'
 use Rattle.txsq.proofs.writing.making.put.Goals.{After-put-5}
 use Rattle.txsq.proofs.writing.making.put.Goals as goal
 

@@ -20,7 +20,6 @@ use Rattle.format.specs.Laws.Extent.{opens_field, opens_choice}
 use Rattle.walk.specs.Laws.Judging.{Judging, judge_num, judge_tells, judge_refused, judge_end}
 use Rattle.format.specs.Laws.Tells.{only_tells, twice_tells}
 use Rattle.txxx.specs.Txxx.{letters, body, rest, bounded, limits, filling, txxx, values_of}
-use borrow.Author.Rules.{rules}
 use Rattle.txxx.proofs.writing.making.judged.Goals.{After-on-w, After-value-w-4}
 use Rattle.txxx.proofs.writing.making.judged.Goals as goal
 

@@ -17,8 +17,6 @@ use Rattle.format.specs.Laws.Putting.{put_start, begins_then, put_run, put_end}
 use Rattle.format.proofs.Laws.Putting.{put_step, put_choice, put_number, begins}
 use Rattle.txxx.specs.Txxx.{letters, body, txxx, values_of}
 use Rattle.txxx.specs.Laws.Demands.{content_size}
-use borrow.Author.Rules.{rules}
-use Rattle.frame.proofs.put.Reads as put_reads'
 use Rattle.txxx.proofs.writing.making.put.Goals.{After-put-4}
 use Rattle.txxx.proofs.writing.making.put.Goals as goal
 

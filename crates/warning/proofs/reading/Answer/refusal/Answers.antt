@@ -1,7 +1,6 @@
 -- `refusal` goes by the answer: a good one has none.
 use mathlib.Core.Path.{sym, ap}
 use Rattle.warning.specs.Warning.{refusal_of}
-use borrow.Author.Rules.{rules}
 use Rattle.warning.proofs.reading.Answer.refusal.Goals as goal
 
 pub returns-in-Good : goal.returns-in-Good

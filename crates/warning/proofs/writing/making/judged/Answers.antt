@@ -12,8 +12,6 @@ use Rattle.format.specs.Laws.Tells.{only_tells}
 use Rattle.walk.specs.Laws.Judging.{judge_start, judge_fixed, judge_num, judge_tells, judge_end}
 use Rattle.ais_common.specs.Laws.Walking.{time_judged_lem}
 use Rattle.warning.specs.Warning.{warning, values_as}
-use borrow.Author.Rules.{rules}
-use Rattle.ais_common.proofs.time.judged.Reads as judged_reads'
 use Rattle.warning.proofs.writing.making.judged.Goals as goal
 
 pub overflow_cast-kind : goal.overflow_cast-kind

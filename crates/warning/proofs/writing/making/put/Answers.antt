@@ -12,8 +12,6 @@ use Rattle.format.specs.Laws.Extent.{opens_choice}
 use Rattle.format.specs.Laws.Putting.{put_start, put_end}
 use Rattle.format.proofs.Laws.Putting.{put_step}
 use Rattle.warning.specs.Warning.{warning, values_as}
-use borrow.Author.Rules.{rules}
-use Rattle.warning.proofs.body_writing.put.Reads as put_reads'
 use Rattle.warning.proofs.writing.making.put.Goals.{After-put-7}
 use Rattle.warning.proofs.writing.making.put.Goals as goal
 

@@ -1,0 +1,9 @@
+-- `accept` goes by the places by value: the row's first four are read, and the one that may change is stored.
+use Rattle.places.specs.Laws.Row.{accepts_short, accepts_row}
+use Rattle.desk.proofs.accept.Goals as goal
+
+pub returns-then-places-lt-PLACES : goal.returns-then-places-lt-PLACES
+returns-then-places-lt-PLACES c = let a = c.args in accepts_short a.places.now a.store.now a.packet.now _ c.if-places-lt-PLACES.true c.unplaced.ensures
+
+pub returns : goal.returns
+returns c = let a = c.args in accepts_row a.places.now a.store.now a.packet.now c.accept-accepted.result c.accept-accepted.new.store c.if-places-lt-PLACES.false c.accept-accepted.ensures

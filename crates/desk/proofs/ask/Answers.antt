@@ -1,0 +1,9 @@
+-- `ask` goes by the places by value: the row's first four are read, and the one that may change is stored.
+use Rattle.places.specs.Laws.Row.{asks_short, asks_row}
+use Rattle.desk.proofs.ask.Goals as goal
+
+pub returns-then-places-lt-PLACES : goal.returns-then-places-lt-PLACES
+returns-then-places-lt-PLACES c = let a = c.args in asks_short a.places.now a.store.now a.number a.notice.now a.missing.now c.if-places-lt-PLACES.true
+
+pub returns : goal.returns
+returns c = let a = c.args in asks_row a.places.now a.store.now a.number a.notice.now a.missing.now c.ask-asked.result c.ask-asked.new.notice c.ask-asked.new.missing c.if-places-lt-PLACES.false c.ask-asked.ensures
