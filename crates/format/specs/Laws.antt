@@ -18,13 +18,10 @@ pub mod Lead
 pub mod Answers
 pub mod Putting
 pub mod Sealing
-pub mod Placed
 pub mod Correcting
 pub mod Entries
 pub mod Family
 pub mod Lent
 pub mod Settled
 pub mod Corrections
-pub mod Showing
 pub mod Runs
-pub mod Written

@@ -1,7 +1,6 @@
 -- What is proved of them.
 pub mod Kinds
 pub mod Instances
-pub mod Spots
 pub mod Walking
 pub mod Subtypes
 pub mod PartsWalking

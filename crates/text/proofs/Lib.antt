@@ -1,2 +1,3 @@
 -- What the proofs of the two loops cite.
 mod Left
+pub mod Laws

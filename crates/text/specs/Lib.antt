@@ -1,4 +1,3 @@
--- What text is, and in `Laws` what is proved of it.
+-- What text is.
 pub mod Text
 mod Examples
-pub mod Laws

@@ -7,7 +7,8 @@ use Rattle.format.specs.Correcting.{put_in, put_in_lem}
 use Rattle.format.specs.Fmt.{Out, Judge, Fmt}
 use Rattle.format.specs.Words.{Part, part, ◌‥◌, walk, wide}
 use Rattle.format.specs.Laws.Extent.{Opens}
-use Rattle.format.specs.Laws.Putting.{Putting, put_number}
+use Rattle.format.specs.Laws.Putting.{Putting}
+use Rattle.format.proofs.Laws.Putting.{put_number}
 use Rattle.walk.specs.Pieces.{piecewise}
 use Rattle.walk.specs.Laws.Judging.{Judging}
 use Rattle.walk.specs.Laws.Parts.{step_there}

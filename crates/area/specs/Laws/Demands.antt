@@ -14,10 +14,11 @@ use Rattle.format.specs.declared.Refusal.{Refusal}
 use Rattle.format.specs.Words.{◌‥◌, num, fill, wide}
 use Rattle.format.specs.Laws.Answers.{good_read, answer_plain}
 use Rattle.format.specs.Laws.Entries.{entries}
-use Rattle.format.specs.Laws.Family.{Family, one_size, written_front, read_written, read_values}
+use Rattle.format.specs.Laws.Family.{Family}
+use Rattle.format.proofs.Laws.Family.{one_size, written_front, read_written, read_values}
 use Rattle.format.specs.Laws.Legal.{Legal, exactly, ranged}
-use Rattle.format.specs.Laws.Settled.{settled_named}
-use Rattle.format.specs.Laws.Whole.{was}
+use Rattle.format.proofs.Laws.Settled.{settled_named}
+use Rattle.format.proofs.Laws.Whole.{was}
 use Rattle.format.specs.Laws.Zero.{Judged, Counted, only_numbered}
 use Rattle.ais_common.specs.Time.{short_time, spell_time, time_of, spell_short, short_of}
 use Rattle.ais_common.specs.Laws.Spelling.{time_spell, spell_time_lem, short_spell, spell_short_lem}

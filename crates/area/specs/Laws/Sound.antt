@@ -10,10 +10,12 @@ use Rattle.format.specs.Fmt.{accepted, read}
 use Rattle.format.specs.Message.{Sound, between}
 use Rattle.format.specs.Words.{◌‥◌, only, wide, kept}
 use Rattle.format.specs.Laws.Entries.{Long, entries, legal_entries}
-use Rattle.format.specs.Laws.Extent.{extent, extent_laid}
-use Rattle.format.specs.Laws.Legal.{Legal, legal, passed, exactly}
-use Rattle.format.specs.Laws.Offsets.{value_at, choice_at}
-use Rattle.format.specs.Laws.Round.{read_write}
+use Rattle.format.specs.Laws.Extent.{extent}
+use Rattle.format.proofs.Laws.Extent.{extent_laid}
+use Rattle.format.specs.Laws.Legal.{Legal, passed, exactly}
+use Rattle.format.proofs.Laws.Legal.{legal}
+use Rattle.format.proofs.Laws.Offsets.{value_at, choice_at}
+use Rattle.format.proofs.Laws.Round.{read_write}
 use Rattle.area.specs.Area.{asked, tail, area, areas}
 use Rattle.area.specs.Shapes.{Kind, circle, rectangle, kind_of, shape}
 

@@ -7,7 +7,7 @@ use Rattle.format.specs.Message.{told, read_message, ahead}
 use Rattle.format.specs.Refusals.{shown, bare}
 use Rattle.format.specs.declared.Refusal.{Refusal}
 use Rattle.format.specs.Promises.{read_record, answered}
-use Rattle.format.specs.Laws.Zero.{read_zero_message}
+use Rattle.format.proofs.Laws.Zero.{read_zero_message}
 use Rattle.c_rows.specs.Row.{Fills}
 use Rattle.c_rows.specs.Laws.Row.{row_full, one_filling}
 use Rattle.notice.specs.Notice.{ours, notices}

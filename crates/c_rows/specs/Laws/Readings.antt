@@ -3,11 +3,11 @@ use Rattle.std.specs.Prelude.{ℕ, ◌≡◌, List, ◌∷◌, ℤ, pos, length}
 use Rattle.std.proofs.Common.{sym, ap}
 use Rattle.format.specs.Promises.{read_record}
 use Rattle.format.specs.declared.Refusal.{Refusal}
-use Rattle.format.specs.Laws.Family.{never_read}
+use Rattle.format.proofs.Laws.Family.{never_read}
 use Rattle.area.specs.Area.{areas, record_of as area_of}
 use Rattle.area.specs.Laws.Demands.{family as area_family}
 use Rattle.distress.specs.Report.{reports, report_of}
-use Rattle.distress.specs.Laws.Demands.{family as report_family}
+use Rattle.distress.proofs.Laws.Demands.{family as report_family}
 use Rattle.gljc.specs.Gljc.{gljcs, record_of as gljc_of}
 use Rattle.gljc.specs.Laws.Demands.{family as gljc_family}
 use Rattle.packet.specs.Packet.{packets, record_of as packet_of}

@@ -6,7 +6,8 @@ use Rattle.format.specs.Message.{told, leaves, into, write_message, correct_mess
 use Rattle.format.specs.Refusals.{bare}
 use Rattle.format.specs.declared.Refusal.{Refusal}
 use Rattle.format.specs.Promises.{answered, read_record, Writes, Corrects, tested, Lays}
-use Rattle.format.specs.Laws.Family.{refused_stands, never_read}
+use Rattle.format.specs.Laws.Family.{refused_stands}
+use Rattle.format.proofs.Laws.Family.{never_read}
 use Rattle.format.specs.Laws.Lent.{zero_stands, tested_zero, refused_laying}
 use Rattle.format.specs.Laws.Round.{clash}
 use Rattle.ais.specs.Slots.{first_of, slots_in, slots_for, addressed, broadcast}

@@ -8,7 +8,7 @@ use Rattle.format.specs.Refusals.{bare, shown as Refusals·shown}
 use Rattle.format.specs.declared.Refusal.{Refusal}
 use Rattle.format.specs.Promises.{answered, read_record, Corrects}
 use Rattle.format.specs.Settled.{SettledBy}
-use Rattle.format.specs.Laws.Family.{never_read}
+use Rattle.format.proofs.Laws.Family.{never_read}
 use Rattle.format.specs.Laws.Lent.{zero_stands}
 use Rattle.tide.specs.Changed.{changed, spot_of}
 use Rattle.tide.specs.HeightsPromises.{heights_read, shown, counted, answer_of as heights_answer, Shows}

@@ -5,7 +5,8 @@ use Rattle.std.proofs.lemmas.Bool.{false≢true}
 use Rattle.bits.specs.Bits.{field_at}
 use Rattle.format.specs.Message.{Sound}
 use Rattle.format.specs.Words.{kept}
-use Rattle.format.specs.Laws.First.{opens, bytes_long, led_between}
+use Rattle.format.specs.Laws.First.{led_between}
+use Rattle.format.proofs.Laws.First.{opens, bytes_long}
 use Rattle.distress.specs.Report.{report, reports, plain}
 
 pub sound : Sound reports

@@ -1,14 +1,10 @@
 -- What the fields of an accepted message say of its first tests: for a layout's proof that it is sound. Assumes nothing.
-use Rattle.std.specs.Prelude.{◌≡◌, refl, Bool, true, false, cond, ◌&&◌, List, [], ◌∷◌, ℕ, suc, ◌≤◌, leb, length, take, drop}
-use Rattle.std.proofs.Common.{sym, ◌∙◌, subst, arith, leb→le, leb-true}
-use Rattle.bits.specs.Bits.{value_of, bits_of, field_at}
-use Rattle.bits.specs.Laws.Bytes.{length_bits}
-use Rattle.format.specs.Fmt.{Out, accepted, Judge, Fmt, field, or_bad, read_field, read}
-use Rattle.format.specs.Message.{Layout, led, between}
-use Rattle.format.specs.Words.{◌‥◌, only}
-use Rattle.format.specs.Laws.Extent.{Plain, span_laid}
-use Rattle.format.specs.Laws.Legal.{Legal, legal, exactly}
-use Rattle.format.specs.Laws.Round.{checked, passed, also_inv, read_write}
+use Rattle.std.specs.Prelude.{◌≡◌, refl, Bool, true, false, cond, ◌&&◌, List, ◌∷◌, ℕ, ◌≤◌, leb, length, take, drop}
+use Rattle.std.proofs.Common.{sym, arith, leb→le, leb-true}
+use Rattle.bits.specs.Bits.{value_of}
+use Rattle.format.specs.Fmt.{Out, accepted, Judge, or_bad, read_field}
+use Rattle.format.specs.Message.{led, between}
+use Rattle.format.specs.Laws.Round.{checked, passed, also_inv}
 
 -- A field in front is there, and what is behind it is read.
 pub record Opened (w : ℕ) (b : List Bool) (next : ℕ → List Bool → Out (List ℕ)) (vs : List ℕ) : Type 0 where
@@ -24,21 +20,6 @@ opened w j h at b next vs e =
     let (t, z) = checked (or_bad (leb w (length b)) 1) at _ y in
     let (rest, after, front) = also_inv (value_of (take w b) ∷◌) (next (value_of (take w b)) (drop w b)) z in
     record { rest = rest; front = sym front; there = leb→le w (length b) (passed (leb w (length b)) 1 t); after = after }
-
--- a code in front is there
-pub opens : (w c n : ℕ) (m : List ℕ → Bool) (f : Fmt) (s vs : List ℕ) → read (field w (only w (suc c) (n ‥ n)) m f) [] 0 (bits_of s) ≡ accepted vs → field_at s 0 w ≡ n
-unfolding read field_at
-opens w c n m f s vs e =
-    let o = opened w (only w (suc c) (n ‥ n)) [] 0 (bits_of s) _ vs e in
-    let g = field w (only w (suc c) (n ‥ n)) m f in
-    let h = subst (Legal g []) o.front (legal g [] 0 vs (bits_of s) (read_write g [] 0 vs (bits_of s) e)) in
-    exactly w c n [] (value_of (take w (bits_of s))) h.0 h.1
-
--- an accepted message of a flat layout has its bytes
-pub bytes_long : (l : Layout) {n : ℕ} (x : Plain l n) (s vs : List ℕ) → read l.fmt [] 0 (bits_of s) ≡ accepted vs → length s ≡ n
-bytes_long l x s vs e =
-    let k = span_laid l.fmt [] 0 vs (bits_of s) x.even (read_write l.fmt [] 0 vs (bits_of s) e) ∙ x.spans in
-    omega (arith, k, length_bits s)
 
 -- first tests that pass have tested the sizes
 pub led_between : (m lo hi : ℕ) (k : List ℕ → Bool) (s : List ℕ) → led m k (λ s. between lo hi (length s)) s ≡ 0 → (lo ≤ length s) × (length s ≤ hi)

@@ -5,7 +5,7 @@ use Rattle.format.specs.Fmt.{Judge, Fmt, field, choice}
 use Rattle.format.specs.Words.{Test, free, only, num, deciding}
 use Rattle.format.specs.Laws.Past.{Past, Filled, past_then}
 use Rattle.format.specs.Laws.Zero.{Numbered, Judged, only_numbered}
-use Rattle.format.specs.Groups.{repeat, counted, Measure, then_of, decided_of, repeat_of, Telling, one_told, then_told, decided_told, repeat_told}
+use Rattle.format.specs.Groups.{repeat, Measure, then_of, decided_of, repeat_of, Telling, one_told, then_told, decided_told, repeat_told}
 
 -- A stretch of fields, none of them a count of bytes, which a row of numbers tells.
 pub record Item (item : Fmt → Fmt) (tell : Telling) (long : Measure) : Type 0 where
@@ -124,13 +124,6 @@ pub even : (l a n : ℕ) (row : List ℕ) → repeat_of (λ r. l) n (λ r. a) ro
 unfolding repeat_of
 even l a zero row = omega arith
 even l a (suc n) row = omega (arith, even l a n (drop l row))
-
-pub evenly : {item : Fmt → Fmt} {tell : Telling} {l : ℕ} → Item item tell (λ r. l) → (n : ℕ) → Item (repeat n item) (repeat_told (λ r. l) n tell) (λ r. n * l)
-evenly {item} {tell} {l} x n = subst (Item (repeat n item) (repeat_told (λ r. l) n tell)) (λ i row. even l l n row i) (repeated x n)
-
--- counted
-pub counted_evenly : {item : Fmt → Fmt} {tell : Telling} {l : ℕ} (g w : ℕ) (t : Test) → Item item tell (λ r. l) → Item (counted w t item) (decided_told g (λ n. repeat_told (λ r. l) n tell)) (decided_of g (λ n r. n * l))
-counted_evenly g w t x = decided g w (only w 4 t) (only_numbered w 3 t) (λ n. evenly x n)
 
 pub a_decider : (g w : ℕ) (t : Test) {a : ℕ → Fmt → Fmt} {ta : ℕ → Telling} {la : ℕ → Measure} → ((v : ℕ) → Item (a v) (ta v) (la v)) → Item (λ f. deciding w t λ v. a v f) (decided_told g ta) (decided_of g la)
 a_decider g w t x = decided g w (only w 4 t) (only_numbered w 3 t) x

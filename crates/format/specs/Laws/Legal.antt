@@ -1,13 +1,12 @@
 -- What accepted values have, field by field. Assumes nothing.
-use Rattle.std.specs.Prelude.{◌≡◌, refl, Bool, true, false, cond, ◌&&◌, List, [], ◌∷◌, ℕ, zero, suc, ◌+◌, ◌≤◌, ◌<◌, ◌^◌, leb}
+use Rattle.std.specs.Prelude.{◌≡◌, refl, Bool, true, false, cond, ◌&&◌, List, [], ◌∷◌, ℕ, zero, suc, ◌≤◌, ◌<◌, ◌^◌, leb}
 use Rattle.std.proofs.Common.{sym, ap, ◌∙◌, arith, leb-true}
 use Rattle.std.proofs.Math.Bool.{and-eq-true_iff}
 use Rattle.bits.specs.Bits.{digits}
 use Rattle.bits.specs.Laws.Digits.{length_digits, value_digits}
-use Rattle.format.specs.Fmt.{accepted, Fault, good, Fmt, end, field, choice, bytes, write}
+use Rattle.format.specs.Fmt.{Fault, good, Fmt, end, field, choice, bytes}
 use Rattle.format.specs.Words.{Test, ◌‥◌, only, twice}
 use Rattle.format.specs.Laws.Tells.{only_tells, twice_tells, blamed, Tells}
-use Rattle.format.specs.Laws.Round.{clash, written, sized_inv}
 
 -- as many values as fields, each narrow enough and judged good
 abbrev pub Legal : Fmt → List ℕ → List ℕ → Type 0
@@ -19,17 +18,6 @@ Legal (choice w j f) h [] = ⊥
 Legal (choice w j f) h (v ∷ vs) = (v < 2 ^ w) × (j h (digits w v) ≡ good) × Legal (f v) (v ∷ h) vs
 Legal (bytes f) h [] = ⊥
 Legal (bytes f) h (n ∷ vs) = Legal (f n) (n ∷ h) vs
-
-pub legal : (f : Fmt) (h : List ℕ) (at : ℕ) (vs : List ℕ) (b : List Bool) → write f h at vs ≡ accepted b → Legal f h vs
-unfolding write
-legal end h at [] b e = tt
-legal end h at (v ∷ vs) b e = clash e
-legal (field w j m f) h at [] b e = clash e
-legal (field w j m f) h at (v ∷ vs) b e = let y = written w j h at v _ b e in (y.narrow, y.fine, legal f (v ∷ h) (at + w) vs y.rest y.after)
-legal (choice w j f) h at [] b e = clash e
-legal (choice w j f) h at (v ∷ vs) b e = let y = written w j h at v _ b e in (y.narrow, y.fine, legal (f v) (v ∷ h) (at + w) vs y.rest y.after)
-legal (bytes f) h at [] b e = clash e
-legal (bytes f) h at (n ∷ vs) b e = legal (f n) (n ∷ h) at vs b (sized_inv n at _ e).0
 
 -- a value that a judge found good has no fault by its number
 pub told_good : (w v : ℕ) (j : List Bool → Fault) {fault_of : ℕ → ℕ} → Tells w j fault_of → v < 2 ^ w → j (digits w v) ≡ good → fault_of v ≡ 0

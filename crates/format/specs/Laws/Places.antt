@@ -1,18 +1,18 @@
 -- Reading refuses at the first field that is bad, and nowhere else, with that field's fault; writing at the first value. So the bit that is told lies within the message, or where it ends. For every layout, field by field. Assumes nothing.
-use Rattle.std.specs.Prelude.{◌≡◌, Bool, ◌⊎◌, List, [], ◌∷◌, ◌++◌, ℕ, suc, ◌+◌, ◌/◌, ◌%◌, ◌^◌, ◌≤◌, ltb, eqb, length, take, drop}
+use Rattle.std.specs.Prelude.{◌≡◌, Bool, ◌⊎◌, List, [], ◌∷◌, ℕ, ◌+◌, ◌/◌, ◌%◌, ◌≤◌, eqb, length, take, drop}
 use Rattle.std.proofs.Math.Path.{refl, sym, ap}
 use Rattle.std.proofs.Common.{◌∙◌, arith, length-take, length-drop}
 use Rattle.std.proofs.Math.Bool.{true, false}
 use Rattle.std.proofs.Math.Logic.{inl, inr}
-use borrow.Author.Tests.{le-leb, lt-leb, eq-eqb, ne_eqb, leb-true, leb-false, ltb-true, ltb-false, eqb-true, eqb-false}
+use borrow.Author.Tests.{le-leb, lt-leb, leb-true, leb-false, eqb-true, eqb-false}
 use Rattle.std.proofs.Math.Dec.{leb}
-use Rattle.bits.specs.Bits.{value_of, digits}
-use Rattle.format.specs.Fmt.{Out, accepted, refused, Fault, good, bad, or_bad, Judge, Fmt, end, field, choice, bytes, pad, check, also, read_field, read, write_field, sized, write}
-use Rattle.format.specs.Places.{GoodField, BadField, BadEnd, FirstBad, GoodValue, BadValue, FirstBadValue}
+use Rattle.bits.specs.Bits.{value_of}
+use Rattle.format.specs.Fmt.{Out, accepted, refused, Fault, good, bad, or_bad, Judge, Fmt, end, field, choice, bytes, pad, check, also, read_field, read}
+use Rattle.format.specs.Places.{GoodField, BadField, BadEnd, FirstBad}
 use Rattle.format.specs.Laws.Round.{clash, refused_inj}
 use Rattle.format.specs.Laws.Zero.{Numbered, Judged}
 
-either : {A B C : Type 0} → A ⊎ B → (A → C) → (B → C) → C
+pub either : {A B C : Type 0} → A ⊎ B → (A → C) → (B → C) → C
 either (inl a) f g = f a
 either (inr b) f g = g b
 
@@ -36,7 +36,7 @@ module _ (w : ℕ) (j : Judge) (h : List ℕ) (at : ℕ) (b : List Bool) (next :
       go good k true l e = inr ((k, leb-true w (length b) l), also_refused (value_of (take w b) ∷◌) _ e)
 
   -- and the other way
-  field_refused : BadField w j h at b c p ⊎ (GoodField w j h b × (next (value_of (take w b)) (drop w b) ≡ refused c p)) → read_field w j h at b next ≡ refused c p
+  pub field_refused : BadField w j h at b c p ⊎ (GoodField w j h b × (next (value_of (take w b)) (drop w b) ≡ refused c p)) → read_field w j h at b next ≡ refused c p
   unfolding read_field
   field_refused (inl (inl (i, k, y))) = rw k (ap (refused c) (sym y))
   field_refused (inl (inr (k, l, x, y))) = rw (k, lt-leb w (length b) l, x, y) (ap (refused 1) (omega arith))
@@ -52,11 +52,6 @@ refused_end at b c p = go (eqb (value_of (take (pad at) b)) 0) refl (eqb (length
     go true ex false ey e = let (k, l) = refused_inj e in inr (eqb-true (value_of (take (pad at) b)) 0 ex, eqb-false (length b) (pad at) ey, sym k, omega (arith, l))
     go true ex true ey e = clash (sym e)
 
-end_refused : (h : List ℕ) (at : ℕ) (b : List Bool) (c p : ℕ) → BadEnd at b c p → read end h at b ≡ refused c p
-unfolding read
-end_refused h at b c p (inl (n, x, y)) = rw (ne_eqb (value_of (take (pad at) b)) 0 n, x, y) (ap (refused 5) (omega arith))
-end_refused h at b c p (inr (z, n, x, y)) = rw (eq-eqb (value_of (take (pad at) b)) 0 z, ne_eqb (length b) (pad at) n, x, y) (ap (refused 1) (omega arith))
-
 -- Where reading refuses, every field before that is good, and this one is not.
 pub read_first_bad : (f : Fmt) (h : List ℕ) (at : ℕ) (b : List Bool) (c p : ℕ) → read f h at b ≡ refused c p → FirstBad f h at b c p
 unfolding read FirstBad
@@ -66,17 +61,6 @@ read_first_bad (choice w j f) h at b c p e =
     let v = value_of (take w b) in
     either (refused_field w j h at b _ c p e) inl (λ x. inr (x.0, read_first_bad (f v) (v ∷ h) (at + w) (drop w b) c p x.1))
 read_first_bad (bytes f) h at b c p e = let n = length b / 8 in read_first_bad (f n) (n ∷ h) at b c p (also_refused (n ∷◌) _ e)
-
--- And reading refuses there.
-pub first_bad_read : (f : Fmt) (h : List ℕ) (at : ℕ) (b : List Bool) (c p : ℕ) → FirstBad f h at b c p → read f h at b ≡ refused c p
-unfolding read FirstBad
-first_bad_read end h at b c p x = end_refused h at b c p x
-first_bad_read (field w j m f) h at b c p x =
-    field_refused w j h at b _ c p (either x inl (λ y. inr (y.0, first_bad_read f (value_of (take w b) ∷ h) (at + w) (drop w b) c p y.1)))
-first_bad_read (choice w j f) h at b c p x =
-    let v = value_of (take w b) in
-    field_refused w j h at b _ c p (either x inl (λ y. inr (y.0, first_bad_read (f v) (v ∷ h) (at + w) (drop w b) c p y.1)))
-first_bad_read (bytes f) h at b c p x = let n = length b / 8 in ap (also (n ∷◌)) (first_bad_read (f n) (n ∷ h) at b c p x)
 
 -- ---- within the message
 
@@ -113,36 +97,3 @@ read_inside (choice w k f) h at b c p j even x =
     either x (field_inside at b c p w k h j.0)
     (λ y. later_inside at b c p w y.0.1 (read_inside (f v) (v ∷ h) (at + w) (drop w b) c p (j.1 v) (still_even at b w y.0.1 even) y.1))
 read_inside (bytes f) h at b c p j even x = let n = length b / 8 in read_inside (f n) (n ∷ h) at b c p (j n) even x
-
--- ---- writing
-
-written_field : (w : ℕ) (j : Judge) (h : List ℕ) (at v : ℕ) (o : Out (List Bool)) (c p : ℕ) → write_field w j h at v o ≡ refused c p → BadValue w j h at v c p ⊎ (GoodValue w j h v × (o ≡ refused c p))
-unfolding write_field
-written_field w j h at v o c p = go (ltb v (2 ^ w)) refl (j h (digits w v)) refl
-  where
-    go : (t : Bool) → ltb v (2 ^ w) ≡ t → (x : Fault) → j h (digits w v) ≡ x → check (or_bad t 4) at (check x at (also (digits w v ++◌) o)) ≡ refused c p
-        → BadValue w j h at v c p ⊎ (GoodValue w j h v × (o ≡ refused c p))
-    go false l x k e = let (y, z) = refused_inj e in inl (inl (ltb-false v (2 ^ w) l, sym y, omega (arith, z)))
-    go true l (bad d i) k e = let (y, z) = refused_inj e in inl (inr (ltb-true v (2 ^ w) l, (i, k ∙ ap (λ d. bad d i) y, sym z)))
-    go true l good k e = inr ((ltb-true v (2 ^ w) l, k), also_refused (digits w v ++◌) o e)
-
-sized_refused : (n at : ℕ) (o : Out (List Bool)) (c p : ℕ) → sized n at o ≡ refused (suc c) p → o ≡ refused (suc c) p
-unfolding sized
-sized_refused n at (refused d q) c p e = e
-sized_refused n at (accepted b) c p e = go (eqb (length b / 8) n) e
-  where
-    go : (t : Bool) → check (or_bad t 0) at (accepted b) ≡ refused (suc c) p → accepted b ≡ refused (suc c) p
-    go true e = e
-    go false e = let (y, z) = refused_inj e in absurd (omega (arith, y))
-
--- Where writing refuses, every value before that is good, and this one is not. (0 is no refusal of a record.)
-pub write_first_bad : (f : Fmt) (h : List ℕ) (at : ℕ) (vs : List ℕ) (c p : ℕ) → write f h at vs ≡ refused (suc c) p → FirstBadValue f h at vs (suc c) p
-unfolding write FirstBadValue
-write_first_bad end h at [] c p e = clash (sym e)
-write_first_bad end h at (v ∷ vs) c p e = let (y, z) = refused_inj e in absurd (omega (arith, y))
-write_first_bad (field w j m f) h at [] c p e = let (y, z) = refused_inj e in absurd (omega (arith, y))
-write_first_bad (field w j m f) h at (v ∷ vs) c p e = either (written_field w j h at v _ (suc c) p e) inl (λ x. inr (x.0, write_first_bad f (v ∷ h) (at + w) vs c p x.1))
-write_first_bad (choice w j f) h at [] c p e = let (y, z) = refused_inj e in absurd (omega (arith, y))
-write_first_bad (choice w j f) h at (v ∷ vs) c p e = either (written_field w j h at v _ (suc c) p e) inl (λ x. inr (x.0, write_first_bad (f v) (v ∷ h) (at + w) vs c p x.1))
-write_first_bad (bytes f) h at [] c p e = let (y, z) = refused_inj e in absurd (omega (arith, y))
-write_first_bad (bytes f) h at (n ∷ vs) c p e = write_first_bad (f n) (n ∷ h) at vs c p (sized_refused n at _ c p e)

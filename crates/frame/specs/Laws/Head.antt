@@ -9,7 +9,8 @@ use Rattle.walk.specs.Walk.{onward}
 use Rattle.format.specs.Words.{◌‥◌}
 use Rattle.format.specs.Laws.Extent.{opens_field}
 use Rattle.walk.specs.Laws.Judging.{Judging, judge_start, judge_fixed, judge_tells, judge_num}
-use Rattle.format.specs.Laws.Putting.{Putting, put_number}
+use Rattle.format.specs.Laws.Putting.{Putting}
+use Rattle.format.proofs.Laws.Putting.{put_number}
 use Rattle.walk.specs.Laws.Reading.{start, step_code, step_limits, step_num}
 use Rattle.walk.specs.Laws.Step.{Reading}
 use Rattle.format.specs.Laws.Tells.{only_tells}

@@ -12,8 +12,9 @@ use Rattle.bits.specs.Laws.Fields.{field_front}
 use Rattle.format.specs.Fmt.{accepted, Fault, good, bad, Fmt, read}
 use Rattle.format.specs.Message.{Sound, body, seal_fault, first_of}
 use Rattle.format.specs.Laws.First.{opened}
-use Rattle.format.specs.Laws.Legal.{Legal, legal, exactly}
-use Rattle.format.specs.Laws.Round.{read_write}
+use Rattle.format.specs.Laws.Legal.{Legal, exactly}
+use Rattle.format.proofs.Laws.Legal.{legal}
+use Rattle.format.proofs.Laws.Round.{read_write}
 use Rattle.frame.specs.Frame.{frame, frames, leads}
 
 module _ (letters lo hi : ℕ) (f : Fmt) where

@@ -11,11 +11,13 @@ use Rattle.format.specs.declared.Refusal.{Refusal}
 use Rattle.format.specs.Promises.{read_record, Writes, Corrects}
 use Rattle.format.specs.Laws.Answers.{good_read, answer_plain}
 use Rattle.format.specs.Laws.Entries.{entries, legal_entries}
-use Rattle.format.specs.Laws.Extent.{extent_laid}
-use Rattle.format.specs.Laws.Family.{Family, one_size, written_front, read_written}
-use Rattle.format.specs.Laws.Legal.{Legal, legal, exactly}
-use Rattle.format.specs.Laws.Round.{read_write}
-use Rattle.format.specs.Laws.Settled.{settled}
+use Rattle.format.proofs.Laws.Extent.{extent_laid}
+use Rattle.format.specs.Laws.Family.{Family}
+use Rattle.format.proofs.Laws.Family.{one_size, written_front, read_written}
+use Rattle.format.specs.Laws.Legal.{Legal, exactly}
+use Rattle.format.proofs.Laws.Legal.{legal}
+use Rattle.format.proofs.Laws.Round.{read_write}
+use Rattle.format.proofs.Laws.Settled.{settled}
 use Rattle.format.specs.Laws.Zero.{Judged, only_numbered}
 use Rattle.gljc.specs.Changed.{spot_of, changed}
 use Rattle.gljc.specs.Gljc.{letters, body, gljc, gljcs, values_of, record_of, answer_of, out_of}

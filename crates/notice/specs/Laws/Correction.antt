@@ -12,7 +12,7 @@ use Rattle.format.specs.Laws.Groups.{told_exact, exact_told}
 use Rattle.notice_fields.specs.Laws.Instances.{some_areas}
 use Rattle.notice_fields.specs.Row.{areas_long, areas_told}
 use Rattle.notice_fields.specs.Spots.{area_spots}
-use Rattle.notice_fields.specs.Laws.Spots.{areas_spots}
+use Rattle.notice_fields.proofs.Laws.Spots.{areas_spots}
 use Rattle.notice.specs.Changed.{spots, spot_of, changed}
 use Rattle.notice_fields.specs.Terms.{Point, Terms}
 use Rattle.notice.specs.Notice.{text, rest, notice}

@@ -9,16 +9,19 @@ use Rattle.format.specs.Message.{read_message, ahead}
 use Rattle.format.specs.Promises.{answered, read_record, Writes, Corrects}
 use Rattle.format.specs.Refusals.{bare}
 use Rattle.format.specs.declared.Refusal.{Refusal}
-use Rattle.format.specs.Laws.Family.{Family, written_read, read_written}
+use Rattle.format.specs.Laws.Family.{Family}
+use Rattle.format.proofs.Laws.Family.{written_read, read_written}
 use Rattle.format.specs.Settled.{Differs}
-use Rattle.format.specs.Laws.Settled.{accepted_correction}
-use Rattle.format.specs.Laws.Legal.{Legal, legal}
-use Rattle.format.specs.Laws.Round.{also_inv, read_write}
+use Rattle.format.proofs.Laws.Settled.{accepted_correction}
+use Rattle.format.specs.Laws.Legal.{Legal}
+use Rattle.format.proofs.Laws.Legal.{legal}
+use Rattle.format.specs.Laws.Round.{also_inv}
+use Rattle.format.proofs.Laws.Round.{read_write}
 use Rattle.format.specs.Laws.Runs.{run_value}
-use Rattle.format.specs.Laws.Whole.{was}
+use Rattle.format.proofs.Laws.Whole.{was}
 use Rattle.format.specs.Laws.Groups.{told_again, told_exact, exact_told}
 use Rattle.notice_fields.specs.Laws.Instances.{some_areas}
-use Rattle.text.specs.Laws.Clean.{no_line_end}
+use Rattle.text.proofs.Laws.Clean.{no_line_end}
 use Rattle.notice_fields.specs.Row.{areas_long, areas_told}
 use Rattle.notice.specs.Changed.{spot_of, changed}
 use Rattle.notice_fields.specs.Terms.{Terms, our_point}

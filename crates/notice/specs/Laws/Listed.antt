@@ -4,7 +4,7 @@ use Rattle.std.proofs.Common.{sym, ap, ◌∙◌, subst, arith, take-append-drop
 use Rattle.bits.specs.Bits.{digits, bytes_of}
 use Rattle.format.specs.Fmt.{good, end}
 use Rattle.format.specs.Words.{unless}
-use Rattle.format.specs.Laws.Extent.{extent_lay}
+use Rattle.format.proofs.Laws.Extent.{extent_lay}
 use Rattle.format.specs.Laws.Legal.{Legal}
 use Rattle.format.specs.Laws.Past.{Filled, past_legal, past_counted, legal_filled}
 use Rattle.format.specs.Laws.Zero.{Counted}

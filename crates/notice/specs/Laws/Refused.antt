@@ -5,7 +5,7 @@ use Rattle.std.proofs.Math.Bool.{and-eq-true_iff}
 use Rattle.format.specs.Fmt.{Out, accepted, refused}
 use Rattle.format.specs.Message.{told, ahead}
 use Rattle.format.specs.Promises.{answered, read_record}
-use Rattle.format.specs.Laws.Family.{never_read}
+use Rattle.format.proofs.Laws.Family.{never_read}
 use Rattle.format.specs.Laws.Lent.{tested_zero}
 use Rattle.notice.specs.Notice.{ours, notices}
 use Rattle.notice.specs.Promises.{housed, told_of, answer_of, refusal_of, Reads}

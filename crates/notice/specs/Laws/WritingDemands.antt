@@ -7,12 +7,14 @@ use Rattle.format.specs.Message.{fault, told as Message·told, read_message, wri
 use Rattle.format.specs.Promises.{plain, read_record, Writes, Corrects}
 use Rattle.format.specs.Refusals.{bare}
 use Rattle.format.specs.declared.Refusal.{Refusal}
-use Rattle.format.specs.Laws.Family.{never_read, never_written, read_values}
+use Rattle.format.proofs.Laws.Family.{never_read, never_written, read_values}
 use Rattle.format.specs.Settled.{SettledBy}
 use Rattle.format.specs.Laws.Answers.{plain_good, code_plain}
-use Rattle.format.specs.Laws.Settled.{settled_with, settled}
+use Rattle.format.specs.Laws.Settled.{settled_with}
+use Rattle.format.proofs.Laws.Settled.{settled}
 use Rattle.format.specs.Laws.Groups.{exact_told, exact_more}
-use Rattle.format.specs.Laws.Lent.{same_code, enough_lays, accepted_lays, one_laying}
+use Rattle.format.specs.Laws.Lent.{same_code, one_laying}
+use Rattle.format.proofs.Laws.Lent.{enough_lays, accepted_lays}
 use Rattle.notice_fields.specs.Laws.Instances.{some_areas}
 use Rattle.notice_fields.specs.Row.{areas_long, areas_told}
 use Rattle.notice.specs.Changed.{spot_of, changed}

@@ -1,7 +1,8 @@
 -- Points and areas, of any kind of point, are stretches of fields that a row tells: the laws on counted groups are theirs. Assumes nothing.
 use Rattle.std.specs.Prelude.{ℕ}
 use Rattle.format.specs.Laws.Zero.{walk_numbered}
-use Rattle.format.specs.Laws.Groups.{Item, one, a_number, a_decider, next, counted_evenly, repeated}
+use Rattle.format.specs.Laws.Groups.{Item, one, a_number, a_decider, next, repeated}
+use Rattle.format.proofs.Laws.Groups.{counted_evenly}
 use Rattle.notice_fields.specs.Areas.{Kind, sea, circle, several, kind_of, inside, areas}
 use Rattle.notice_fields.specs.Terms.{Point, point_of}
 use Rattle.notice_fields.specs.Row.{inside_long, areas_long, point_told, inside_told, areas_told}

@@ -10,7 +10,7 @@ use Rattle.format.specs.Fmt.{Out, accepted, refused, check, or_bad, also}
 use Rattle.format.specs.Message.{read_message, leaves, into}
 use Rattle.format.specs.Refusals.{shown, bare}
 use Rattle.format.specs.declared.Refusal.{Refusal}
-use Rattle.format.specs.Laws.Zero.{read_zero_message}
+use Rattle.format.proofs.Laws.Zero.{read_zero_message}
 use Rattle.notice.specs.Notice.{ours, notices}
 use Rattle.notice.specs.Record.{Whole, record_of}
 use Rattle.notice.specs.Laws.Sound.{judged}

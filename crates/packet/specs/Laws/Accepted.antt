@@ -9,12 +9,14 @@ use Rattle.format.specs.Message.{told, read_message, write_message}
 use Rattle.format.specs.Promises.{read_record}
 use Rattle.format.specs.Words.{any, ◌‥◌, ago}
 use Rattle.format.specs.Laws.Entries.{entries}
-use Rattle.format.specs.Laws.Extent.{extent, extent_laid}
-use Rattle.format.specs.Laws.Family.{written_record}
-use Rattle.format.specs.Laws.Legal.{Legal, legal, passed, ranged, passes}
-use Rattle.format.specs.Laws.Round.{read_write}
-use Rattle.format.specs.Laws.Whole.{was}
-use Rattle.format.specs.Laws.Written.{legal_message}
+use Rattle.format.specs.Laws.Extent.{extent}
+use Rattle.format.proofs.Laws.Extent.{extent_laid}
+use Rattle.format.proofs.Laws.Family.{written_record}
+use Rattle.format.specs.Laws.Legal.{Legal, passed, ranged, passes}
+use Rattle.format.proofs.Laws.Legal.{legal}
+use Rattle.format.proofs.Laws.Round.{read_write}
+use Rattle.format.proofs.Laws.Whole.{was}
+use Rattle.format.proofs.Laws.Written.{legal_message}
 use Rattle.packet.specs.Packet.{version, most_packets, part_bytes_of, greatest, packet, packets, values_of, record_of}
 use Rattle.packet.specs.Laws.Demands.{counted, family, good as reads_good}
 use Rattle.packet.specs.Laws.Shown.{shown}

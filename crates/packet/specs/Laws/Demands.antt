@@ -11,12 +11,13 @@ use Rattle.format.specs.declared.Refusal.{Refusal}
 use Rattle.format.specs.Promises.{answered, read_record, Writes, Corrects}
 use Rattle.format.specs.Laws.Answers.{good_shown, shown_plain}
 use Rattle.format.specs.Laws.Entries.{entries}
-use Rattle.format.specs.Laws.Extent.{extent_lay, extent_laid}
-use Rattle.format.specs.Laws.Family.{Family, written_front, read_written}
+use Rattle.format.proofs.Laws.Extent.{extent_lay, extent_laid}
+use Rattle.format.specs.Laws.Family.{Family}
+use Rattle.format.proofs.Laws.Family.{written_front, read_written}
 use Rattle.format.specs.Laws.Legal.{Legal, exactly}
 use Rattle.format.specs.Laws.Runs.{run_again, run_value}
-use Rattle.format.specs.Laws.Whole.{made}
-use Rattle.format.specs.Laws.Settled.{settled}
+use Rattle.format.proofs.Laws.Whole.{made}
+use Rattle.format.proofs.Laws.Settled.{settled}
 use Rattle.format.specs.Laws.Zero.{Judged, Counted, only_numbered}
 use Rattle.packet.specs.declared.reading.Answer.{Answer}
 use Rattle.packet.specs.declared.reading.Answer.TheVariants.{Good, Refused}

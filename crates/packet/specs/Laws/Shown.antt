@@ -8,13 +8,14 @@ use Rattle.bits.specs.Laws.Runs.{run_whole}
 use Rattle.format.specs.Fmt.{accepted, end, read}
 use Rattle.format.specs.Words.{any, only, kept}
 use Rattle.format.specs.Laws.Entries.{entries}
-use Rattle.format.specs.Laws.Extent.{extent, extent_laid}
-use Rattle.format.specs.Laws.Legal.{legal}
-use Rattle.format.specs.Laws.Offsets.{value_at}
-use Rattle.format.specs.Laws.Round.{read_write}
+use Rattle.format.specs.Laws.Extent.{extent}
+use Rattle.format.proofs.Laws.Extent.{extent_laid}
+use Rattle.format.proofs.Laws.Legal.{legal}
+use Rattle.format.proofs.Laws.Offsets.{value_at}
+use Rattle.format.proofs.Laws.Round.{read_write}
 use Rattle.format.specs.Laws.Runs.{run_stands}
-use Rattle.format.specs.Laws.Showing.{shows_none, shows_values}
-use Rattle.format.specs.Laws.Whole.{was}
+use Rattle.format.proofs.Laws.Showing.{shows_none, shows_values}
+use Rattle.format.proofs.Laws.Whole.{was}
 use Rattle.format.specs.declared.Refusal.{Refusal}
 use Rattle.packet.specs.Promises.{Reads, Shows}
 use Rattle.packet.specs.Packet.{packet, packets, record_of, refusal_of}

@@ -8,10 +8,11 @@ use Rattle.format.specs.Message.{Sound, told, read_message}
 use Rattle.format.specs.Words.{◌‥◌, only, kept}
 use Rattle.format.specs.Laws.Entries.{entries, legal_entries}
 use Rattle.format.specs.Laws.First.{led_between}
-use Rattle.format.specs.Laws.Legal.{Legal, legal, exactly}
+use Rattle.format.specs.Laws.Legal.{Legal, exactly}
+use Rattle.format.proofs.Laws.Legal.{legal}
 use Rattle.format.specs.Laws.Lead.{read_led}
-use Rattle.format.specs.Laws.Offsets.{value_at}
-use Rattle.format.specs.Laws.Round.{read_write}
+use Rattle.format.proofs.Laws.Offsets.{value_at}
+use Rattle.format.proofs.Laws.Round.{read_write}
 use Rattle.packet.specs.Packet.{version, greatest, packet, packets}
 
 -- accepted values, entry by entry

@@ -12,7 +12,7 @@ use Rattle.format.specs.Message.{ahead, told}
 use Rattle.format.specs.Promises.{answered, read_record}
 use Rattle.format.specs.Refusals.{shown, bare}
 use Rattle.format.specs.declared.Refusal.{Refusal}
-use Rattle.format.specs.Laws.Family.{never_read}
+use Rattle.format.proofs.Laws.Family.{never_read}
 use Rattle.packet.specs.Packet.{packets, record_of}
 use Rattle.packet.specs.Laws.Demands.{family}
 use Rattle.packet.specs.declared.reading.Packet.{Packet}

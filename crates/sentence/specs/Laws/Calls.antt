@@ -9,10 +9,11 @@ use Rattle.format.specs.Message.{told, leaves, into, write_message}
 use Rattle.format.specs.Refusals.{shown, bare}
 use Rattle.format.specs.Laws.Refusals.{shown_bare}
 use Rattle.format.specs.declared.Refusal.{Refusal}
-use Rattle.format.specs.Laws.Whole.{made}
-use Rattle.format.specs.Laws.Family.{never_written}
+use Rattle.format.proofs.Laws.Whole.{made}
+use Rattle.format.proofs.Laws.Family.{never_written}
 use Rattle.format.specs.Promises.{read_record, Writes}
-use Rattle.distress.specs.Laws.Demands.{family, long}
+use Rattle.distress.specs.Laws.Demands.{long}
+use Rattle.distress.proofs.Laws.Demands.{family}
 use Rattle.distress.specs.Report.{reports, values_of, report_of, answer_of}
 use Rattle.sentence.specs.Pattern.{Laid, opening, summed_up, sentence, address_good, hex_part, around_so, around_of}
 use Rattle.sentence.specs.Spelling.{all_digits, decimal, unhexed}

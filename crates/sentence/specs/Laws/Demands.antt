@@ -6,9 +6,10 @@ use Rattle.bits.specs.Bits.{Bytes}
 use Rattle.format.specs.Fmt.{Out, accepted, refused, or_bad, check, also}
 use Rattle.format.specs.Message.{write_message}
 use Rattle.format.specs.declared.Refusal.{Refusal}
-use Rattle.format.specs.Laws.Family.{never_read, never_written, written_record, read_writes}
+use Rattle.format.proofs.Laws.Family.{never_read, never_written, written_record, read_writes}
 use Rattle.format.specs.Promises.{read_record}
-use Rattle.distress.specs.Laws.Demands.{family, good}
+use Rattle.distress.specs.Laws.Demands.{good}
+use Rattle.distress.proofs.Laws.Demands.{family}
 use Rattle.distress.specs.Promises.{Reads}
 use Rattle.distress.specs.Report.{reports, values_of, report_of, answer_of}
 use Rattle.sentence.specs.Pattern.{sentence, address_good, around_so}

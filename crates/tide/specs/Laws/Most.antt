@@ -15,12 +15,13 @@ use Rattle.format.specs.Groups.{repeat, counted, repeat_told}
 use Rattle.format.specs.Message.{into, leaves}
 use Rattle.format.specs.Promises.{read_record}
 use Rattle.format.specs.Words.{◌‥◌, num, wide}
-use Rattle.format.specs.Laws.Extent.{extent, extent_laid}
-use Rattle.format.specs.Laws.Family.{read_values}
+use Rattle.format.specs.Laws.Extent.{extent}
+use Rattle.format.proofs.Laws.Extent.{extent_laid}
+use Rattle.format.proofs.Laws.Family.{read_values}
 use Rattle.format.specs.Laws.Groups.{even, told_long}
 use Rattle.format.specs.Laws.Legal.{Legal, passed, ranged}
-use Rattle.format.specs.Laws.Round.{read_write}
-use Rattle.format.specs.Laws.Whole.{was, within_sizes}
+use Rattle.format.proofs.Laws.Round.{read_write}
+use Rattle.format.proofs.Laws.Whole.{was, within_sizes}
 use Rattle.notice_fields.specs.Terms.{point}
 use Rattle.tide.specs.Heights.{entry_of, entries_of, heights_of}
 use Rattle.tide.specs.HeightsPromises.{heights_in, heights_read, answer_of as heights_answer, Shows}

@@ -8,10 +8,12 @@ use Rattle.format.specs.Groups.{repeat, counted}
 use Rattle.format.specs.Message.{write_message}
 use Rattle.format.specs.Promises.{read_record}
 use Rattle.format.specs.Words.{◌‥◌, num}
-use Rattle.format.specs.Laws.Family.{read_values}
-use Rattle.format.specs.Laws.Legal.{Legal, legal, passed, ranged}
-use Rattle.format.specs.Laws.Round.{read_write, accepted_inj}
-use Rattle.format.specs.Laws.Whole.{was, read_write_message}
+use Rattle.format.proofs.Laws.Family.{read_values}
+use Rattle.format.specs.Laws.Legal.{Legal, passed, ranged}
+use Rattle.format.proofs.Laws.Legal.{legal}
+use Rattle.format.specs.Laws.Round.{accepted_inj}
+use Rattle.format.proofs.Laws.Round.{read_write}
+use Rattle.format.proofs.Laws.Whole.{was, read_write_message}
 use Rattle.notice_fields.specs.Terms.{point}
 use Rattle.tide.specs.Heights.{height_of}
 use Rattle.tide.specs.Promises.{Reads}

@@ -6,7 +6,7 @@ use Rattle.format.specs.Message.{told, into, leaves, ahead}
 use Rattle.format.specs.Promises.{answered, read_record}
 use Rattle.format.specs.declared.Refusal.{Refusal}
 use Rattle.format.specs.Laws.Answers.{bad_refuses}
-use Rattle.format.specs.Laws.Family.{never_read}
+use Rattle.format.proofs.Laws.Family.{never_read}
 use Rattle.format.specs.Laws.Lent.{tested_zero}
 use Rattle.format.specs.Laws.Round.{clash, refused_inj}
 use Rattle.tide.specs.HeightsPromises.{heights_in, heights_read, shown, counted, answer_of as heights_answer, out_of, Shows}

@@ -5,8 +5,10 @@ use Rattle.format.specs.Fmt.{end}
 use Rattle.format.specs.Groups.{repeat, one_told}
 use Rattle.format.specs.Message.{Sound}
 use Rattle.format.specs.Words.{◌‥◌, wide, num}
-use Rattle.format.specs.Laws.Codes.{codes_judged, headed_sound}
-use Rattle.format.specs.Laws.Groups.{Item, one, a_number, a_decider, next, repeated, counted_evenly}
+use Rattle.format.specs.Laws.Codes.{codes_judged}
+use Rattle.format.proofs.Laws.Codes.{headed_sound}
+use Rattle.format.specs.Laws.Groups.{Item, one, a_number, a_decider, next, repeated}
+use Rattle.format.proofs.Laws.Groups.{counted_evenly}
 use Rattle.format.specs.Laws.Zero.{Judged}
 use Rattle.notice_fields.specs.Terms.{our_point, point}
 use Rattle.notice_fields.specs.Row.{point_told}

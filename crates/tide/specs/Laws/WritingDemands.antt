@@ -11,10 +11,12 @@ use Rattle.format.specs.Refusals.{bare}
 use Rattle.format.specs.Settled.{SettledBy}
 use Rattle.format.specs.declared.Refusal.{Refusal}
 use Rattle.format.specs.Laws.Answers.{plain_good, code_plain}
-use Rattle.format.specs.Laws.Family.{never_read, read_values, written_read, read_written, never_written}
+use Rattle.format.proofs.Laws.Family.{never_read, read_values, written_read, read_written, never_written}
 use Rattle.format.specs.Laws.Groups.{exact_told, exact_more}
-use Rattle.format.specs.Laws.Lent.{same_code, enough_lays, accepted_lays, one_laying}
-use Rattle.format.specs.Laws.Settled.{settled_with, settled}
+use Rattle.format.specs.Laws.Lent.{same_code, one_laying}
+use Rattle.format.proofs.Laws.Lent.{enough_lays, accepted_lays}
+use Rattle.format.specs.Laws.Settled.{settled_with}
+use Rattle.format.proofs.Laws.Settled.{settled}
 use Rattle.tide.specs.Changed.{spot_of, changed}
 use Rattle.tide.specs.Promises.{told_of, Reads}
 use Rattle.tide.specs.Record.{values_of, record_of}

@@ -11,7 +11,8 @@ use Rattle.walk.specs.Walk.{onward}
 use Rattle.format.specs.Words.{◌‥◌, only}
 use Rattle.format.specs.Laws.Extent.{opens_field}
 use Rattle.walk.specs.Laws.Judging.{Judging, judge_tells}
-use Rattle.format.specs.Laws.Putting.{Putting, put_number}
+use Rattle.format.specs.Laws.Putting.{Putting}
+use Rattle.format.proofs.Laws.Putting.{put_number}
 use Rattle.walk.specs.Laws.Step.{Reading, step, tested}
 use Rattle.format.specs.Laws.Tells.{Tells, only_tells, cond_tells}
 use Rattle.format.specs.Laws.Zero.{Judged, Numbered, only_numbered}

@@ -9,14 +9,14 @@ use Rattle.bits.specs.Laws.Bytes.{length_bits}
 use Rattle.frame.specs.Frame.{bytes_for}
 use Rattle.frame.specs.Laws.Content.{content_part}
 use Rattle.format.specs.Fmt.{accepted, end, pad, read}
-use Rattle.format.specs.Laws.Offsets.{value_at}
+use Rattle.format.proofs.Laws.Offsets.{value_at}
 use Rattle.format.specs.Laws.Entries.{entries}
-use Rattle.format.specs.Laws.Legal.{legal}
-use Rattle.format.specs.Laws.Round.{read_write}
+use Rattle.format.proofs.Laws.Legal.{legal}
+use Rattle.format.proofs.Laws.Round.{read_write}
 use Rattle.format.specs.Words.{any, ◌‥◌, only, kept, fill}
 use Rattle.format.specs.declared.Refusal.{Refusal}
-use Rattle.format.specs.Laws.Showing.{shows_none, shows_values}
-use Rattle.format.specs.Laws.Whole.{was}
+use Rattle.format.proofs.Laws.Showing.{shows_none, shows_values}
+use Rattle.format.proofs.Laws.Whole.{was}
 use Rattle.txsq.specs.Promises.{Reads, Shows}
 use Rattle.txsq.specs.Txsq.{txsq, txsqs, record_of, refusal_of}
 use Rattle.txsq.specs.declared.reading.Answer.{Answer}

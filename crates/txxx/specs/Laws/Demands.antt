@@ -10,18 +10,21 @@ use Rattle.format.specs.Fmt.{accepted, also, good as Fmt·good, pad, read}
 use Rattle.format.specs.Words.{code, twice, ago}
 use Rattle.format.specs.Laws.Answers.{good_shown, shown_plain}
 use Rattle.format.specs.Laws.Entries.{entries, legal_entries}
-use Rattle.format.specs.Laws.Extent.{extent, extent_laid}
-use Rattle.format.specs.Laws.Family.{Family, written_front, read_written}
-use Rattle.format.specs.Laws.Legal.{Legal, legal, exactly, passed_twice}
-use Rattle.format.specs.Laws.Round.{read_write}
-use Rattle.format.specs.Laws.Settled.{settled}
+use Rattle.format.specs.Laws.Extent.{extent}
+use Rattle.format.proofs.Laws.Extent.{extent_laid}
+use Rattle.format.specs.Laws.Family.{Family}
+use Rattle.format.proofs.Laws.Family.{written_front, read_written}
+use Rattle.format.specs.Laws.Legal.{Legal, exactly, passed_twice}
+use Rattle.format.proofs.Laws.Legal.{legal}
+use Rattle.format.proofs.Laws.Round.{read_write}
+use Rattle.format.proofs.Laws.Settled.{settled}
 use Rattle.format.specs.Laws.Zero.{Judged, only_numbered, twice_numbered}
 use Rattle.format.specs.Settled.{Settled}
 use Rattle.format.specs.Refusals.{bare}
 use Rattle.format.specs.declared.Refusal.{Refusal}
 use Rattle.format.specs.Promises.{answered, read_record, Writes, Corrects}
 use Rattle.format.specs.Message.{read_message, write_message}
-use Rattle.format.specs.Laws.Whole.{was, made, write_read_message}
+use Rattle.format.proofs.Laws.Whole.{was, made, write_read_message}
 use Rattle.bits.specs.Laws.Bytes.{length_bits}
 use Rattle.txxx.specs.declared.reading.Answer.{Answer}
 use Rattle.txxx.specs.declared.reading.Answer.TheVariants.{Good, Refused}

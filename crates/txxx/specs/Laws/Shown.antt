@@ -10,14 +10,15 @@ use Rattle.frame.specs.Laws.Content.{content_part}
 use Rattle.format.specs.Fmt.{accepted, end, pad, read}
 use Rattle.format.specs.Message.{between, read_message}
 use Rattle.format.specs.Promises.{read_record}
-use Rattle.format.specs.Laws.Offsets.{value_at}
+use Rattle.format.proofs.Laws.Offsets.{value_at}
 use Rattle.format.specs.Laws.Entries.{entries}
-use Rattle.format.specs.Laws.Legal.{legal}
-use Rattle.format.specs.Laws.Round.{also_inv, read_write}
+use Rattle.format.proofs.Laws.Legal.{legal}
+use Rattle.format.specs.Laws.Round.{also_inv}
+use Rattle.format.proofs.Laws.Round.{read_write}
 use Rattle.format.specs.Words.{any, ◌‥◌, only, kept, num, fill}
 use Rattle.format.specs.declared.Refusal.{Refusal}
-use Rattle.format.specs.Laws.Showing.{shows_none, shows_values}
-use Rattle.format.specs.Laws.Whole.{was}
+use Rattle.format.proofs.Laws.Showing.{shows_none, shows_values}
+use Rattle.format.proofs.Laws.Whole.{was}
 use Rattle.txxx.specs.Promises.{Reads, Shows}
 use Rattle.txxx.specs.Txxx.{txxx, txxxs, record_of, refusal_of}
 use Rattle.txxx.specs.declared.reading.Txxx.{Txxx}

@@ -9,7 +9,8 @@ use Rattle.format.specs.Promises.{Writes}
 use Rattle.format.specs.Refusals.{shown, bare}
 use Rattle.format.specs.declared.Refusal.{Refusal}
 use Rattle.format.specs.Message.{Layout, fault, between}
-use Rattle.format.specs.Laws.Extent.{span_laid, Plain}
+use Rattle.format.specs.Laws.Extent.{Plain}
+use Rattle.format.proofs.Laws.Extent.{span_laid}
 use Rattle.walk.specs.Laws.Judging.{Judged}
 use Rattle.walk.specs.Laws.Making.{write_refused, write_bare}
 use Rattle.format.specs.Laws.Putting.{Puts}

@@ -11,7 +11,8 @@ use Rattle.walk.specs.Judging.{valued, signedly_valued, beyond}
 use Rattle.format.specs.Message.{fault}
 use Rattle.walk.specs.Walk.{begun, onward}
 use Rattle.format.specs.Words.{Test, ◌‥◌, signed, or_else, only, num, deciding}
-use Rattle.format.specs.Laws.Extent.{Opens, opens_field, opens_choice, extent, extent_laid}
+use Rattle.format.specs.Laws.Extent.{Opens, opens_field, opens_choice, extent}
+use Rattle.format.proofs.Laws.Extent.{extent_laid}
 use Rattle.format.specs.Laws.Round.{sized_at}
 use Rattle.walk.specs.Laws.Step.{sticky, stuck, clean}
 use Rattle.format.specs.Laws.Tells.{blamed, Tells, wrong, wrong_tells, wrong_narrow, wrong_wide}

@@ -7,7 +7,8 @@ use Rattle.format.specs.Fmt.{Judge, Fmt, field, choice, write}
 use Rattle.format.specs.Groups.{repeat, counted, Measure, then_of, decided_of, repeat_of, Telling, one_told, then_told, decided_told, repeat_told}
 use Rattle.format.specs.Words.{Test, deciding}
 use Rattle.format.specs.Laws.Extent.{opens_field, opens_choice}
-use Rattle.format.specs.Laws.Putting.{Putting, put_number}
+use Rattle.format.specs.Laws.Putting.{Putting}
+use Rattle.format.proofs.Laws.Putting.{put_number}
 use Rattle.format.specs.Laws.Round.{written}
 use Rattle.walk.specs.Rows.{Put, PutStep, one_put, then_put, decided_put, even_put, even_put_step, counted_put, repeat_put}
 use Rattle.walk.specs.Laws.Loops.{PutsAlong, puts_stay, puts_then}

@@ -19,10 +19,11 @@ use Rattle.format.specs.declared.Refusal.{Refusal}
 use Rattle.format.specs.Words.{◌‥◌, wide, num, fill}
 use Rattle.format.specs.Laws.Answers.{good_read, answer_plain}
 use Rattle.format.specs.Laws.Entries.{entries, entries_behind}
-use Rattle.format.specs.Laws.Family.{Family, read_values, one_size, written_front, read_written}
+use Rattle.format.specs.Laws.Family.{Family}
+use Rattle.format.proofs.Laws.Family.{read_values, one_size, written_front, read_written}
 use Rattle.format.specs.Laws.Legal.{Legal, exactly, ranged}
-use Rattle.format.specs.Laws.Settled.{settled_named}
-use Rattle.format.specs.Laws.Whole.{was}
+use Rattle.format.proofs.Laws.Settled.{settled_named}
+use Rattle.format.proofs.Laws.Whole.{was}
 use Rattle.format.specs.Laws.Zero.{Judged, Counted, only_numbered}
 use Rattle.ais_common.specs.Time.{spell_time, time_of}
 use Rattle.ais_common.specs.Laws.Spelling.{time_spell, spell_time_lem}

@@ -13,10 +13,12 @@ use Rattle.warning.specs.Bodies.{Kind, cyclone, gale, waves, fog, surge, kind_of
 use Rattle.format.specs.Fmt.{accepted, read}
 use Rattle.format.specs.Message.{Sound, between}
 use Rattle.format.specs.Words.{◌‥◌, only, wide, kept}
-use Rattle.format.specs.Laws.Extent.{extent, extent_laid}
-use Rattle.format.specs.Laws.Legal.{Legal, legal, passed, exactly}
-use Rattle.format.specs.Laws.Offsets.{value_at, choice_at}
-use Rattle.format.specs.Laws.Round.{read_write}
+use Rattle.format.specs.Laws.Extent.{extent}
+use Rattle.format.proofs.Laws.Extent.{extent_laid}
+use Rattle.format.specs.Laws.Legal.{Legal, passed, exactly}
+use Rattle.format.proofs.Laws.Legal.{legal}
+use Rattle.format.proofs.Laws.Offsets.{value_at, choice_at}
+use Rattle.format.proofs.Laws.Round.{read_write}
 use Rattle.warning.specs.Warning.{asked, tail, rest, warning, warnings}
 
 -- ---- what accepted values begin with

@@ -6,7 +6,7 @@ use lib.Dec.{lit<, lit≤}
 use Rattle.ais_common.specs.Laws.Walking.{put_told}
 use Rattle.format.specs.Correcting.{put_in_lem}
 use Rattle.format.specs.Laws.Extent.{opens_field}
-use Rattle.format.specs.Laws.Putting.{put_step, put_pair}
+use Rattle.format.proofs.Laws.Putting.{put_step, put_pair}
 use Rattle.area.specs.Shapes.{spell_east, spell_north}
 use Rattle.area.proofs.shape_writing.put_circle.Goals as goal
 

@@ -1,9 +1,10 @@
 -- `correct` is the correction in place of every family, with the report's fields read before and behind the change and where `stands` found the field.
 use mathlib.Core.Path.{refl, ◌∙◌}
-use Rattle.format.specs.Laws.Corrections.{family_refused, family_sized}
+use Rattle.format.specs.Laws.Corrections.{family_refused}
+use Rattle.format.proofs.Laws.Corrections.{family_sized}
 use Rattle.distress.specs.Report.{reports, report_of, refusal_of}
 use Rattle.distress.specs.Laws.Correction.{spotted}
-use Rattle.distress.specs.Laws.Demands.{family}
+use Rattle.distress.proofs.Laws.Demands.{family}
 use Rattle.distress.specs.declared.reading.Answer.TheVariants.{Good, Refused}
 use Rattle.distress.proofs.correcting.correct.Goals as goal
 

@@ -1,6 +1,7 @@
 -- `correct` is the correction in place of every family, with the frame's fields read before and behind the change and where `stands` found the field.
 use mathlib.Core.Path.{refl, ◌∙◌}
-use Rattle.format.specs.Laws.Corrections.{family_refused, family_sized}
+use Rattle.format.specs.Laws.Corrections.{family_refused}
+use Rattle.format.proofs.Laws.Corrections.{family_sized}
 use Rattle.gljc.specs.Gljc.{gljcs, record_of, refusal_of}
 use Rattle.gljc.specs.Laws.Correction.{spotted}
 use Rattle.gljc.specs.Laws.Demands.{family}

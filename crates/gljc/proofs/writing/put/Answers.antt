@@ -3,7 +3,8 @@ use mathlib.Core.Path.{refl}
 use lib.Dec.{lit≤}
 use Rattle.bits.specs.Bits.{Bytes}
 use Rattle.frame.specs.Laws.Head.{head_put_lem}
-use Rattle.format.specs.Laws.Putting.{put_start, put_step, put_end}
+use Rattle.format.specs.Laws.Putting.{put_start, put_end}
+use Rattle.format.proofs.Laws.Putting.{put_step}
 use Rattle.gljc.specs.Gljc.{letters, gljc, values_of}
 use Rattle.gljc.proofs.writing.put.Goals as goal
 

@@ -1,7 +1,7 @@
 -- `correct` is the correction in place of every layout, with the notice's walk before the change and behind it, and where `stands` found the field.
 use mathlib.Core.Path.{sym, ap, ◌∙◌}
 use Rattle.format.specs.Message.{told}
-use Rattle.format.specs.Laws.Correcting.{in_place}
+use Rattle.format.proofs.Laws.Correcting.{in_place}
 use Rattle.notice.specs.Notice.{ours, notices}
 use Rattle.notice.specs.Laws.Sound.{sound, judged}
 use Rattle.notice.specs.Laws.Told.{walked_refusal, stands, fields_again, fields_are}

@@ -1,7 +1,7 @@
 -- `write` answers as the judging, the size and the room decide; then all of it is put.
 use mathlib.Core.List.{[]}
 use native.Mathlib.Omega.{arith}
-use Rattle.format.specs.Laws.Legal.{legal}
+use Rattle.format.proofs.Laws.Legal.{legal}
 use Rattle.notice.specs.Notice.{ours, notice as Notice·notice}
 use Rattle.notice.specs.Record.{values_of}
 use Rattle.notice.specs.Laws.Writing.{notice_refused, notice_laid, text_small, notice_stands}

@@ -1,6 +1,7 @@
 -- `correct` is the correction in place of every family, with the packet's fields read before and behind the change and where `stands` found the field.
 use Rattle.std.proofs.Common.{refl, ◌∙◌}
-use Rattle.format.specs.Laws.Corrections.{family_refused, family_sized}
+use Rattle.format.specs.Laws.Corrections.{family_refused}
+use Rattle.format.proofs.Laws.Corrections.{family_sized}
 use Rattle.packet.specs.Packet.{packets, record_of, refusal_of}
 use Rattle.packet.specs.Laws.Correction.{spotted}
 use Rattle.packet.specs.Laws.Demands.{family}

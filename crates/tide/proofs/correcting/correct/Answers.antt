@@ -1,7 +1,7 @@
 -- `correct` is the correction in place of every layout, with the tide's walk before the change and the fields' behind it, and where the walk found the field.
 use mathlib.Core.Path.{sym, ap, ◌∙◌}
 use Rattle.format.specs.declared.Refusal.{Refusal}
-use Rattle.format.specs.Laws.Correcting.{in_place}
+use Rattle.format.proofs.Laws.Correcting.{in_place}
 use Rattle.tide.specs.Tide.{tides}
 use Rattle.format.specs.Codes.{headed}
 use Rattle.tide.specs.Laws.Sound.{sound, judged}

@@ -1,6 +1,7 @@
 -- `correct` is the correction in place of every family, with the frame's fields read before and behind the change and where its fields stand by its count.
 use mathlib.Core.Path.{refl}
-use Rattle.format.specs.Laws.Corrections.{family_refused, family_sized}
+use Rattle.format.specs.Laws.Corrections.{family_refused}
+use Rattle.format.proofs.Laws.Corrections.{family_sized}
 use Rattle.txhz.specs.Txhz.{txhzs, record_of, refusal_of}
 use Rattle.txhz.specs.Laws.Correction.{looked_stands}
 use Rattle.txhz.specs.Laws.Demands.{family}

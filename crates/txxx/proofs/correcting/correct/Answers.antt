@@ -1,6 +1,7 @@
 -- `correct` is the correction in place of every family, with the frame's fields read before and behind the change and where `stands` found the field, the mark by the size.
 use mathlib.Core.Path.{refl, sym, ap, ◌∙◌}
-use Rattle.format.specs.Laws.Corrections.{family_refused, family_corrected}
+use Rattle.format.specs.Laws.Corrections.{family_refused}
+use Rattle.format.proofs.Laws.Corrections.{family_corrected}
 use Rattle.txxx.specs.Changed.{spot_by}
 use Rattle.txxx.specs.Txxx.{txxxs, record_of, refusal_of}
 use Rattle.txxx.specs.Laws.Correction.{spotted}

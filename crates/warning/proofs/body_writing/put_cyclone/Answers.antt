@@ -3,7 +3,7 @@ use mathlib.Core.Path.{◌≡◌}
 use native.Mathlib.Omega.{arith}
 use lib.Dec.{lit≤}
 use lib.ListN.{length}
-use Rattle.format.specs.Laws.Putting.{put_step}
+use Rattle.format.proofs.Laws.Putting.{put_step}
 use Rattle.warning.proofs.body_writing.put_cyclone.Goals.{After-put-4}
 use Rattle.warning.proofs.body_writing.put_cyclone.Goals as goal
 

@@ -3,7 +3,7 @@ use mathlib.Core.Path.{refl}
 use lib.Dec.{lit<, lit≤}
 use Rattle.format.specs.Correcting.{put_in_lem}
 use Rattle.format.specs.Laws.Extent.{opens_field}
-use Rattle.format.specs.Laws.Putting.{put_step, put_pair}
+use Rattle.format.proofs.Laws.Putting.{put_step, put_pair}
 use Rattle.warning.proofs.body_writing.put_fog.Goals as goal
 
 pub returns : goal.returns

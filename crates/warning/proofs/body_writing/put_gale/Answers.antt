@@ -1,6 +1,6 @@
 -- `put_gale` puts the body's values in bit order: one step a field. Printed by tools/bodies.
 use lib.Dec.{lit≤}
-use Rattle.format.specs.Laws.Putting.{put_step}
+use Rattle.format.proofs.Laws.Putting.{put_step}
 use Rattle.warning.proofs.body_writing.put_gale.Goals as goal
 
 pub returns : goal.returns

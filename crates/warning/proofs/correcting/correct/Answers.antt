@@ -1,7 +1,8 @@
 -- `correct` is the correction in place of every family, with the warning's fields read before and behind the change and where `stands` found the field.
 use mathlib.Core.Path.{refl}
 use Rattle.bits.specs.Bits.{Bytes, field_at}
-use Rattle.format.specs.Laws.Corrections.{family_refused, family_sized}
+use Rattle.format.specs.Laws.Corrections.{family_refused}
+use Rattle.format.proofs.Laws.Corrections.{family_sized}
 use Rattle.warning.specs.Warning.{warnings, record_of, refusal_of}
 use Rattle.warning.specs.Changed.{field_of}
 use Rattle.warning.specs.Laws.Demands.{family, looked_stands}

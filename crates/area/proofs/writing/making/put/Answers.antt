@@ -7,7 +7,8 @@ use lib.ListN.{length}
 use Rattle.bits.specs.Bits.{Bytes}
 use Rattle.format.specs.Words.{wide}
 use Rattle.format.specs.Laws.Extent.{opens_choice}
-use Rattle.format.specs.Laws.Putting.{put_start, put_step, put_end}
+use Rattle.format.specs.Laws.Putting.{put_start, put_end}
+use Rattle.format.proofs.Laws.Putting.{put_step}
 use Rattle.area.specs.Area.{area, values_as}
 use Rattle.ais_common.specs.Laws.Walking.{put_told}
 use Rattle.area.proofs.writing.making.put.Goals.{After-put-10, After-put-4}

@@ -4,7 +4,8 @@ use native.Mathlib.Omega.{arith}
 use lib.Dec.{lit≤}
 use lib.ListN.{length}
 use Rattle.bits.specs.Bits.{Bytes}
-use Rattle.format.specs.Laws.Putting.{put_start, put_step, put_end}
+use Rattle.format.specs.Laws.Putting.{put_start, put_end}
+use Rattle.format.proofs.Laws.Putting.{put_step}
 use Rattle.distress.specs.Report.{report}
 use Rattle.distress.specs.Values.{list_of}
 use Rattle.distress.proofs.writing.making.put.Goals.{After-put-6}

@@ -5,7 +5,8 @@ use mathlib.Core.List.{List, ◌++◌}
 use native.Mathlib.Omega.{arith}
 use Rattle.bits.specs.Bits.{Bytes, put_bytes_at}
 use Rattle.format.specs.Laws.Extent.{opens_field}
-use Rattle.format.specs.Laws.Putting.{put_bytes, put_run, put_fill, put_end, begins}
+use Rattle.format.specs.Laws.Putting.{put_bytes, put_run, put_fill, put_end}
+use Rattle.format.proofs.Laws.Putting.{begins}
 use Rattle.format.specs.Laws.Runs.{run_bits}
 use Rattle.walk.specs.Laws.Loops.{PutsAlong}
 use Rattle.notice_fields.specs.Making.{areas_put}

@@ -1,7 +1,8 @@
 -- `put_head` puts the head's values in bit order.
 use mathlib.Core.Path.{◌∙◌}
 use lib.Dec.{lit≤}
-use Rattle.format.specs.Laws.Putting.{put_start, put_step, put_choice}
+use Rattle.format.specs.Laws.Putting.{put_start}
+use Rattle.format.proofs.Laws.Putting.{put_step, put_choice}
 use Rattle.notice.specs.Notice.{ours, notice as Notice·notice}
 use Rattle.notice.specs.Record.{headed}
 use Rattle.notice.proofs.writing.making.put_head.Goals as goal

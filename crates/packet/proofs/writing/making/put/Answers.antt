@@ -2,7 +2,8 @@
 use Rattle.std.proofs.Common.{◌∙◌, arith, lit≤}
 use Rattle.bits.specs.Bits.{Bytes, put_bytes_at}
 use Rattle.format.specs.Laws.Extent.{opens_field}
-use Rattle.format.specs.Laws.Putting.{put_start, put_step, put_bytes, begins, put_run, put_end}
+use Rattle.format.specs.Laws.Putting.{put_start, put_bytes, put_run, put_end}
+use Rattle.format.proofs.Laws.Putting.{put_step, begins}
 use Rattle.format.specs.Laws.Runs.{run_bits}
 use Rattle.packet.specs.Packet.{packet, values_of}
 use Rattle.packet.proofs.writing.making.put.Goals as goal

@@ -2,7 +2,8 @@
 use mathlib.Core.Path.{◌∙◌}
 use lib.Dec.{lit≤}
 use Rattle.format.specs.Codes.{codes, headed}
-use Rattle.format.specs.Laws.Putting.{put_start, put_step, put_choice}
+use Rattle.format.specs.Laws.Putting.{put_start}
+use Rattle.format.proofs.Laws.Putting.{put_step, put_choice}
 use Rattle.tide.specs.Record.{leading}
 use Rattle.tide.specs.Tide.{tides}
 use Rattle.tide.proofs.writing.making.put_head.Goals as goal

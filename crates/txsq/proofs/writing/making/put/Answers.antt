@@ -9,8 +9,9 @@ use Rattle.frame.specs.Steps.{head_put}
 use Rattle.frame.specs.Laws.Content.{content_bits}
 use Rattle.frame.specs.Laws.Head.{head_put_lem}
 use Rattle.format.specs.Laws.Extent.{opens_field}
-use Rattle.format.specs.Laws.Legal.{legal}
-use Rattle.format.specs.Laws.Putting.{put_start, put_step, put_choice, begins, begins_then, put_run, put_end}
+use Rattle.format.proofs.Laws.Legal.{legal}
+use Rattle.format.specs.Laws.Putting.{put_start, begins_then, put_run, put_end}
+use Rattle.format.proofs.Laws.Putting.{put_step, put_choice, begins}
 use Rattle.txsq.specs.Txsq.{letters, body, txsq, values_of}
 use Rattle.txsq.specs.Laws.Demands.{content_size}
 use Rattle.txsq.proofs.writing.making.put.Goals.{After-put-5}

@@ -12,8 +12,9 @@ use Rattle.frame.specs.Laws.Head.{head_put_lem}
 use Rattle.format.specs.Correcting.{put_in, put_in_lem}
 use Rattle.format.specs.Fmt.{pad}
 use Rattle.format.specs.Laws.Extent.{opens_field}
-use Rattle.format.specs.Laws.Legal.{legal}
-use Rattle.format.specs.Laws.Putting.{put_start, put_step, put_choice, put_number, begins, begins_then, put_run, put_end}
+use Rattle.format.proofs.Laws.Legal.{legal}
+use Rattle.format.specs.Laws.Putting.{put_start, begins_then, put_run, put_end}
+use Rattle.format.proofs.Laws.Putting.{put_step, put_choice, put_number, begins}
 use Rattle.txxx.specs.Txxx.{letters, body, txxx, values_of}
 use Rattle.txxx.specs.Laws.Demands.{content_size}
 use Rattle.txxx.proofs.writing.making.put.Goals.{After-put-4}

@@ -9,7 +9,8 @@ use Rattle.warning.specs.Laws.Walking.{type_small}
 use Rattle.ais_common.specs.Laws.Walking.{put_told}
 use Rattle.format.specs.Words.{wide}
 use Rattle.format.specs.Laws.Extent.{opens_choice}
-use Rattle.format.specs.Laws.Putting.{put_start, put_step, put_end}
+use Rattle.format.specs.Laws.Putting.{put_start, put_end}
+use Rattle.format.proofs.Laws.Putting.{put_step}
 use Rattle.warning.specs.Warning.{warning, values_as}
 use Rattle.warning.proofs.writing.making.put.Goals.{After-put-7}
 use Rattle.warning.proofs.writing.making.put.Goals as goal

@@ -5,7 +5,8 @@ use Rattle.bits.specs.Bits.{digits}
 use Rattle.format.specs.Fmt.{accepted, Fmt, end, field, choice, bytes, pad, write_field, write}
 use Rattle.format.specs.Message.{Layout, closed, write_message}
 use Rattle.format.specs.Laws.Legal.{Legal}
-use Rattle.format.specs.Laws.Round.{sized_at, write_lay}
+use Rattle.format.specs.Laws.Round.{sized_at}
+use Rattle.format.proofs.Laws.Round.{write_lay}
 use Rattle.format.specs.Laws.Zero.{Counted}
 
 pub legal_written : (f : Fmt) (h : List ℕ) (at : ℕ) (vs : List ℕ) → Legal f h vs → Counted f at vs → (b : List Bool) × (write f h at vs ≡ accepted b)

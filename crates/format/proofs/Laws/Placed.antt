@@ -8,10 +8,11 @@ use Rattle.format.specs.Fmt.{Out, accepted, refused, check, after, read, write, 
 use Rattle.format.specs.Message.{Layout, Sound, fault, size, body, sealed, first, closed, read_message, write_message, correct_message}
 use Rattle.format.specs.Places.{FirstBad, FirstBadValue}
 use Rattle.format.specs.Laws.Lead.{read_first}
-use Rattle.format.specs.Laws.Places.{also_refused, read_first_bad, read_inside, write_first_bad}
+use Rattle.format.specs.Laws.Places.{also_refused, read_first_bad, read_inside}
+use Rattle.format.proofs.Laws.Places.{write_first_bad}
 use Rattle.format.specs.Laws.Round.{clash, refused_inj}
 use Rattle.format.specs.Laws.Sealing.{length_body}
-use Rattle.format.specs.Laws.Whole.{spot_fits, correct_narrow, correct_wide}
+use Rattle.format.proofs.Laws.Whole.{spot_fits, correct_narrow, correct_wide}
 use Rattle.format.specs.Laws.Zero.{Judged}
 
 -- ---- reading

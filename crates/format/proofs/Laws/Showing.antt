@@ -8,7 +8,8 @@ use Rattle.format.specs.declared.Refusal.{Refusal}
 use Rattle.format.specs.Promises.{answered, read_record}
 use Rattle.format.specs.Laws.Answers.{read_code}
 use Rattle.format.specs.Laws.Correcting.{accepted_by, refused_by_lem}
-use Rattle.format.specs.Laws.Zero.{Judged, read_zero_message}
+use Rattle.format.specs.Laws.Zero.{Judged}
+use Rattle.format.proofs.Laws.Zero.{read_zero_message}
 
 -- the answer a of reading s has the refusal n; of a good record `show` is shown
 module _ (l : Layout) (numbers : Judged l.fmt) {R A C : Type 0} (good : R → A) (bad : Refusal → A) (record_of : List ℕ → R) (refusal_of : A → Refusal) (of-good : (r : R) → refusal_of (good r) ≡ bare 0)

@@ -1,0 +1,21 @@
+-- What is proved of every layout, beside what stands in specs/Laws.
+pub mod Codes
+pub mod Correct
+pub mod Correcting
+pub mod Corrections
+pub mod Extent
+pub mod Family
+pub mod First
+pub mod Groups
+pub mod Legal
+pub mod Lent
+pub mod Offsets
+pub mod Placed
+pub mod Places
+pub mod Putting
+pub mod Round
+pub mod Settled
+pub mod Showing
+pub mod Whole
+pub mod Written
+pub mod Zero

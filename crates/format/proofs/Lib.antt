@@ -1,0 +1,2 @@
+-- What rests on the definitions.
+pub mod Laws
