@@ -43,8 +43,8 @@ module _ (n : ℕ) (f : Fmt) (vs : List ℕ) (b : List Bool) (e : read f [] 0 b 
   abbrev here : List Bool
   here = drop (reach n f vs 0) b
 
-  first_of : (h : List ℕ) (at : ℕ) (next : ℕ → List Bool → Out (List ℕ)) → read_field w j h at here next ≡ accepted (drop n vs) → get_or vs n 0 ≡ value_of (take w here)
-  first_of h at next is =
+  first_of_lem : (h : List ℕ) (at : ℕ) (next : ℕ → List Bool → Out (List ℕ)) → read_field w j h at here next ≡ accepted (drop n vs) → get_or vs n 0 ≡ value_of (take w here)
+  first_of_lem h at next is =
       let o = opened w j h at here next (drop n vs) is in
       ap (λ k. get_or vs k 0) (sym (add-zero n)) ∙ sym (get_or-drop n vs 0 0) ∙ ap (λ l. get_or l 0 0) o.front
 
@@ -52,11 +52,11 @@ module _ (n : ℕ) (f : Fmt) (vs : List ℕ) (b : List Bool) (e : read f [] 0 b 
   unfolding read
   value_at m g is =
       let p = past n f [] 0 vs b 0 e in
-      first_of p.before p.at (λ v r. read g (v ∷ p.before) (p.at + w) r) (ap (λ k. read k p.before p.at here) (sym is) ∙ p.so)
+      first_of_lem p.before p.at (λ v r. read g (v ∷ p.before) (p.at + w) r) (ap (λ k. read k p.before p.at here) (sym is) ∙ p.so)
 
   -- whether it decides what follows or not.
   pub choice_at : (g : ℕ → Fmt) → behind n f vs ≡ choice w j g → get_or vs n 0 ≡ value_of (take w here)
   unfolding read
   choice_at g is =
       let p = past n f [] 0 vs b 0 e in
-      first_of p.before p.at (λ v r. read (g v) (v ∷ p.before) (p.at + w) r) (ap (λ k. read k p.before p.at here) (sym is) ∙ p.so)
+      first_of_lem p.before p.at (λ v r. read (g v) (v ∷ p.before) (p.at + w) r) (ap (λ k. read k p.before p.at here) (sym is) ∙ p.so)
