@@ -135,8 +135,8 @@ def uses(files):
     for path, (_, units) in files.items():
         for unit in units:
             for name in unit.names:
-                # a block's own names are no others', where it keeps them to itself
-                if not unit.lines[0].startswith("module ") or re.search(rf"(?m)^ +(abbrev )?pub (abbrev |record |data )?{re.escape(name)}\b", unit.text()):
+                # a short name that a block keeps to itself is elsewhere a variable's
+                if not unit.lines[0].startswith("module ") or "_" in name or re.search(rf"(?m)^ +(abbrev )?pub (abbrev |record |data )?{re.escape(name)}\b", unit.text()):
                     own[(module(path), name)] = unit
     rests = {}
     for path, (title, units) in files.items():
@@ -193,6 +193,9 @@ def find(crate, logs):
 
 def public(unit, name):
     """The unit with `pub` at this name, and at its fields where it is a record."""
+    if re.match(r"(?:abbrev |pub )*data ", unit.lines[0]):
+        unit.lines[0] = re.sub(r"^(abbrev )?(pub )?", r"\1pub ", unit.lines[0])
+        return
     for at, line in enumerate(unit.lines):
         if name in declared(line.strip()) and not re.match(r" *(?:abbrev |unfoldable |opaque )*pub ", line):
             unit.lines[at] = re.sub(r"^( *(?:abbrev |unfoldable |opaque )*)", r"\1pub ", line)

@@ -3,3 +3,4 @@ mod Fitting
 mod Listing
 mod Moved
 mod Turning
+pub mod Laws

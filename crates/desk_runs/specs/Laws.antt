@@ -2,12 +2,9 @@
 pub mod Parts
 pub mod Stands
 pub mod Told
-pub mod Steps
 pub mod Counts
-pub mod Demand
 pub mod Takes
 pub mod Older
 pub mod Follows
 pub mod BytesDemand
-pub mod Split
 pub mod Arrives

@@ -9,4 +9,3 @@ pub mod Demands
 pub mod Judging
 pub mod Writing
 pub mod WritingDemands
-pub mod Refused

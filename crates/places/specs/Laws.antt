@@ -11,5 +11,4 @@ pub mod Outcomes
 pub mod Row
 pub mod Taken
 pub mod Ends
-pub mod Refused
 pub mod One

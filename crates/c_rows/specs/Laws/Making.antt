@@ -15,7 +15,7 @@ use Rattle.notice.specs.Record.{Whole, values_of}
 use Rattle.format.specs.Promises.{Lays}
 use Rattle.notice.specs.WritingPromises.{enough, NoticeWrites}
 use Rattle.notice.specs.Laws.Demands.{whole_of}
-use Rattle.notice.specs.Laws.WritingDemands.{corrected as corrected_notice}
+use Rattle.notice.proofs.Laws.WritingDemands.{corrected as corrected_notice}
 use Rattle.notice.specs.declared.reading.Notice.{Notice}
 use Rattle.c_rows.specs.Language.{spoken}
 use Rattle.c_rows.specs.Making.{WritesIn, correcting, CorrectsIn}

@@ -18,7 +18,7 @@ use Rattle.notice.specs.Promises.{housed, told_of}
 use Rattle.notice.specs.Record.{Whole, record_of as whole_of, values_of as notice_values}
 use Rattle.notice.specs.WritingPromises.{enough, NoticeWrites}
 use Rattle.notice.specs.declared.reading.Notice.{Notice}
-use Rattle.notice.specs.Laws.Demands.{family as notice_family}
+use Rattle.notice.proofs.Laws.Demands.{family as notice_family}
 use Rattle.outline.specs.Promises.{drawn, counted, answer_of as outlined, Outlines}
 use Rattle.outline.specs.declared.Answer.TheVariants.{Good}
 use Rattle.outline.specs.Laws.Outlines.{no_zero_outline}

@@ -1,13 +1,12 @@
 -- However a log is cut into windows, the texts made one after the other are its listing. Assumes nothing.
 use Rattle.std.specs.Prelude.{◌≡◌, ℕ, zero, suc, ◌+◌, ◌-◌, ◌≤◌, Bool, true, false, cond, List, [], ◌∷◌, ◌++◌, length, take, drop, nat_le, refl}
-use Rattle.std.proofs.Common.{sym, ap, ◌∙◌, append_assoc, arith, length-take, length-drop, drop-drop}
+use Rattle.std.proofs.Common.{ap, ◌∙◌, append_assoc, arith, length-take, length-drop}
 use Rattle.std.proofs.Math.Nat.{sub-zero}
-use Rattle.std.proofs.lemmas.List.{take-append-le, drop-append-le}
 use Rattle.daylog.specs.Records.{Entry, front, opened, records, size_of}
 use Rattle.daylog.specs.Kinds.{entry_line}
 use Rattle.daylog.specs.Log.{after, after_all, lines, ending_of, listing_from}
 use Rattle.daylog.specs.Promises.{listed, chosen, Lists}
-use Rattle.daylog.specs.Laws.Records.{front_size, front_stays, records_empty, records_open}
+use Rattle.daylog.specs.Laws.Records.{front_size, records_empty, records_open}
 use Rattle.daylog.specs.declared.Listed.{Listed}
 use Rattle.daylog.specs.declared.records.Next.{Next}
 use Rattle.daylog.specs.declared.records.Next.TheVariants.{Record, Bad, Short}
@@ -41,17 +40,6 @@ one_record s k m n e =
     (lines (after n) (records d))
     (ending_of (after_all (after n) (records d)) (length d - size_of (records d))))
 
--- with more bytes behind, the record is the same
-more : (s t : List ℕ) (k m n : ℕ) → front s ≡ Record k m
-    → listing_from n (s ++ t) ≡ entry_line n (entry_at s k m) ++ listing_from (after n) (drop (4 + m) s ++ t)
-more s t k m n e =
-    let l = (front_size s k m e).0 in
-    let f : front (s ++ t) ≡ Record k m = front_stays s t (λ x. let z : ◌≡◌ {A = ℕ} 0 1 = cc in absurd (omega arith)) ∙ e in
-    let b : take m (drop 4 (s ++ t)) ≡ take m (drop 4 s) = ap (take m) (drop-append-le 4 s t (omega arith)) ∙ take-append-le m (drop 4 s) t (simp length-drop (omega arith)) in
-    one_record (s ++ t) k m n f
-    ∙ ap (λ x. entry_line n (record { kind = k; body = x }) ++ listing_from (after n) (drop (4 + m) (s ++ t))) b
-    ∙ ap (λ x. entry_line n (entry_at s k m) ++ listing_from (after n) x) (drop-append-le (4 + m) s t l)
-
 -- records that take no bytes are none
 pub none_used : (es : List Entry) → size_of es ≡ 0 → es ≡ []
 unfolding size_of
@@ -61,11 +49,11 @@ none_used (e ∷ es) h = absurd (omega arith)
 -- ---- windows
 
 -- the records es are the first ones of s
-data Begins : List ℕ → List Entry → Type 0 where
+pub data Begins : List ℕ → List Entry → Type 0 where
   none : {s : List ℕ} → Begins s []
   one : {s : List ℕ} {k m : ℕ} {es : List Entry} → front s ≡ Record k m → Begins (drop (4 + m) s) es → Begins s (entry_at s k m ∷ es)
 
-begins : (f : ℕ) (s : List ℕ) (room n : ℕ) → length s ≤ f → Begins s (listed room n (records s))
+pub begins : (f : ℕ) (s : List ℕ) (room n : ℕ) → length s ≤ f → Begins s (listed room n (records s))
 unfolding listed
 begins zero s room n h = rw (records_empty s h) none
 begins (suc f) s room n h = go (front s) refl (λ k m. begins f (drop (4 + m) s) (room - length (entry_line n (entry_at s k m))) (after n) (simp length-drop (omega arith)))
@@ -88,32 +76,9 @@ begins_size {s} (one {k = k} {m = m} {es = es} e x) =
     let l = begins_size x in
     omega (arith, (front_size s k m e).0, body_size s k m e, length-drop (4 + m) s)
 
--- the lines of the first records, then the listing of what is left, whatever comes behind
-window : {s : List ℕ} {es : List Entry} → Begins s es → (n : ℕ) (t : List ℕ)
-    → listing_from n (s ++ t) ≡ lines n es ++ listing_from (after_all n es) (drop (size_of es) s ++ t)
-unfolding lines after_all size_of
-window none n t = refl
-window {s} (one {k = k} {m = m} {es = es} e x) n t =
-    let d : drop (size_of es) (drop (4 + m) s) ≡ drop (4 + length (take m (drop 4 s)) + size_of es) s = rw (body_size s k m e) (drop-drop (size_of es) (4 + m) s) in
-    more s t k m n e
-    ∙ ap (λ l. entry_line n (entry_at s k m) ++ l) (window x (after n) t)
-    ∙ sym (append_assoc (entry_line n (entry_at s k m)) (lines (after n) es) _)
-    ∙ ap (λ l. (entry_line n (entry_at s k m) ++ lines (after n) es) ++ listing_from (after_all (after n) es) (l ++ t)) d
-
 -- What is listed lies within the window.
 pub chosen_within : (s : List ℕ) (n : ℕ) (out : List ℕ) → size_of (chosen s n out) ≤ length s
 chosen_within s n out = begins_size (begins (length s) s (length out) n (omega arith))
 
 pub used_within : {s : List ℕ} {n : ℕ} {out : List ℕ} {r : Listed} {left : List ℕ} → Lists s n out r left → r.used ≤ length s
 used_within {s} {n} {out} p = omega (arith, p.used, chosen_within s n out)
-
--- The lines of the records that a call lists and the listing of what is left are the listing, whatever comes behind.
-pub chosen_window : (s : List ℕ) (n : ℕ) (out t : List ℕ)
-    → listing_from n (s ++ t) ≡ lines n (chosen s n out) ++ listing_from (after_all n (chosen s n out)) (drop (size_of (chosen s n out)) s ++ t)
-chosen_window s n out t = window (begins (length s) s (length out) n (omega arith)) n t
-
--- A window that begins with a length that no record has: all bytes left are a broken record.
-pub bad_end : (s : List ℕ) (n : ℕ) → front s ≡ Bad → (t : List ℕ) → listing_from n (s ++ t) ≡ ending_of n (length (s ++ t))
-bad_end s n e t =
-    let f : front (s ++ t) ≡ Bad = front_stays s t (λ x. let z : ◌≡◌ {A = ℕ} 0 1 = cc in absurd (omega arith)) ∙ e in
-    no_records (s ++ t) (records_open (s ++ t) ∙ ap (λ x. opened x (s ++ t) records) f) n

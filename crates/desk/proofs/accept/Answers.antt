@@ -1,5 +1,6 @@
 -- `accept` goes by the places by value: the row's first four are read, and the one that may change is stored.
-use Rattle.places.specs.Laws.Row.{accepts_short, accepts_row}
+use Rattle.places.specs.Laws.Row.{accepts_row}
+use Rattle.places.proofs.Laws.Row.{accepts_short}
 use Rattle.desk.proofs.accept.Goals as goal
 
 pub returns-then-places-lt-PLACES : goal.returns-then-places-lt-PLACES

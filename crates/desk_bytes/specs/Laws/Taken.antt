@@ -8,7 +8,8 @@ use Rattle.format.specs.declared.Refusal.{Refusal}
 use Rattle.packet.specs.Packet.{packets, record_of}
 use Rattle.packet.specs.declared.reading.Packet.{Packet}
 use Rattle.places.specs.Desk.{refusal_of, first_tests, Accepting}
-use Rattle.places.specs.Laws.Taken.{Takes, takes_zero, taking}
+use Rattle.places.specs.Laws.Taken.{Takes, takes_zero}
+use Rattle.places.proofs.Laws.Taken.{taking}
 use Rattle.desk_bytes.specs.Bytes.{row_in, changed_bytes}
 use Rattle.desk_bytes.specs.Promises.{again_of, AcceptsIn}
 

@@ -1,7 +1,5 @@
 -- A to L: every letter has its rows; one test that is computed over the whole table, and one law that turns it into the equation of each row. Assumes nothing.
-use Rattle.std.specs.Prelude.{ℕ, zero, suc, ◌<◌, true, List, [], ◌∷◌, ◌≡◌, refl, length, get_or}
-use Rattle.std.proofs.Common.{le_of_suc-le-suc, not-suc-le-zero}
-use Rattle.std.proofs.Math.Bool.{and-eq-true_iff}
+use Rattle.std.specs.Prelude.{ℕ, true, List, [], ◌∷◌, ◌≡◌, refl, get_or}
 use Rattle.bits.specs.Bits.{bit, value_of, digits, bits_of, bytes_of, field_at, put_at}
 use Rattle.bits.specs.Xor.{xor_of}
 use Rattle.walk.specs.Sign.{int_of, spell_of}
@@ -21,7 +19,6 @@ use Rattle.notice.specs.Record.{head_of, text_of, record_of as notice_of, values
 use Rattle.packet.specs.Packet.{packet, packets, record_of as packet_of, values_of as packet_values}
 use Rattle.places.specs.Places.{every_below, first_from, good_place, all_apart, good_places, open_at, free_at}
 use Rattle.places.specs.Desk.{alike, first_tests, joins, received, accepting, missing_below, answers, asking}
-use Rattle.places.specs.Laws.Alike.{alike_same}
 use Rattle.desk_runs.specs.Runs.{run, log}
 use Rattle.ais.specs.Slots.{first_of, slots_in, slots_for}
 use Rattle.numbers_to_stand_by.specs.Cases.{signs, replies}
@@ -39,14 +36,3 @@ all_stand = refl
 -- row i of a table
 abbrev pub row_at : List Row → ℕ → Row
 row_at rs i = get_or rs i (says A [] [])
-
--- what the test finds of a table is so at each of its rows
-at_each : (rs : List Row) → standing rs ≡ true → (i : ℕ) → i < length rs → (row_at rs i).answer ≡ (row_at rs i).paper
-unfolding standing
-at_each [] e i l = absurd (not-suc-le-zero l)
-at_each (r ∷ rs) e zero l = alike_same r.answer r.paper ((and-eq-true_iff (alike r.answer r.paper) (standing rs)).0 e).0
-at_each (r ∷ rs) e (suc i) l = at_each rs ((and-eq-true_iff (alike r.answer r.paper) (standing rs)).0 e).1 i (le_of_suc-le-suc l)
-
--- the definitions answer what the paper says
-pub stands : (i : ℕ) → i < length table → (row_at table i).answer ≡ (row_at table i).paper
-stands = at_each table all_stand

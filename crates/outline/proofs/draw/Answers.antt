@@ -11,7 +11,7 @@ use Rattle.notice_fields.specs.Laws.Shapes.{area_small, next_more}
 use Rattle.walk.specs.Groups.{repeat_at, repeat_end, repeat_sum}
 use Rattle.walk.specs.Laws.Stored.{sum_more}
 use Rattle.outline.specs.Standing.{points_drawn, area_drawn, outline_at}
-use Rattle.outline.specs.Laws.Drawing.{outline_at_long, points_within, first_near, area_turn}
+use Rattle.outline.proofs.Laws.Drawing.{outline_at_long, points_within, first_near, area_turn}
 use Rattle.outline.proofs.draw.Goals as goal
 
 pub loop-i-init : goal.loop-i-init

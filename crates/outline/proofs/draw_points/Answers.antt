@@ -10,7 +10,7 @@ use Rattle.notice_fields.specs.Parts.{latitude_bits, longitude_bits, point_bits}
 use Rattle.walk.specs.Groups.{repeat_at}
 use Rattle.outline.specs.Standing.{points_drawn}
 use Rattle.outline.specs.Laws.Angles.{latitude_stored, longitude_stored}
-use Rattle.outline.specs.Laws.Drawing.{point_turn}
+use Rattle.outline.proofs.Laws.Drawing.{point_turn}
 use Rattle.outline.proofs.draw_points.Goals as goal
 
 pub loop-j-init : goal.loop-j-init

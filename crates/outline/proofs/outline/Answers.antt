@@ -8,9 +8,9 @@ use Rattle.format.specs.Fmt.{also}
 use Rattle.notice_fields.specs.Standing.{front, areas_at}
 use Rattle.notice_fields.specs.declared.row.Extent.{Extent}
 use Rattle.notice.specs.Record.{record_of}
-use Rattle.notice.specs.Laws.Told.{walked_good, walked_bad, fields_are}
+use Rattle.notice.proofs.Laws.Told.{walked_good, walked_bad, fields_are}
 use Rattle.outline.specs.Outline.{outline_of}
-use Rattle.outline.specs.Laws.Drawing.{outline_stands, outline_at_long, count_stands, points_few}
+use Rattle.outline.proofs.Laws.Drawing.{outline_stands, outline_at_long, count_stands, points_few}
 use Rattle.outline.specs.Laws.Outlines.{outlines_refused, outlines_short, outlines_good}
 use Rattle.outline.specs.declared.Answer.TheVariants.{Good}
 use Rattle.outline.proofs.outline.Goals as goal

@@ -83,9 +83,6 @@ pub dropping_short : (ps : List Place) (s : List ℕ) (n : ℕ) → length ps < 
 unfolding dropping
 dropping_short ps s n h = rw (short_tests ps s h) refl
 
-pub accepts_short : (ps : List Place) (s m : List ℕ) (a : Reply) → length ps < four_places → a ≡ Refused (unplaced m) → Accepts ps s m a ps s
-accepts_short ps s m a h e = rw (accepting_short ps s m h) (e, refl, refl)
-
 pub asks_short : (ps : List Place) (s : List ℕ) (n : ℕ) (b w : List ℕ) → length ps < four_places → Asks ps s n b w (Refused (bare 6)) ps b w
 asks_short ps s n b w h = rw (asking_short ps s n b w h) (refl, refl, refl, refl)
 

@@ -19,12 +19,12 @@ use Rattle.sentence.specs.Pattern.{Laid, opening, summed_up, sentence, address_g
 use Rattle.sentence.specs.Spelling.{all_digits, decimal, unhexed}
 use Rattle.sentence.specs.Sentence.{read_sentence, write_sentence, room_for, heard_of, sent_of, laid_over, Sends}
 use Rattle.sentence.specs.Laws.Parts.{summed_long}
-use Rattle.sentence.specs.Laws.Tests.{led, passed, around_bare, pattern_both}
+use Rattle.sentence.specs.Laws.Tests.{around_bare}
 use Rattle.distress.specs.declared.reading.Report.{Report}
 use Rattle.distress.specs.declared.reading.Answer.{Answer}
 use Rattle.distress.specs.declared.reading.Answer.TheVariants.{Good as GoodReport, Refused as BadReport}
 use Rattle.sentence.specs.declared.pattern.Around.{Around}
-use Rattle.sentence.specs.declared.pattern.Around.TheVariants.{Accepted as Accepts, Refused as Refuses}
+use Rattle.sentence.specs.declared.pattern.Around.TheVariants.{Refused as Refuses}
 use Rattle.sentence.specs.declared.reading.Heard.{Heard}
 use Rattle.sentence.specs.declared.reading.Heard.TheVariants.{Good, Refused}
 use Rattle.sentence.specs.declared.writing.Sent.TheVariants.{Bytes as Written, Refused as Unsent}
@@ -47,17 +47,6 @@ pub record Taken (s : List ℕ) (a : ℕ) : Type 0 where
   pub least : 54 ≤ length s
   pub figures : all_digits 16 (hex_part s) ≡ true
   pub inside : around_so s ≡ accepted (a, unhexed (hex_part s))
-
-pub taken : (s : List ℕ) (x : Around) (a : ℕ) → x ≡ around_of (around_so s) → x ≡ Accepts a → Taken s a
-taken s x a e f = go (around_so s) refl e
-  where
-    go : (o : Out (ℕ × List ℕ)) → around_so s ≡ o → x ≡ around_of o → Taken s a
-    go (refused d p) g e = let z : ◌≡◌ {A = ℕ} 0 1 = cc in absurd (omega arith)
-    go (accepted y) g e =
-        let p = passed s y g in
-        let z : y.0 ≡ a = cc in
-        let w : y.1 ≡ unhexed (hex_part s) = ap (λ q. q.1) p.inside in
-        record { least = (led s p.first).least; figures = (pattern_both s p.like).1; inside = g ∙ λ i. accepted (z i, w i) }
 
 -- a report's answer inside a sentence
 abbrev pub heard_as : ℕ → Answer → Heard

@@ -1,25 +1,22 @@
 -- Demand 2 for the sentence, from the promises of its two calls alone. Assumes nothing.
 use Rattle.std.specs.Prelude.{Bool, true, false, List, ◌++◌, ◌≡◌, refl, ℕ, ◌≤◌, leb, length, take, drop}
 use Rattle.std.proofs.Math.Bool.{and-eq-true_iff}
-use Rattle.std.proofs.Common.{sym, ap, ◌∙◌, arith, take_at, le-leb, leb-true}
-use Rattle.bits.specs.Bits.{Bytes}
+use Rattle.std.proofs.Common.{sym, ap, ◌∙◌, arith, take_at, leb-true}
 use Rattle.format.specs.Fmt.{Out, accepted, refused, or_bad, check, also}
 use Rattle.format.specs.Message.{write_message}
 use Rattle.format.specs.declared.Refusal.{Refusal}
-use Rattle.format.proofs.Laws.Family.{never_read, never_written, written_record, read_writes}
+use Rattle.format.proofs.Laws.Family.{never_read, never_written, written_record}
 use Rattle.format.specs.Promises.{read_record}
-use Rattle.distress.specs.Laws.Demands.{good}
 use Rattle.distress.proofs.Laws.Demands.{family}
 use Rattle.distress.specs.Promises.{Reads}
 use Rattle.distress.specs.Report.{reports, values_of, report_of, answer_of}
 use Rattle.sentence.specs.Pattern.{sentence, address_good, around_so}
 use Rattle.sentence.specs.Sentence.{read_sentence, write_sentence, room_for, heard_of, sent_of, laid_over, Hears, Sends}
-use Rattle.sentence.specs.Laws.Calls.{heard_fails, heard_as, heard_inside, bytewise, all_sent}
-use Rattle.sentence.specs.Laws.Parts.{sentenced, sentence_accepted}
+use Rattle.sentence.specs.Laws.Calls.{heard_fails, heard_as, heard_inside, bytewise}
+use Rattle.sentence.specs.Laws.Parts.{sentence_accepted}
 use Rattle.sentence.specs.Laws.Tests.{never_around}
 use Rattle.distress.specs.declared.reading.Report.{Report}
-use Rattle.distress.specs.declared.reading.Answer.{Answer}
-use Rattle.distress.specs.declared.reading.Answer.TheVariants.{Good as GoodReport, Refused as BadReport}
+use Rattle.distress.specs.declared.reading.Answer.TheVariants.{Good as GoodReport}
 use Rattle.sentence.specs.declared.reading.Heard.{Heard}
 use Rattle.sentence.specs.declared.reading.Heard.TheVariants.{Good, Refused}
 use Rattle.sentence.specs.declared.writing.Sent.{Sent}
@@ -43,32 +40,9 @@ pub record IsSentence (a : ℕ) (r : Report) (s : List ℕ) : Type 0 where
   pub wrote : write_message reports (values_of r) ≡ accepted report
   pub is : s ≡ sentence a report
 
--- a report that is read as r is what r is written as
-report_again : (bs : List ℕ) (r : Report) → Bytes bs → Reads bs (GoodReport r) → write_message reports (values_of r) ≡ accepted bs
-report_again bs r fine e = read_writes family bs r fine (good bs r e)
-
 -- and it is read back as r
 report_read : (bs : List ℕ) (r : Report) → write_message reports (values_of r) ≡ accepted bs → Reads bs (GoodReport r)
 report_read bs r e = sym (ap answer_of (written_record family r bs tt e))
-
-good_inside : (a b : ℕ) (r : Report) (x : Answer) → Good a r ≡ heard_as b x → (a ≡ b) × (GoodReport r ≡ x)
-good_inside a b r (GoodReport q) e = let z : r ≡ q = cc in (cc, ap GoodReport z)
-good_inside a b r (BadReport c) e = let z : ◌≡◌ {A = ℕ} 0 1 = cc in absurd (omega arith)
-
--- `read` answers an address and a record only for their sentence ..
-pub heard_is : (s : List ℕ) (a : ℕ) (r : Report) → Hears s (Good a r) → IsSentence a r s
-heard_is s a r h = go (around_so s) refl
-  where
-    go : (o : Out (ℕ × List ℕ)) → around_so s ≡ o → IsSentence a r s
-    go (refused c p) e =
-        let q = ap heard_of (heard_fails s c p e) in
-        let z : ◌≡◌ {A = ℕ} 0 1 = cc in
-        absurd (omega arith)
-    go (accepted x) e =
-        let t = sentenced s x e in
-        let (p, q) = good_inside a x.0 r (answer_of (read_record reports report_of x.1)) (h ∙ heard_inside s x.0 x.1 e) in
-        let w = report_again x.1 r t.fine q in
-        rw p (record { least = t.least; most = t.most; report = x.1; wrote = w; is = t.is })
 
 -- .. and for each of their sentences.
 pub is_heard : (s : List ℕ) (a : ℕ) (r : Report) → IsSentence a r s → Hears s (Good a r)
@@ -115,17 +89,6 @@ sent_heard s a r n t h =
     let w = sent_as s a r n t h in
     let k : take n t ≡ w.text = ap (take n) w.laid ∙ take_at w.text (drop (length w.text) s) n (sym w.long) in
     is_heard w.text a r w.is ∙ ap (λ q. heard_of (read_sentence q)) (sym k)
-
--- What is read is written back as the same bytes, into any buffer with room.
-pub heard_sent : (s : List ℕ) (a : ℕ) (r : Report) → Hears s (Good a r) → (u : List ℕ) (x : Sent) (t : List ℕ) → length s ≤ length u → Sends u a r x t
-    → (x ≡ Written (length s)) × (t ≡ s ++ drop (length s) u)
-heard_sent s a r h u x t room w =
-    let i = heard_is s a r h in
-    let good : address_good a ≡ true = rw (le-leb 1 a i.least, le-leb a 2_097_151 i.most) refl in
-    let e = all_sent u a r good i.report i.wrote (omega (arith, ap length i.is)) in (
-      w.0 ∙ ap sent_of e ∙ ap (λ q. Written (length q)) (sym i.is),
-      w.1 ∙ ap (λ o. laid_over o u) e ∙ ap (λ q. q ++ drop (length q) u) (sym i.is),
-    )
 
 -- ---- no refusal has the number 0
 

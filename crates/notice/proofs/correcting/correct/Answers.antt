@@ -4,7 +4,7 @@ use Rattle.format.specs.Message.{told}
 use Rattle.format.proofs.Laws.Correcting.{in_place}
 use Rattle.notice.specs.Notice.{ours, notices}
 use Rattle.notice.specs.Laws.Sound.{sound, judged}
-use Rattle.notice.specs.Laws.Told.{walked_refusal, stands, fields_again, fields_are}
+use Rattle.notice.proofs.Laws.Told.{walked_refusal, stands, fields_again, fields_are}
 use Rattle.notice.proofs.correcting.correct.Goals as goal
 
 -- the walk finds no wide field

@@ -8,7 +8,8 @@ use Rattle.bits.specs.Laws.Runs.{length_run}
 use Rattle.format.specs.Fmt.{also}
 use Rattle.notice_fields.specs.Standing.{front, areas_at}
 use Rattle.notice.specs.Record.{record_of}
-use Rattle.notice.specs.Laws.Told.{reads_refused, reads_few, reads_short, reads_good, stored, kept_row, copied, walked_good, walked_bad, fields_are}
+use Rattle.notice.specs.Laws.Told.{reads_refused, reads_few, reads_short, reads_good, stored, kept_row, copied}
+use Rattle.notice.proofs.Laws.Told.{walked_good, walked_bad, fields_are}
 use Rattle.notice.specs.declared.reading.Answer.TheVariants.{Good}
 use Rattle.notice.specs.Notice.{ours}
 use Rattle.notice.proofs.reading.read.Goals as goal

@@ -1,5 +1,5 @@
 -- `refusal` is what the walk's refusal tells.
-use Rattle.notice.specs.Laws.Told.{walked_refusal}
+use Rattle.notice.proofs.Laws.Told.{walked_refusal}
 use Rattle.notice.proofs.reading.refusal.Goals as goal
 
 pub returns : goal.returns

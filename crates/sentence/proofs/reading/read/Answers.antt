@@ -10,7 +10,8 @@ use Rattle.format.specs.Fmt.{accepted}
 use Rattle.format.specs.Refusals.{bare}
 use Rattle.sentence.specs.declared.reading.Heard.TheVariants.{Refused}
 use Rattle.sentence.specs.Laws.Parts.{length_part}
-use Rattle.sentence.specs.Laws.Calls.{heard_refused, Taken, taken, heard_as, heard_inside}
+use Rattle.sentence.specs.Laws.Calls.{heard_refused, Taken, heard_as, heard_inside}
+use Rattle.sentence.proofs.Laws.Calls.{taken}
 use Rattle.sentence.proofs.reading.read.Goals.{After-unhex-bytes, In-Accepted}
 use Rattle.sentence.proofs.reading.read.Goals as goal
 

@@ -20,9 +20,10 @@ use Rattle.desk_bytes.specs.Promises.{count_of, language_of, AsksIn}
 use Rattle.desk_runs.specs.Lent.{Lent, desk_in, EmptyIn, Run, calls_of}
 use Rattle.desk_runs.specs.Runs.{Desk, Empty, Call, asks, number_of, run, log, Part, since, came, content_of, in_order_of, Given, asked, due}
 use Rattle.desk_runs.specs.Sending.{AllCame, handed}
-use Rattle.desk_runs.specs.Laws.BytesDemand.{empty_in, asked_over_bytes}
-use Rattle.desk_runs.specs.Laws.Demand.{told, whole, complete_due, asked_is_due, one_notice}
-use Rattle.desk_runs.specs.Laws.Follows.{follows}
+use Rattle.desk_runs.specs.Laws.BytesDemand.{empty_in}
+use Rattle.desk_runs.proofs.Laws.BytesDemand.{asked_over_bytes}
+use Rattle.desk_runs.proofs.Laws.Demand.{told, whole, complete_due, asked_is_due, one_notice}
+use Rattle.desk_runs.proofs.Laws.Follows.{follows}
 use Rattle.desk_runs.specs.Laws.Older.{freed_forgets}
 use Rattle.desk_runs.specs.Laws.Parts.{Member}
 

@@ -12,7 +12,7 @@ use Rattle.places.specs.declared.Reply.TheVariants.{Joined, Missing}
 use Rattle.desk_runs.specs.Runs.{Desk, Empty, Call, comes, asks, drops, number_of, run, log, Part, since, came, content_of, not_come, in_order_of, Complete, Given, asked, refusal, due}
 use Rattle.desk_runs.specs.Laws.Parts.{each_answer, Member, member_of, all_and_only}
 use Rattle.desk_runs.specs.Laws.Told.{Told, good_places_lem, tests_pass, its_place}
-use Rattle.desk_runs.specs.Laws.Steps.{accepts_told, asks_told, drops_told, asked_due}
+use Rattle.desk_runs.proofs.Laws.Steps.{accepts_told, asks_told, drops_told, asked_due}
 
 -- ---- what is due
 

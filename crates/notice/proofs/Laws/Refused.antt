@@ -12,7 +12,7 @@ use Rattle.notice.specs.Promises.{housed, told_of, answer_of, refusal_of, Reads}
 use Rattle.notice.specs.Record.{Whole, record_of}
 use Rattle.notice.specs.declared.reading.Answer.{Answer}
 use Rattle.notice.specs.declared.reading.Answer.TheVariants.{Good}
-use Rattle.notice.specs.Laws.Demands.{family}
+use Rattle.notice.proofs.Laws.Demands.{family}
 
 module _ (english : Bool) (s areas text : List ℕ) (a : Answer) (areas' text' : List ℕ) (e : Reads (ours english) s areas text a areas' text') where
   abbrev read : Out Whole
