@@ -3,7 +3,8 @@
 A file crates/CRATE/must-fail/*.edit holds one wrong build or several. Each begins with a line '# NAME: the fact that it
 denies', and replaces texts ('file:', 'old:', 'new:' lines, as `rt must-fail` reads them). Builds that share a file change
 the bodies of functions of their own: a proof sees of another function its contract alone, so that the prover says of each
-what it would say of it by itself, and one check of the crate tries them all.
+what it would say of it by itself, and one check of the crate tries them all. Where a build changes a condition that a goal
+is named after, it changes the name in that function's proof too: so it is the goal that is refused, and not the name.
 """
 import glob
 import os
@@ -39,7 +40,13 @@ class Build:
             before, after = parts(path, read(path)), parts(path, text)
             differing = {part for part in before.keys() | after.keys() if before.get(part) != after.get(part)}
             found |= {user(path, before, part) if len(part) == 2 else part for part in differing}
-        return found.pop() if len(found) == 1 and "" not in found else None
+        # A function's proof is a part of it, since no other sees it.
+        proofs = {part for part in found if isinstance(part, str) and part.startswith("proofs/")}
+        if len(found - proofs) != 1 or "" in found:
+            return None
+        function = (found - proofs).pop()
+        own = "/".join(["", *filter(None, function[1:])])
+        return function if all(part.endswith(own) for part in proofs) else None
 
     def reshapes(self):
         """Whether the build changes which operations and calls a function makes, and so which needs its proof has."""
@@ -66,7 +73,11 @@ def closing(text, at):
 
 
 def parts(path, text):
-    """A file by its parts, without comments: the body of each function, and under '' all else, the contracts among it."""
+    """A file by its parts, without comments: the body of each function, and under '' all else, the contracts among it. A
+    function's proof is one part, under its folder."""
+    proof = re.fullmatch(r"crates/\w+/(proofs/.*)/(Answers|Invariants)\.antt", path)
+    if proof:
+        return {proof[1]: text}
     if not path.endswith(".rt"):
         return {"": text}
     module = re.sub(r"(^|/)(lib|main|mod)$", "", path.split("/src/")[1][:-3]).replace("/", "::")
@@ -110,7 +121,7 @@ def user(path, before, constant):
 def operations(path, text):
     """Of each function what may bring a need: branches, casts, calls, indices and arithmetic, but no division by a numeral."""
     may = r"\b(?:if|else|while|return|as)\b|\w+(?=\()|<<|>>|[-+*\[]|[/%](?!=? ?[1-9])"
-    return {part: re.findall(may, body) for part, body in parts(path, text).items() if part}
+    return {part: re.findall(may, body) for part, body in parts(path, text).items() if part and path.endswith(".rt")}
 
 
 def builds(edit):
