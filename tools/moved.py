@@ -319,31 +319,40 @@ def statements(table):
     for crate, files in table.items():
         for file in files:
             path = f"crates/{crate}/proofs/{file}.antt"
-            if not os.path.exists(path):
-                continue
-            _, units = parsed(read(path))
-            print(f"\n{path}\n")
-            for unit in units:
-                if unit.lines and set(unit.names) <= set(files[file]):
-                    print(signature(unit))
+            if os.path.exists(path):
+                print(f"\n{path}\n")
+                print("\n\n".join(signature(unit) for unit in parsed(read(path))[1] if unit.lines))
 
 
 def signature(unit):
-    """A unit without its proofs: each signature, a record whole."""
-    out, keep = list(unit.comments), False
+    """A unit without its proofs: the head of each module block, each statement, and whole what is defined."""
+    out, depth, state, whole = list(unit.comments), [0], "", None
     for line in unit.lines:
-        bare = line.strip()
-        if re.match(r"(module|unfolding) ", bare) and not bare.startswith("unfolding"):
-            keep = False
-            out.append(line)
+        bare, indent = line.strip(), len(line) - len(line.lstrip(" "))
+        if not bare:
             continue
-        inner = len(line) - len(line.lstrip())
-        if declared(bare) and inner <= 4 and not re.match(r"(let|go|by|at)\b", bare):
-            keep = True
-        elif keep and not (re.match(r"(→|×)", bare) or inner > 4 and False):
-            keep = bool(re.match(r"pub ", bare))
-        if keep:
+        while len(depth) > 1 and indent < depth[-1]:
+            depth.pop()
+        if state == "head":
             out.append(line)
+            state = "" if bare.endswith("where") else "head"
+        elif indent > depth[-1]:
+            if state == "shown":
+                out.append(line)
+        elif bare.startswith("module "):
+            out.append(line)
+            depth.append(indent + 2)
+            state = "" if bare.endswith("where") else "head"
+        elif bare.startswith("--"):
+            out.append(line)
+        elif declared(bare):
+            out.append(line)
+            state, whole = "shown", declared(bare)[-1] if re.match(r"(abbrev|unfoldable) ", bare) else None
+        elif whole and re.match(re.escape(whole) + r"(?![^\s(){}])", bare):
+            out.append(line)
+            state = "shown"
+        else:
+            state = ""
     return "\n".join(out)
 
 
