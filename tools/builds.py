@@ -88,7 +88,7 @@ def parts(path, text):
             kind, kind_end = head[1], closing(text, head.end() - 1)
         elif done <= head.start():
             brace = text.index("{", head.end())
-            while re.search(r"\b(requires|ensures|ghost)\s*$", text[head.end() : brace]):
+            while re.search(r"\b(requires|ensures|ghost)(\s+\w+)?\s*$", text[head.end() : brace]):
                 brace = text.index("{", closing(text, brace))
             found[""] += text[done:brace]
             done = closing(text, brace)
