@@ -1,4 +1,6 @@
 // What C and Rust link of every family but its reading, and but the desk: calls over numbers and lent slices.
+#![tactic(auto)]
+
 ghost use Rattle.c_rows.specs.Slots.{SlotsTold};
 ghost use Rattle.format.specs.Promises.{Packs};
 

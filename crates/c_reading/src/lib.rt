@@ -1,6 +1,8 @@
 // What C and Rust link of every family's reading, over numbers and lent slices. Each call hands on what the family's own
 // call promises. They stand apart from the others: where a message's fields are read by one call alone, the compiler makes
 // one function of it.
+#![tactic(auto)]
+
 ghost use Rattle.c_rows.specs.Row.{Fills};
 ghost use Rattle.c_rows.specs.Report.{numbers_of as Report·numbersOf};
 ghost use Rattle.c_rows.specs.Gljc.{numbers_of as Gljc·numbersOf};

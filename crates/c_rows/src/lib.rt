@@ -1,4 +1,6 @@
 // Each family read into a lent row of numbers, as C and Rust are given it.
+#![tactic(auto)]
+
 ghost use Rattle.format.specs.Fmt.{accepted};
 ghost use Rattle.c_rows.specs.Row.{Fills, entries};
 

@@ -1,13 +1,12 @@
 -- `fill` stores the numbers one by one: the invariant says that the first i of them stand already, and each fits an entry.
-use Prim.Native.Nat.{◌-◌}
 use mathlib.Core.Path.{refl, sym, ◌∙◌}
 use native.Mathlib.Omega.{arith}
 use lib.IntN.{pos}
-use lib.ListN.{length, get_or, length-map, get_or-map}
+use lib.ListN.{get_or, length-map, get_or-map}
 use mir.Syntax.{w64}
 use mir.ValLaws.{to_z_pos}
 use Rattle.c_rows.specs.Row.{entries}
-use Rattle.c_rows.specs.Laws.Row.{row_short, Stored, stored_none, stored_more, stored_all}
+use Rattle.c_rows.specs.Laws.Row.{row_short, stored_none, stored_more, stored_all}
 use Rattle.c_rows.proofs.fill.Goals as goal
 
 pub returns-then-row-numbers : goal.returns-then-row-numbers

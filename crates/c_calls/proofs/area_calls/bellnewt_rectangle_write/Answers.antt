@@ -1,7 +1,6 @@
 -- `bellnewt_rectangle_write` writes the area of the record of its numbers: the signed ones fit, so they stand in it as they are.
 use mir.Syntax.{w32}
 use mir.ValLaws.{to_z-of_z}
-use borrow.Author.Rules.{rules}
 use Rattle.c_calls.proofs.area_calls.bellnewt_rectangle_write.Goals as goal
 
 pub returns : goal.returns

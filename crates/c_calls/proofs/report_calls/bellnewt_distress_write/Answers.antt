@@ -1,7 +1,6 @@
 -- `bellnewt_distress_write` is the report's `write` of the record of its numbers: the signed ones fit, so they stand in it as they are.
 use mir.Syntax.{w32}
 use mir.ValLaws.{to_z-of_z}
-use borrow.Author.Rules.{rules}
 use Rattle.c_calls.proofs.report_calls.bellnewt_distress_write.Goals as goal
 
 pub returns : goal.returns

@@ -5,7 +5,6 @@ use native.Mathlib.Omega.{arith}
 use mir.Syntax.{w32}
 use Rattle.c_rows.specs.Area.{row_with}
 use Rattle.c_rows.specs.Laws.Signed.{entry, widens, widened}
-use borrow.Author.Rules.{rules}
 use Rattle.c_rows.proofs.areas.numbers.Goals as goal
 
 pub returns : goal.returns

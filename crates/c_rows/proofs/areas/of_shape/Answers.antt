@@ -5,7 +5,6 @@ use lib.IntN.{pos}
 use mir.Syntax.{w32}
 use mir.ValLaws.{to_z_pos, to_z-of_z}
 use Rattle.c_rows.specs.Area.{four_of}
-use borrow.Author.Rules.{rules}
 use Rattle.c_rows.proofs.areas.of_shape.Goals as goal
 
 pub returns-in-Circle : goal.returns-in-Circle

@@ -2,7 +2,6 @@
 use mathlib.Core.Path.{refl}
 use native.Mathlib.Omega.{arith}
 use borrow.Author.Tests.{le-leb, lt-leb}
-use borrow.Author.Rules.{rules}
 use Rattle.c_rows.proofs.notices.correct.Goals as goal
 
 pub returns-then-language-gt-ENGLISH : goal.returns-then-language-gt-ENGLISH

@@ -2,7 +2,6 @@
 use mathlib.Core.List.{[], ◌∷◌}
 use native.Mathlib.Omega.{arith}
 use Rattle.c_rows.specs.Laws.Signed.{entry}
-use borrow.Author.Rules.{rules}
 use Rattle.c_rows.proofs.notices.numbers.Goals as goal
 
 pub returns : goal.returns

@@ -8,7 +8,6 @@ use Rattle.notice.specs.Notice.{ours}
 use Rattle.notice.specs.Promises.{Reads}
 use Rattle.c_rows.specs.Notice.{unroomed, NoticeFills}
 use Rattle.c_rows.specs.Laws.Notice.{good_rooms, lent_not, lent_short, lent_good, lent_bad}
-use borrow.Author.Rules.{rules}
 use Rattle.c_rows.proofs.notices.read.Goals as goal
 
 pub returns-then-language-gt-ENGLISH : goal.returns-then-language-gt-ENGLISH

@@ -9,7 +9,6 @@ use Rattle.format.specs.Fmt.{refused}
 use Rattle.format.specs.Promises.{Lays}
 use Rattle.format.specs.Refusals.{bare}
 use Rattle.notice.specs.WritingPromises.{enough}
-use borrow.Author.Rules.{rules}
 use Rattle.c_rows.proofs.notices.write.Goals as goal
 
 -- whether the row has enough or not

@@ -1,7 +1,6 @@
 -- `outline` hands on the answer of `outline::outline`, in a language that there is.
 use mathlib.Core.Path.{refl, sym, ◌∙◌}
 use lib.Dec.{eqb}
-use borrow.Author.Rules.{rules}
 use borrow.Author.Tests.{le-leb, lt-leb}
 use Rattle.format.specs.Message.{accepts}
 use Rattle.format.specs.Laws.Answers.{good_read, refused_told}

@@ -4,7 +4,6 @@ use native.Mathlib.Omega.{arith}
 use Rattle.format.specs.Fmt.{accepted}
 use Rattle.c_rows.specs.Row.{Fills, entries}
 use Rattle.c_rows.specs.Laws.Packet.{good_size, good_numbers, refused_numbers}
-use borrow.Author.Rules.{rules}
 use Rattle.c_rows.proofs.packets.read.Goals as goal
 
 pub overflow_sub-s : goal.overflow_sub-s

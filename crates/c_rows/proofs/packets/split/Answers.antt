@@ -5,7 +5,6 @@ use borrow.Author.Tests.{le-leb, lt-leb}
 use Rattle.format.specs.Fmt.{refused}
 use Rattle.format.specs.Message.{refuses}
 use Rattle.c_rows.specs.Split.{splitting_in}
-use borrow.Author.Rules.{rules}
 use Rattle.c_rows.proofs.packets.split.Goals as goal
 
 pub returns-then-language-gt-ENGLISH : goal.returns-then-language-gt-ENGLISH

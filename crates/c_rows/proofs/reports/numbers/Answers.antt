@@ -3,7 +3,6 @@ use mathlib.Core.List.{[], ◌∷◌}
 use native.Mathlib.Omega.{arith}
 use mir.Syntax.{w32}
 use Rattle.c_rows.specs.Laws.Signed.{entry, widens, widened}
-use borrow.Author.Rules.{rules}
 use Rattle.c_rows.proofs.reports.numbers.Goals as goal
 
 pub returns : goal.returns

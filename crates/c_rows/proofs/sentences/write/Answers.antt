@@ -1,7 +1,6 @@
 -- `write` is the sentence's `write`, and the size that it gives.
 use mathlib.Core.Path.{refl}
 use Rattle.c_rows.specs.Laws.Sentence.{sent_bytes, unsent}
-use borrow.Author.Rules.{rules}
 use Rattle.c_rows.proofs.sentences.write.Goals as goal
 
 pub returns-in-Bytes : goal.returns-in-Bytes

@@ -1,12 +1,11 @@
 -- `fill` stores the numbers one by one: the invariant says that the first i of them stand already.
-use Prim.Native.Nat.{◌-◌}
 use mathlib.Core.Path.{refl}
 use native.Mathlib.Omega.{arith}
 use lib.IntN.{pos}
-use lib.ListN.{length, get_or}
+use lib.ListN.{get_or}
 use mir.Syntax.{w64}
 use mir.ValLaws.{to_z-of_z}
-use Rattle.c_rows.specs.Laws.Row.{row_short, Stored, stored_none, stored_more, stored_all}
+use Rattle.c_rows.specs.Laws.Row.{row_short, stored_none, stored_more, stored_all}
 use Rattle.c_rows.proofs.signed.fill.Goals as goal
 
 pub returns-then-row-numbers : goal.returns-then-row-numbers

@@ -4,7 +4,6 @@ use Rattle.format.specs.Message.{accepts}
 use Rattle.format.specs.Laws.Answers.{good_read, refused_told}
 use Rattle.ais.specs.Slots.{slots_for, out_of}
 use Rattle.ais.specs.declared.slot_count.Needed.TheVariants.{Slots, Refused}
-use borrow.Author.Rules.{rules}
 use Rattle.c_rows.proofs.slots.slots.Goals as goal
 
 pub returns-in-Slots : goal.returns-in-Slots

@@ -4,7 +4,6 @@ use Rattle.format.specs.Message.{accepts}
 use Rattle.format.specs.Laws.Answers.{good_read, refused_told}
 use Rattle.tide.specs.HeightsPromises.{counted, out_of}
 use Rattle.tide.specs.declared.heights.Answer.TheVariants.{Good, Refused}
-use borrow.Author.Rules.{rules}
 use Rattle.c_rows.proofs.tides.heights.Goals as goal
 
 pub returns-in-Good : goal.returns-in-Good

@@ -2,7 +2,6 @@
 use mathlib.Core.Path.{subst}
 use Rattle.tide.specs.Promises.{Reads}
 use Rattle.c_rows.specs.Laws.Tide.{tells_good, tells_bad}
-use borrow.Author.Rules.{rules}
 use Rattle.c_rows.proofs.tides.read.Goals as goal
 
 pub returns-in-Good : goal.returns-in-Good

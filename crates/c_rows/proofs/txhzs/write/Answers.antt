@@ -2,8 +2,6 @@
 use mathlib.Core.Path.{refl}
 use lib.ListN.{length}
 use borrow.Author.Tests.{eq-eqb, ne_eqb}
-use Rattle.txhz.specs.Txhz.{txhzs}
-use borrow.Author.Rules.{rules}
 use Rattle.c_rows.proofs.txhzs.write.Goals as goal
 
 pub returns-then-receipts-ne-RECEIPTS : goal.returns-then-receipts-ne-RECEIPTS

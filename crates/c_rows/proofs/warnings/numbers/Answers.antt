@@ -1,6 +1,5 @@
 -- `numbers` gives the record's fields, with its body's kind and numbers as the calls give them.
 use Rattle.c_rows.specs.Warning.{row_with}
-use borrow.Author.Rules.{rules}
 use Rattle.c_rows.proofs.warnings.numbers.Goals as goal
 
 pub returns : goal.returns

@@ -1,7 +1,6 @@
 -- `of_body` goes by the body's variant.
 use mathlib.Core.Path.{sym, ap, ◌∙◌}
 use Rattle.c_rows.specs.Warning.{seven_of}
-use borrow.Author.Rules.{rules}
 use Rattle.c_rows.proofs.warnings.of_body.Goals as goal
 
 pub returns-in-Cyclone : goal.returns-in-Cyclone

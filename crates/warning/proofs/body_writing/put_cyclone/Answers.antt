@@ -1,18 +1,7 @@
 -- `put_cyclone` puts the body's values in bit order: one step a field. Printed by tools/bodies.
-use mathlib.Core.Path.{◌≡◌}
-use native.Mathlib.Omega.{arith}
 use lib.Dec.{lit≤}
-use lib.ListN.{length}
 use Rattle.format.proofs.Laws.Putting.{put_step}
-use Rattle.warning.proofs.body_writing.put_cyclone.Goals.{After-put-4}
 use Rattle.warning.proofs.body_writing.put_cyclone.Goals as goal
-
--- the first 4 puts leave as many bytes
-half : (p : After-put-4) → length p.put-4.new.s ≡ length p.args.buf.now
-half p = omega arith
-
-pub shape_of-buf : goal.shape_of-buf
-shape_of-buf c = let h = half (goal.at.shape_of-buf c).After-put-4 in omega arith
 
 pub returns : goal.returns
 returns c =
