@@ -44,7 +44,7 @@ pub returns : goal.returns
 returns c = let a = c.args in
     let s = a.s.now in
     let n = c.fields-f.result.notice.count in
-    let good = walked_good a.english 0 s c.fields-f.result c.fields-f.ensures c.if-code-ne0.false in
+    let good = walked_good a.english 0 s c.fields-f.result c.fields-f.ensures (c.if-code-ne0.false) in
     let points = ap (λ (e : Extent). e.points) c.measure-extent.ensures in
     let drawn = outline_stands s n front in
     let room : length (outline_of n (areas_at s n front)) ≤ length a.row.now = omega (arith, points, ap length drawn, outline_at_long s n front, c.if-row-points.false) in

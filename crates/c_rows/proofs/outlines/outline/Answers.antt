@@ -23,4 +23,4 @@ returns-in-Refused c =
     let a = c.args in
     let e = c.outline-answer.ensures in
     let (code, points) = refused_told Good Refused out_of (λ q. refl) (λ c. refl) (counted (eqb a.language 1) a.s.now a.row.now) a.points.now (sym c.in-Refused.is ∙ e.0) in
-    rw (le-leb a.language 1 c.if-language-gt1.false) (code, e.1, points)
+    rw (le-leb a.language 1 (c.if-language-gt1.false)) (code, e.1, points)

@@ -76,7 +76,7 @@ returns-then-i-lt-PLACES c =
     let (long, is, fit) = good m in
     let zero = passed (goal.at.returns-then-i-lt-PLACES c).After-content-1 in
     let number = c.open_at-i.ensures in
-    let low : c.open_at-i.result < four_places = c.if-i-lt-PLACES.true in
+    let low : c.open_at-i.result < four_places = (c.if-i-lt-PLACES.true) in
     let there = c.place_at.ensures ∙ ap (place_at (a.a ∷ a.b ∷ a.c ∷ a.d ∷ [])) (last_of_four c.open_at-i.result low ∙ number) in
     let gives = subst₂ (λ i p. Gives a.a (joins a.store.now i p r (content m)) c.join.result c.join.new.store) number there c.join.ensures in
     of_four a.a a.b a.c a.d a.store.now a.packet.now _ _ _ (joins_open a.a a.b a.c a.d a.store.now a.packet.now r (content m) is zero (subst (◌< four_places) number low)) gives
