@@ -30,10 +30,6 @@ good : (m : In-Good) → let r = m.in-Good.r in (4 ≤ length (bytes m)) × (rea
 good m =
     read_good (bytes m) m.in-Good.r (λ i. (m.shared_slice_known-1.given i).fits) (sym m.in-Good.is ∙ m.read-answer.ensures)
 
--- and where the first tests passed
-passed : (k : After-content-1) → let a = k.args in first_tests (a.a ∷ a.b ∷ a.c ∷ a.d ∷ []) a.store.now ≡ 0
-passed k = sym k.first_tests-code.ensures ∙ k.if-code-ne0.false
-
 -- ---- the needs
 pub returns-then-code-ne0 : goal.returns-then-code-ne0
 returns-then-code-ne0 c =
@@ -58,7 +54,7 @@ join-requires c =
     let a = c.args in
     let r = c.in-Good.r in
     let (long, is, fit) = good m in
-    let zero = passed (goal.at.join-requires c).After-content-1 in
+    let zero = let k = (goal.at.join-requires c).After-content-1 in sym k.first_tests-code.ensures ∙ k.if-code-ne0.false in
     let number = c.open_at-i.ensures in
     let (deep, good) = tests_passed (a.a ∷ a.b ∷ a.c ∷ a.d ∷ []) a.store.now zero in
     let low : c.open_at-i.result < four_places = c.if-i-lt-PLACES.true in
@@ -74,7 +70,7 @@ returns-then-i-lt-PLACES c =
     let a = c.args in
     let r = c.in-Good.r in
     let (long, is, fit) = good m in
-    let zero = passed (goal.at.returns-then-i-lt-PLACES c).After-content-1 in
+    let zero = let k = (goal.at.returns-then-i-lt-PLACES c).After-content-1 in sym k.first_tests-code.ensures ∙ k.if-code-ne0.false in
     let number = c.open_at-i.ensures in
     let low : c.open_at-i.result < four_places = (c.if-i-lt-PLACES.true) in
     let there = c.place_at.ensures ∙ ap (place_at (a.a ∷ a.b ∷ a.c ∷ a.d ∷ [])) (last_of_four c.open_at-i.result low ∙ number) in
@@ -86,7 +82,8 @@ begin-requires c =
     let m = (goal.at.begin-requires c).In-Good in
     let a = c.args in
     let fit = (good m).2 in
-    let (deep, _) = tests_passed (a.a ∷ a.b ∷ a.c ∷ a.d ∷ []) a.store.now (passed (goal.at.begin-requires c).After-content-1) in
+    let zero = let k = (goal.at.begin-requires c).After-content-1 in sym k.first_tests-code.ensures ∙ k.if-code-ne0.false in
+    let (deep, _) = tests_passed (a.a ∷ a.b ∷ a.c ∷ a.d ∷ []) a.store.now zero in
     let own = fit.own in
     let total = fit.total in
     (deep, omega arith, fit.few)
@@ -97,7 +94,7 @@ returns-else-i-lt-PLACES c =
     let a = c.args in
     let r = c.in-Good.r in
     let (long, is, fit) = good m in
-    let zero = passed (goal.at.returns-else-i-lt-PLACES c).After-content-1 in
+    let zero = let k = (goal.at.returns-else-i-lt-PLACES c).After-content-1 in sym k.first_tests-code.ensures ∙ k.if-code-ne0.false in
     let number = c.open_at-i.ensures in
     let gives = subst (λ i. Gives a.a (opens a.store.now i r (content m)) c.begin.result c.begin.new.store) c.free_at-free.ensures c.begin.ensures in
     of_four a.a a.b a.c a.d a.store.now a.packet.now _ _ _ (opens_free a.a a.b a.c a.d a.store.now a.packet.now r (content m) is zero (subst (four_places ≤◌) number c.if-i-lt-PLACES.false)) gives
