@@ -1,10 +1,11 @@
 """The wrong builds of the crates' must-fail edits, for the tools beside this file.
 
 A file crates/CRATE/must-fail/*.edit holds one wrong build or several. Each begins with a line '# NAME: the fact that it
-denies', and replaces texts ('file:', 'old:', 'new:' lines, as `rt must-fail` reads them). Builds that share a file change
+denies', and replaces texts ('file:', 'old:', 'new:' lines, as `rt ci` reads them). Builds that share a file change
 the bodies of functions of their own: a proof sees of another function its contract alone, so that the prover says of each
 what it would say of it by itself, and one check of the crate tries them all. Where a build changes a condition that a goal
-is named after, it changes the name in that function's proof too: so it is the goal that is refused, and not the name.
+is named after, it changes the name in that function's proof too, unless another of its goals is refused anyway: so it is a
+goal that is refused, and not a name.
 """
 import glob
 import os
