@@ -1,6 +1,16 @@
 #!/usr/bin/env python3
-"""Turns a crate's Proof.antt files into Invariants.antt and Answers.antt: conv.py CRATE_FOLDER NAMES_JSON [FUNCTION_PATH..]"""
-import json, os, re, sys
+"""Turns a crate's proofs that walk the code by hand, Proof.antt, into Invariants.antt and Answers.antt.
+
+    tools/answers.py CRATE_FOLDER NAMES_JSON [FUNCTION..]     # FUNCTION as its folder below proofs/, with dots: reading.fields
+
+NAMES_JSON is the names.json that `rt check --generated FOLDER --old-names` writes in the crate's folder: of each goal and
+each step of the code its older name and today's. Answers that today's search finds are left out; what it could not turn it
+prints. It served the move to today's Rattle (docs/PORT.md).
+"""
+import json
+import os
+import re
+import sys
 
 WORD = r"[^\s(){}.;,@\"«»\[\]|]+"
 PATH = re.compile(rf"(?<![^\s(){{}};,@\"\[\]|])(?:«[^»]*»|{WORD})(?:\.(?:«[^»]*»|{WORD}))+")
