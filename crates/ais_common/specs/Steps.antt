@@ -3,7 +3,7 @@ use Rattle.std.specs.Prelude.{ℕ, List, []}
 use Rattle.bits.specs.Answers.{got}
 use Rattle.walk.specs.Pieces.{piecewise}
 use Rattle.walk.specs.Reading.{group_judged}
-use Rattle.walk.specs.declared.walk.Walk.{Walk}
+use Rattle.walk.specs.Walk.{Walk}
 use Rattle.ais_common.specs.Time.{date_parts, time_parts}
 
 abbrev pub time_judged : ℕ → Walk → Walk

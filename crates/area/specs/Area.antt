@@ -6,7 +6,7 @@ use Rattle.format.specs.Fmt.{Out, accepted, Fmt, end, choice}
 use Rattle.format.specs.Message.{Layout}
 use Rattle.format.specs.Promises.{answered, refused_by}
 use Rattle.format.specs.Refusals.{bare}
-use Rattle.format.specs.declared.Refusal.{Refusal}
+use Rattle.format.specs.Refusals.{Verdict}
 use Rattle.format.specs.Words.{◌‥◌, only, ◌▹◌, num, code, fill}
 use Rattle.ais_common.specs.Time.{time, short_time, spell_time, time_of, spell_short, short_of}
 use Rattle.area.specs.Shapes.{kind_of, type_of, shape, shape_kind, shape_values, shape_of}
@@ -85,6 +85,6 @@ abbrev pub out_of : Answer → Out Area
 out_of (Good r) = accepted r
 out_of (Refused c) = refused_by c
 
-abbrev pub refusal_of : Answer → Refusal
+abbrev pub refusal_of : Answer → Verdict
 refusal_of (Good r) = bare 0
 refusal_of (Refused c) = c

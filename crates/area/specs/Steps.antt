@@ -7,7 +7,7 @@ use Rattle.format.specs.Laws.Putting.{Putting}
 use Rattle.walk.specs.Reading.{signedly}
 use Rattle.walk.specs.Laws.Judging.{Judging}
 use Rattle.walk.specs.Laws.Step.{Reading}
-use Rattle.walk.specs.declared.walk.Walk.{Walk}
+use Rattle.walk.specs.Walk.{Walk}
 use Rattle.area.specs.Shapes.{Kind, kind_of, type_of, point, shape, spell_east, spell_north, shape_kind, shape_values}
 use Rattle.area.specs.Area.{tail, area}
 use Rattle.area.specs.declared.reading.Opened.{Opened}

@@ -3,7 +3,7 @@ use Rattle.std.specs.Prelude.{ℕ, ◌≡◌, cond, List, [], ◌∷◌, ◌++�
 use Rattle.format.specs.Fmt.{Out, accepted, or_bad, check, after}
 use Rattle.format.specs.Message.{told, ahead}
 use Rattle.format.specs.Refusals.{bare}
-use Rattle.format.specs.declared.Refusal.{Refusal}
+use Rattle.format.specs.Refusals.{Verdict}
 use Rattle.format.specs.Promises.{read_record, answered}
 use Rattle.c_rows.specs.Language.{spoken}
 use Rattle.notice.specs.Notice.{ours, notices}
@@ -53,7 +53,7 @@ abbrev pub roomy : ℕ → Out Whole → Out Whole
 roomy row o = after o (λ x. check (or_bad (leb 10 row) 6) 0 (accepted x))
 
 -- a refusal, or else that of a row too short
-abbrev pub unroomed : Refusal → Refusal
+abbrev pub unroomed : Verdict → Verdict
 unroomed own = cond (eqb own.code 0) (bare 6) own
 
 -- the reading of the bytes s, for a row, areas and a text of these lengths
@@ -61,7 +61,7 @@ abbrev pub reading : ℕ → List ℕ → (row areas text : ℕ) → Out Whole
 reading language s row areas text = spoken language (λ english. roomy row (housed areas text (read_record (notices (ours english)) whole_of s)))
 
 -- an answer's refusal, and what it leaves of the row, the areas and the text
-abbrev pub Lent : Out Whole → List ℤ → List ℕ → List ℕ → Refusal → List ℤ → List ℕ → List ℕ → Type 0
+abbrev pub Lent : Out Whole → List ℤ → List ℕ → List ℕ → Verdict → List ℤ → List ℕ → List ℕ → Type 0
 Lent o row areas text code row' areas' text' =
     (code ≡ told o)
     × (row' ≡ answered (λ x. row_of (told_of x) ++ drop 10 row) (λ c. row) o)
@@ -69,5 +69,5 @@ Lent o row areas text code row' areas' text' =
     × (text' ≡ answered (λ x. ahead x.1.1 text) (λ c. text) o)
 
 -- what the reading call promises
-abbrev pub NoticeFills : ℕ → List ℕ → List ℤ → List ℕ → List ℕ → Refusal → List ℤ → List ℕ → List ℕ → Type 0
+abbrev pub NoticeFills : ℕ → List ℕ → List ℤ → List ℕ → List ℕ → Verdict → List ℤ → List ℕ → List ℕ → Type 0
 NoticeFills language s row areas text = Lent (reading language s (length row) (length areas) (length text)) row areas text

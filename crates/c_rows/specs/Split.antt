@@ -2,7 +2,7 @@
 use Rattle.std.specs.Prelude.{ℕ, List, ◌≡◌}
 use Rattle.format.specs.Fmt.{Out}
 use Rattle.format.specs.Message.{told, leaves}
-use Rattle.format.specs.declared.Refusal.{Refusal}
+use Rattle.format.specs.Refusals.{Verdict}
 use Rattle.c_rows.specs.Language.{spoken}
 use Rattle.packet.specs.SplittingPromises.{splitting}
 
@@ -10,5 +10,5 @@ abbrev pub splitting_in : List ℕ → List ℕ → ℕ → ℕ → ℕ → Out 
 splitting_in s c language number k = spoken language (λ english. splitting s c english number k)
 
 -- the refusal, and t left of s
-abbrev pub SplitsIn : List ℕ → List ℕ → ℕ → ℕ → ℕ → Refusal → List ℕ → Type 0
+abbrev pub SplitsIn : List ℕ → List ℕ → ℕ → ℕ → ℕ → Verdict → List ℕ → Type 0
 SplitsIn s c language number k code t = (code ≡ told (splitting_in s c language number k)) × (t ≡ leaves (splitting_in s c language number k) s)

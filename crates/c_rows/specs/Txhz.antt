@@ -3,7 +3,7 @@ use Rattle.std.specs.Prelude.{ℕ, ◌+◌, ◌≡◌, List, [], ◌∷◌, eqb,
 use Rattle.c_rows.specs.Row.{entries}
 use Rattle.format.specs.Fmt.{Out, or_bad, check, also}
 use Rattle.format.specs.Message.{told, leaves, into, write_message}
-use Rattle.format.specs.declared.Refusal.{Refusal}
+use Rattle.format.specs.Refusals.{Verdict}
 use Rattle.format.specs.Promises.{read_record}
 use Rattle.txhz.specs.Txhz.{txhzs, values_of, record_of as framed}
 use Rattle.txhz.specs.declared.reading.Receipt.{Receipt}
@@ -43,5 +43,5 @@ abbrev pub txhz_into : List ℕ → List ℕ → ℕ → ℕ → ℕ → Out (Li
 txhz_into s b address receiver count = check (or_bad (eqb (length b) 20) 1) 0 (into s (write_message txhzs (values_of (record_of address receiver count b))))
 
 -- what the writing call promises: its refusal, and the buffer t that it leaves
-abbrev pub TxhzWrites : List ℕ → List ℕ → ℕ → ℕ → ℕ → Refusal → List ℕ → Type 0
+abbrev pub TxhzWrites : List ℕ → List ℕ → ℕ → ℕ → ℕ → Verdict → List ℕ → Type 0
 TxhzWrites s b address receiver count code t = (code ≡ told (txhz_into s b address receiver count)) × (t ≡ leaves (txhz_into s b address receiver count) s)

@@ -1,7 +1,7 @@
 -- What the calls promise that only `rust/trial` links: the desk over a lent row of places, and the content of a message in lent bytes. Assumes nothing.
 use Rattle.std.specs.Prelude.{◌≡◌, cond, List, [], ℕ, ltb, length, set, get_or}
 use Rattle.format.specs.Promises.{answered, read_record}
-use Rattle.format.specs.declared.Refusal.{Refusal}
+use Rattle.format.specs.Refusals.{Verdict}
 use Rattle.packet.specs.Packet.{packets, record_of as packet_of}
 use Rattle.places.specs.Desk.{refusal_of, applied, accepting, asking, dropping, laid_within}
 use Rattle.places.specs.declared.Place.{Place}
@@ -20,15 +20,15 @@ noted a xs = set (set (set xs 0 (again_of a (get_or xs 0 0))) 1 (count_of a (get
 abbrev pub noted_within : Reply → List ℕ → List ℕ
 noted_within a xs = cond (ltb (length xs) 3) xs (noted a xs)
 
-abbrev pub AcceptsRow : List ℕ → List Place → List ℕ → List ℕ → Refusal → List ℕ → List Place → List ℕ → Type 0
+abbrev pub AcceptsRow : List ℕ → List Place → List ℕ → List ℕ → Verdict → List ℕ → List Place → List ℕ → Type 0
 AcceptsRow xs ps s m refusal ys qs t = let o = accepting ps s m in (refusal ≡ refusal_of o.reply) × (ys ≡ noted_within o.reply xs) × (qs ≡ applied ps o.change) × (t ≡ o.store)
 
-abbrev pub AsksRow : List ℕ → List Place → List ℕ → ℕ → List ℕ → List ℕ → Refusal → List ℕ → List Place → List ℕ → List ℕ → Type 0
+abbrev pub AsksRow : List ℕ → List Place → List ℕ → ℕ → List ℕ → List ℕ → Verdict → List ℕ → List Place → List ℕ → List ℕ → Type 0
 AsksRow xs ps s n b w refusal ys qs c v =
     let o = asking ps s n b w in
     (refusal ≡ refusal_of o.reply) × (ys ≡ noted_within o.reply xs) × (qs ≡ applied ps o.change) × (c ≡ o.notice) × (v ≡ o.missing)
 
-abbrev pub DropsRow : List ℕ → List Place → List ℕ → ℕ → Refusal → List ℕ → List Place → Type 0
+abbrev pub DropsRow : List ℕ → List Place → List ℕ → ℕ → Verdict → List ℕ → List Place → Type 0
 DropsRow xs ps s n refusal ys qs = let o = dropping ps s n in (refusal ≡ refusal_of o.reply) × (ys ≡ noted_within o.reply xs) × (qs ≡ applied ps o.change)
 
 -- ---- the content of a message s; none where it is refused

@@ -3,11 +3,11 @@ use Rattle.std.proofs.Common.{◌^◌, ◌<◌, List}
 use mir.Val.{Val}
 use denote.Laws.{Is}
 use denote.Struct.Laws.{owed}
-use Rattle.format.specs.declared.Refusal.{Refusal}
+use Rattle.format.specs.Refusals.{Verdict}
 use Rattle.format.specs.contracts.Refusal.{the_type, the_row}
 use Rattle.format.proofs.Refusal.TheLaws.{the_laws}
 
-module _ (r : Refusal) {vs : List Val} (is : Is the_row r vs) where
+module _ (r : Verdict) {vs : List Val} (is : Is the_row r vs) where
   pub code_fits : r.code < 256
   code_fits = (owed the_type the_laws r vs is).0.1
 

@@ -2,7 +2,7 @@
 use Rattle.std.specs.Prelude.{ℕ, cond, List, length, ◌==◌}
 use Rattle.format.specs.Message.{read_message, told}
 use Rattle.format.specs.Refusals.{bare}
-use Rattle.format.specs.declared.Refusal.{Refusal}
+use Rattle.format.specs.Refusals.{Verdict}
 use Rattle.packet.specs.Packet.{packets}
 use Rattle.distress.specs.Report.{reports}
 use Rattle.ais.specs.Ais.{refusal_of as ais_refusal}
@@ -21,7 +21,7 @@ word k =
     unknown)))
 
 -- what reading a body of a kind tells: no refusal, or its number and its bit
-unfoldable pub refusal_of : ℕ → List ℕ → Refusal
+unfoldable pub refusal_of : ℕ → List ℕ → Verdict
 refusal_of k body =
     cond (k == 1) (serial_refusal body)
     (cond (k == 2) (told (read_message packets body))

@@ -1,6 +1,6 @@
 -- The text of a line, in ASCII (paper 01, "Day log listing"). Assumes nothing.
 use Rattle.std.specs.Prelude.{ℕ, zero, suc, ◌+◌, ◌/◌, ◌%◌, cond, List, [], ◌∷◌, ◌++◌, nat_lt}
-use Rattle.format.specs.declared.Refusal.{Refusal}
+use Rattle.format.specs.Refusals.{Verdict}
 
 -- n in decimal, of at most f digits: those of n / 10 where it is 10 or more, then the last
 unfoldable pub digits_by : ℕ → ℕ → List ℕ
@@ -12,6 +12,6 @@ unfoldable pub decimal : ℕ → List ℕ
 decimal n = digits_by (n + 1) n
 
 -- columns: number, word, code, bytes, bit; a space between two, a line feed at the end
-unfoldable pub line : ℕ → List ℕ → Refusal → ℕ → List ℕ
+unfoldable pub line : ℕ → List ℕ → Verdict → ℕ → List ℕ
 line n word refusal bytes =
     decimal n ++ (32 ∷ (word ++ (32 ∷ (decimal refusal.code ++ (32 ∷ (decimal bytes ++ (32 ∷ (decimal refusal.bit ++ (10 ∷ [])))))))))

@@ -9,7 +9,7 @@ use borrow.Author.Tests.{eq-eqb, ne_eqb, lt-ltb, le-ltb}
 use Rattle.format.specs.Fmt.{Out, accepted, refused}
 use Rattle.format.specs.Promises.{answered, read_record}
 use Rattle.format.specs.Refusals.{shown, bare}
-use Rattle.format.specs.declared.Refusal.{Refusal}
+use Rattle.format.specs.Refusals.{Verdict}
 use Rattle.packet.specs.Packet.{packets, record_of, answer_of}
 use Rattle.packet.specs.Promises.{Reads}
 use Rattle.packet.specs.declared.reading.Packet.{Packet}
@@ -34,7 +34,7 @@ module _ (a b c d : Place) (s m : List ℕ) where
   abbrev ps : List Place
   ps = a ∷ b ∷ c ∷ d ∷ []
 
-  pub refused_packet : (x : Refusal) → Reads m (Refused' x) → accepting ps s m ≡ turned_away s x
+  pub refused_packet : (x : Verdict) → Reads m (Refused' x) → accepting ps s m ≡ turned_away s x
   unfolding accepting
   refused_packet x e = go (read_record packets record_of m) e
     where
@@ -64,7 +64,7 @@ too_few_good m r e = go (read_record packets record_of m) e
     go (accepted q) e = refl
     go (refused n p) e = let z : ◌≡◌ {A = ℕ} 0 1 = cc in absurd (omega arith)
 
-pub too_few_refused : (m : List ℕ) (x : Refusal) → Reads m (Refused' x) → Refused x ≡ Refused (unplaced m)
+pub too_few_refused : (m : List ℕ) (x : Verdict) → Reads m (Refused' x) → Refused x ≡ Refused (unplaced m)
 too_few_refused m x e = go (read_record packets record_of m) e
   where
     go : (o : Out (Packet × List ℕ)) → Refused' x ≡ answer_of o → Refused x ≡ Refused (answered (λ x. bare 6) (λ refusal. refusal) o)

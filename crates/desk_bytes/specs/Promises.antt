@@ -1,6 +1,6 @@
 -- What the desk's calls promise where the places are lent bytes bs, and a reply's values go to lent numbers. Assumes nothing.
 use Rattle.std.specs.Prelude.{◌≡◌, List, ℕ}
-use Rattle.format.specs.declared.Refusal.{Refusal}
+use Rattle.format.specs.Refusals.{Verdict}
 use Rattle.places.specs.Desk.{refusal_of, accepting, asking, dropping}
 use Rattle.places.specs.declared.Reply.{Reply}
 use Rattle.places.specs.declared.Reply.TheVariants.{Done, Again, Joined, Missing, Refused}
@@ -33,13 +33,13 @@ language_of (Refused c) x = x
 
 -- ---- the calls
 
-abbrev pub AcceptsIn : List ℕ → List ℕ → List ℕ → ℕ → Refusal → List ℕ → List ℕ → ℕ → Type 0
+abbrev pub AcceptsIn : List ℕ → List ℕ → List ℕ → ℕ → Verdict → List ℕ → List ℕ → ℕ → Type 0
 AcceptsIn bs s m again refusal cs t again' = let o = accepting (row_in bs) s m in (refusal ≡ refusal_of o.reply) × (cs ≡ changed_bytes bs o.change) × (t ≡ o.store) × (again' ≡ again_of o.reply again)
 
-abbrev pub AsksIn : List ℕ → List ℕ → ℕ → List ℕ → List ℕ → ℕ → ℕ → Refusal → List ℕ → List ℕ → List ℕ → ℕ → ℕ → Type 0
+abbrev pub AsksIn : List ℕ → List ℕ → ℕ → List ℕ → List ℕ → ℕ → ℕ → Verdict → List ℕ → List ℕ → List ℕ → ℕ → ℕ → Type 0
 AsksIn bs s n b w count language refusal cs c v count' language' =
     let o = asking (row_in bs) s n b w in
     (refusal ≡ refusal_of o.reply) × (cs ≡ changed_bytes bs o.change) × (c ≡ o.notice) × (v ≡ o.missing) × (count' ≡ count_of o.reply count) × (language' ≡ language_of o.reply language)
 
-abbrev pub DropsIn : List ℕ → List ℕ → ℕ → Refusal → List ℕ → Type 0
+abbrev pub DropsIn : List ℕ → List ℕ → ℕ → Verdict → List ℕ → Type 0
 DropsIn bs s n refusal cs = let o = dropping (row_in bs) s n in (refusal ≡ refusal_of o.reply) × (cs ≡ changed_bytes bs o.change)

@@ -1,6 +1,6 @@
 -- Runs of calls at the desk (paper 01, demand 2) whose places are lent bytes: each call keeps its promise, and is lent what the one before left. Assumes nothing.
 use Rattle.std.specs.Prelude.{◌≡◌, List, [], ◌∷◌, ℕ, ◌≤◌, ◌<◌, length, get_or}
-use Rattle.format.specs.declared.Refusal.{Refusal}
+use Rattle.format.specs.Refusals.{Verdict}
 use Rattle.places.specs.Desk.{store_bytes}
 use Rattle.places.specs.Places.{four_places}
 use Rattle.desk_runs.specs.Runs.{Desk, Call, comes, asks, drops}
@@ -25,11 +25,11 @@ pub record EmptyIn (d : Lent) : Type 0 where
 -- Calls from d on, each with the number of its refusal, the last of them in front: what they leave is e. Whatever numbers are lent to a call besides.
 pub data Run (d : Lent) : List (Call × ℕ) → Lent → Type 0 where
   none : Run d [] d
-  accepts : (h : List (Call × ℕ)) (e : Lent) → Run d h e → (m : List ℕ) (again : ℕ) (code : Refusal) (bs t : List ℕ) (again' : ℕ) → AcceptsIn e.places e.store m again code bs t again'
+  accepts : (h : List (Call × ℕ)) (e : Lent) → Run d h e → (m : List ℕ) (again : ℕ) (code : Verdict) (bs t : List ℕ) (again' : ℕ) → AcceptsIn e.places e.store m again code bs t again'
       → Run d ((comes m, code.code) ∷ h) (record { places = bs; store = t })
-  answers : (h : List (Call × ℕ)) (e : Lent) → Run d h e → (n : ℕ) (b w : List ℕ) (count language : ℕ) (code : Refusal) (bs c v : List ℕ) (count' language' : ℕ) → AsksIn e.places e.store n b w count language code bs c v count' language'
+  answers : (h : List (Call × ℕ)) (e : Lent) → Run d h e → (n : ℕ) (b w : List ℕ) (count language : ℕ) (code : Verdict) (bs c v : List ℕ) (count' language' : ℕ) → AsksIn e.places e.store n b w count language code bs c v count' language'
       → Run d ((asks n b w, code.code) ∷ h) (record { places = bs; store = e.store })
-  gives_up : (h : List (Call × ℕ)) (e : Lent) → Run d h e → (n : ℕ) (code : Refusal) (bs : List ℕ) → DropsIn e.places e.store n code bs → Run d ((drops n, code.code) ∷ h) (record { places = bs; store = e.store })
+  gives_up : (h : List (Call × ℕ)) (e : Lent) → Run d h e → (n : ℕ) (code : Verdict) (bs : List ℕ) → DropsIn e.places e.store n code bs → Run d ((drops n, code.code) ∷ h) (record { places = bs; store = e.store })
 
 -- the calls alone
 unfoldable pub calls_of : List (Call × ℕ) → List Call

@@ -6,7 +6,7 @@ use Rattle.format.specs.Fmt.{Out, accepted, Fmt, end}
 use Rattle.format.specs.Message.{Layout, led, between}
 use Rattle.format.specs.Promises.{answered, refused_by}
 use Rattle.format.specs.Refusals.{bare}
-use Rattle.format.specs.declared.Refusal.{Refusal}
+use Rattle.format.specs.Refusals.{Verdict}
 use Rattle.walk.specs.Sign.{int_of, spell_of}
 use Rattle.format.specs.Words.{◌‥◌, signed, ◌▹◌, num, code, fill}
 use Rattle.format.specs.Laws.Extent.{Plain, span}
@@ -79,7 +79,7 @@ abbrev pub out_of : Answer → Out Report
 out_of (Good r) = accepted r
 out_of (Refused c) = refused_by c
 
-abbrev pub refusal_of : Answer → Refusal
+abbrev pub refusal_of : Answer → Verdict
 refusal_of (Good r) = bare 0
 refusal_of (Refused c) = c
 

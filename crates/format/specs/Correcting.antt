@@ -4,7 +4,7 @@ use Rattle.std.proofs.Common.{ap, ◌∙◌}
 use Rattle.bits.specs.Answers.{got, puttable}
 use Rattle.bits.specs.Bits.{put_at}
 use Rattle.format.specs.Refusals.{shown, bare}
-use Rattle.format.specs.declared.Refusal.{Refusal}
+use Rattle.format.specs.Refusals.{Verdict}
 use Rattle.format.specs.Fmt.{Spot, none, found}
 use Rattle.format.specs.Sealing.{reclosed}
 
@@ -25,7 +25,7 @@ abbrev pub entry_of : ℕ → List ℕ → ℕ → List ℕ → ℕ → ℕ
 entry_of k common first own n = cond (ltb n k) (get_or common n 0) (entry_from first own n)
 
 -- the message's own refusal, 10, then too wide
-abbrev pub admitted : Refusal → ℕ → ℕ → ℕ → Refusal
+abbrev pub admitted : Verdict → ℕ → ℕ → ℕ → Verdict
 admitted own at width v = cond (eqb own.code 0) (cond (eqb width 0) (bare 10) (cond (ltb v (2 ^ width)) (bare 0) (shown 4 at))) own
 
 -- s with the field made v, where both fit
@@ -37,7 +37,7 @@ pub put_in_lem : (s : List ℕ) (at w v : ℕ) {b : Bool} {t : List ℕ} → (b 
 put_in_lem s at w v p = p.1 ∙ ap (λ b. cond b (put_at s at w v) s) p.0
 
 -- A correction to v is begun in s, whose reading told `own`, of the field that has w bits at p: its refusal, the field's offset and width and what it was, and t left of s.
-pub record Begins (s : List ℕ) (own : Refusal) (p w v : ℕ) (refusal : Refusal) (at width old : ℕ) (t : List ℕ) : Type 0 where
+pub record Begins (s : List ℕ) (own : Verdict) (p w v : ℕ) (refusal : Verdict) (at width old : ℕ) (t : List ℕ) : Type 0 where
   pub admits : refusal ≡ admitted own p w v
   pub offset : at ≡ p
   pub wide : width ≡ w
@@ -45,6 +45,6 @@ pub record Begins (s : List ℕ) (own : Refusal) (p w v : ℕ) (refusal : Refusa
   pub puts : t ≡ cond (eqb refusal.code 0) (put_in s p w v) s
 
 -- It is finished in t, whose fields' reading told `again`: its last refusal, and x left of t, with its seal made anew where the layout has one. What is refused is as it was.
-pub record Finishes (seal : Bool) (refusal : Refusal) (at width old : ℕ) (again : Refusal) (t : List ℕ) (last : Refusal) (x : List ℕ) : Type 0 where
+pub record Finishes (seal : Bool) (refusal : Verdict) (at width old : ℕ) (again : Verdict) (t : List ℕ) (last : Verdict) (x : List ℕ) : Type 0 where
   pub answers : last ≡ cond (eqb refusal.code 0) again refusal
   pub leaves : x ≡ cond (eqb refusal.code 0) (cond (eqb again.code 0) (reclosed seal t) (put_in t at width old)) t

@@ -16,6 +16,7 @@ pub mod Offsets
 pub mod Spots
 pub mod Lead
 pub mod Answers
+pub mod Outcomes
 pub mod Putting
 pub mod Sealing
 pub mod Correcting

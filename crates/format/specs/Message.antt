@@ -4,7 +4,7 @@ use Rattle.std.proofs.Common.{sym, ap}
 use Rattle.bits.specs.Bits.{bits_of, bytes_of}
 use Rattle.bits.specs.Xor.{xor_of}
 use Rattle.format.specs.Refusals.{shown, bare}
-use Rattle.format.specs.declared.Refusal.{Refusal}
+use Rattle.format.specs.Refusals.{Verdict}
 use Rattle.format.specs.Fmt.{Out, accepted, refused, Fault, good, bad, or_bad, check, after, Fmt, read, write, found, spot, unless10}
 
 pub record Layout : Type 0 where
@@ -85,7 +85,7 @@ correct_message l s i v = after (read_message l s) (λ vs. unless10 (spot l.fmt 
 -- ---- what a call answers, and what it leaves in a lent buffer
 
 -- no refusal, or what is told of it
-abbrev pub told : {A : Type 0} → Out A → Refusal
+abbrev pub told : {A : Type 0} → Out A → Verdict
 told (accepted a) = bare 0
 told (refused c p) = shown c p
 

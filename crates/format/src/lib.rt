@@ -1,115 +1,90 @@
-// What a message is: specs/ has layouts, reading, writing and correcting by them, and what is proved of every layout. Here are the refusals: their numbers, and the bit of the field at fault.
+// What a message is: specs/ has layouts, reading, writing and correcting by them, and what is proved of every layout. Here are the refusals: their reasons, and the bit of the field at fault.
 #![tactic(auto)]
 
 ghost use Rattle.std.specs.Prelude.{◌≡◌};
-ghost use Rattle.format.specs.Refusals.{placed, shown, bare, packed};
+ghost use Rattle.format.specs.Refusals.{number, placed, seen_refusal, shown, bare, told_of, packed};
 
-// The refusals of paper 01; success is 0.
-pub const SIZE: u8 = 1;
+// Why a call refuses: the reasons of paper 01, in the order of their numbers. Success has none.
+#[derive(Clone, Copy, PartialEq, Eq)]
+pub enum Reason {
+    Size,
+    Kind,
+    Checksum,
+    Range,
+    Fill,
+    Room,
+    Contradicts,
+    Taken,
+    Incomplete,
+    Field,
+    Unknown,
+}
 
-pub const KIND: u8 = 2;
+impl Reason {
+    // Its number in paper 01.
+    pub fn number(self) -> u8
+        ensures { result ≡ number self }
+    {
+        match self {
+            Reason::Size => 1,
+            Reason::Kind => 2,
+            Reason::Checksum => 3,
+            Reason::Range => 4,
+            Reason::Fill => 5,
+            Reason::Room => 6,
+            Reason::Contradicts => 7,
+            Reason::Taken => 8,
+            Reason::Incomplete => 9,
+            Reason::Field => 10,
+            Reason::Unknown => 11,
+        }
+    }
 
-pub const CHECKSUM: u8 = 3;
-
-pub const RANGE: u8 = 4;
-
-pub const FILL: u8 = 5;
-
-pub const ROOM: u8 = 6;
-
-pub const CONTRADICTS: u8 = 7;
-
-pub const TAKEN: u8 = 8;
-
-pub const INCOMPLETE: u8 = 9;
-
-pub const FIELD: u8 = 10;
-
-pub const UNKNOWN: u8 = 11;
+    // Whether refusals for it tell a bit: a field that does not fit, one outside its range, a fill that is not zero.
+    fn tells(self) -> bool
+        ensures { result ≡ placed (number self) }
+    {
+        matches!(self, Reason::Size | Reason::Range | Reason::Fill)
+    }
+}
 
 // Why a call refused, and where: the first bit of the field at fault, counted from the message's start, and 0 where no field gave the
-// refusal. Number 0 is none.
-#[derive(Clone, Copy)]
+// refusal.
+#[derive(Clone, Copy, PartialEq, Eq)]
 pub struct Refusal {
-    pub code: u8,
+    pub reason: Reason,
     pub bit: usize,
 }
 
 impl Refusal {
-    // None: the call succeeded.
-    pub const NONE: Refusal = Refusal { code: 0, bit: 0 };
-
-    // Those that no field gave.
-    pub const SIZE: Refusal = Refusal { code: SIZE, bit: 0 };
-
-    pub const KIND: Refusal = Refusal { code: KIND, bit: 0 };
-
-    pub const RANGE: Refusal = Refusal {
-        code: RANGE,
-        bit: 0,
-    };
-
-    pub const ROOM: Refusal = Refusal { code: ROOM, bit: 0 };
-
-    pub const CONTRADICTS: Refusal = Refusal {
-        code: CONTRADICTS,
-        bit: 0,
-    };
-
-    pub const TAKEN: Refusal = Refusal {
-        code: TAKEN,
-        bit: 0,
-    };
-
-    pub const INCOMPLETE: Refusal = Refusal {
-        code: INCOMPLETE,
-        bit: 0,
-    };
-
-    pub const FIELD: Refusal = Refusal {
-        code: FIELD,
-        bit: 0,
-    };
-
-    pub const UNKNOWN: Refusal = Refusal {
-        code: UNKNOWN,
-        bit: 0,
-    };
-
-    // That of a test before the fields, by its number.
-    pub fn bare(code: u8) -> Refusal
-        ensures { result ≡ bare code }
+    // What is told of a refusal that arose at that bit: reasons 1, 4 and 5 tell it, and no other.
+    pub fn shown(reason: Reason, bit: usize) -> Refusal
+        ensures { seen_refusal result ≡ shown (number reason) bit }
     {
-        Refusal { code, bit: 0 }
-    }
-
-    // What is told of a refusal that arose at that bit: numbers 1, 4 and 5 tell it, and no other.
-    pub fn shown(code: u8, bit: usize) -> Refusal
-        ensures { result ≡ shown code bit }
-    {
-        if tells(code) {
-            return Refusal { code, bit };
+        if reason.tells() {
+            return Refusal { reason, bit };
         }
-        Refusal::bare(code)
-    }
-
-    // Both in one number, as C gets them: the code in the low 8 bits, the bit in the 24 above.
-    pub fn packed(self) -> u32
-        ensures { result ≡ packed self }
-    {
-        self.code as u32 + (self.bit % 16_777_216) as u32 * 256
+        reason.into()
     }
 }
 
-// Whether refusals of that number tell a bit.
-fn tells(code: u8) -> bool
-    ensures { result ≡ placed code }
+// A refusal that no field gave.
+impl From<Reason> for Refusal {
+    ghost from_gives = { λ reason refusal. seen_refusal refusal ≡ bare (number reason) };
+
+    fn from(reason: Reason) -> Refusal {
+        Refusal { reason, bit: 0 }
+    }
+}
+
+// A call's outcome in one number, as C gets it: the reason's number in the low 8 bits, 0 for success, and the bit in the 24 above.
+pub fn packed(outcome: Result<(), Refusal>) -> u32
+    ensures { result ≡ packed (told_of outcome) }
 {
-    if code == SIZE {
-        return true;
+    match outcome {
+        Ok(()) => 0,
+        Err(refusal) => {
+            refusal.reason.number() as u32 + (refusal.bit % 16_777_216) as u32 * 256
+        },
     }
-    if code == RANGE {
-        return true;
-    }
-    code == FILL
 }

@@ -4,7 +4,7 @@ use Rattle.format.specs.Correcting.{put_in}
 use Rattle.walk.specs.Judging.{valued}
 use Rattle.walk.specs.Reading.{ranged}
 use Rattle.walk.specs.Walk.{begun, onward}
-use Rattle.walk.specs.declared.walk.Walk.{Walk}
+use Rattle.walk.specs.Walk.{Walk}
 
 -- read, the length from lo to hi
 abbrev pub headed : List ℕ → ℕ → ℕ → ℕ → Walk

@@ -4,7 +4,7 @@ use Rattle.format.specs.Fmt.{Out}
 use Rattle.format.specs.Message.{ahead}
 use Rattle.format.specs.Promises.{answered, read_record, tested}
 use Rattle.format.specs.Refusals.{bare}
-use Rattle.format.specs.declared.Refusal.{Refusal}
+use Rattle.format.specs.Refusals.{Verdict}
 use Rattle.notice_fields.specs.Terms.{Terms}
 use Rattle.notice.specs.Notice.{notices}
 use Rattle.notice.specs.Record.{Whole, record_of}
@@ -25,7 +25,7 @@ abbrev pub answer_of : Out Whole → Answer
 answer_of = answered (λ x. Good (told_of x)) Refused
 
 -- its refusal
-abbrev pub refusal_of : Answer → Refusal
+abbrev pub refusal_of : Answer → Verdict
 refusal_of (Good r) = bare 0
 refusal_of (Refused c) = c
 

@@ -6,7 +6,7 @@ use Rattle.walk.specs.Faults.{wholly}
 use Rattle.format.specs.Fmt.{Out, read}
 use Rattle.walk.specs.Reading.{ranged, ended}
 use Rattle.walk.specs.Walk.{begun, onward}
-use Rattle.walk.specs.declared.walk.Walk.{Walk}
+use Rattle.walk.specs.Walk.{Walk}
 use Rattle.notice_fields.specs.Steps.{areas_walked}
 use Rattle.notice_fields.specs.PartsSteps.{least_subtype, most_subtype, expiry_read}
 use Rattle.text.specs.Text.{in_language}

@@ -2,7 +2,7 @@
 use Rattle.std.specs.Prelude.{Bool, List, ℕ, leb, length}
 use Rattle.format.specs.Message.{write_message}
 use Rattle.format.specs.Promises.{Lays}
-use Rattle.format.specs.declared.Refusal.{Refusal}
+use Rattle.format.specs.Refusals.{Verdict}
 use Rattle.notice_fields.specs.Row.{areas_long}
 use Rattle.notice_fields.specs.Terms.{Terms}
 use Rattle.notice.specs.Notice.{notices}
@@ -13,5 +13,5 @@ use Rattle.notice.specs.declared.reading.Notice.{Notice}
 abbrev pub enough : Notice → List ℕ → Bool
 enough r areas = leb (areas_long r.count areas) (length areas)
 
-abbrev pub NoticeWrites : Terms → List ℕ → Notice → List ℕ → List ℕ → Refusal → List ℕ → Type 0
+abbrev pub NoticeWrites : Terms → List ℕ → Notice → List ℕ → List ℕ → Verdict → List ℕ → Type 0
 NoticeWrites c s r areas text = Lays (enough r areas) (write_message (notices c) (values_of (r, (areas, text)))) s

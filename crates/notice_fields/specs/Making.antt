@@ -3,7 +3,7 @@ use Rattle.std.specs.Prelude.{ℕ, ◌+◌, false, List, get_or}
 use Rattle.format.specs.Correcting.{put_in}
 use Rattle.walk.specs.Judging.{valued}
 use Rattle.walk.specs.Rows.{JudgeStep, one_judged, then_judged, decided_judged, even_judged, even_step, counted_judged, repeat_judged, PutStep, one_put, then_put, decided_put, even_put, even_put_step, counted_put, repeat_put}
-use Rattle.walk.specs.declared.walk.Walk.{Walk}
+use Rattle.walk.specs.Walk.{Walk}
 use Rattle.notice_fields.specs.Areas.{Kind, sea, circle, several, kind_of}
 use Rattle.notice_fields.specs.Parts.{latitude_bits, longitude_bits, point_bits}
 use Rattle.notice_fields.specs.Standing.{front}

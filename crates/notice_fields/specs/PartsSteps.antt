@@ -2,8 +2,8 @@
 use Rattle.std.specs.Prelude.{ℕ, ◌||◌, cond, List, [], eqb}
 use Rattle.walk.specs.Pieces.{piecewise, unless_zero}
 use Rattle.walk.specs.Reading.{group_read, group_judged}
-use Rattle.walk.specs.declared.pieces.Pieces.{Pieces}
-use Rattle.walk.specs.declared.walk.Walk.{Walk}
+use Rattle.walk.specs.Pieces.{Pieces}
+use Rattle.walk.specs.Walk.{Walk}
 use Rattle.notice_fields.specs.Parts.{moment, angle, latitude_bits, longitude_bits}
 
 -- the subtypes of the type t: from the least to the most

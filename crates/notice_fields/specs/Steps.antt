@@ -2,7 +2,7 @@
 use Rattle.std.specs.Prelude.{ℕ, true, false, List}
 use Rattle.walk.specs.Groups.{Step, single, then_step, unless_refused, repeat_walked, decided_walked}
 use Rattle.walk.specs.Reading.{ranged}
-use Rattle.walk.specs.declared.walk.Walk.{Walk}
+use Rattle.walk.specs.Walk.{Walk}
 use Rattle.notice_fields.specs.PartsSteps.{latitude_read, longitude_read}
 use Rattle.notice_fields.specs.Areas.{Kind, sea, circle, several, kind_of}
 use Rattle.notice_fields.specs.declared.areas.Opened.{Opened}

@@ -5,7 +5,7 @@ use Rattle.format.specs.Fmt.{Out, accepted, Fmt, end, field, bytes}
 use Rattle.format.specs.Message.{Layout, led, between}
 use Rattle.format.specs.Promises.{answered, refused_by}
 use Rattle.format.specs.Refusals.{bare}
-use Rattle.format.specs.declared.Refusal.{Refusal}
+use Rattle.format.specs.Refusals.{Verdict}
 use Rattle.format.specs.Words.{any, ◌‥◌, ◌▹◌, only, kept, num, code, ago}
 use Rattle.packet.specs.declared.reading.Packet.{Packet}
 use Rattle.packet.specs.declared.reading.Answer.{Answer}
@@ -82,6 +82,6 @@ abbrev pub out_of : Answer → Out Packet
 out_of (Good r) = accepted r
 out_of (Refused c) = refused_by c
 
-abbrev pub refusal_of : Answer → Refusal
+abbrev pub refusal_of : Answer → Verdict
 refusal_of (Good r) = bare 0
 refusal_of (Refused c) = c

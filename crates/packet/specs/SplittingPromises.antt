@@ -2,7 +2,7 @@
 use Rattle.std.specs.Prelude.{◌≡◌, ℕ, Bool, List, length, nat_lt}
 use Rattle.format.specs.Fmt.{Out, or_bad, check}
 use Rattle.format.specs.Message.{between, told, leaves, into, write_message}
-use Rattle.format.specs.declared.Refusal.{Refusal}
+use Rattle.format.specs.Refusals.{Verdict}
 use Rattle.packet.specs.Packet.{joined, packets, values_of}
 use Rattle.packet.specs.Splitter.{packet_count, packet_of}
 
@@ -14,5 +14,5 @@ splitting s c english number k =
     (into s (write_message packets (values_of (packet_of english number c k)))))
 
 -- the refusal, and t left of s
-abbrev pub Splits : List ℕ → List ℕ → Bool → ℕ → ℕ → Refusal → List ℕ → Type 0
+abbrev pub Splits : List ℕ → List ℕ → Bool → ℕ → ℕ → Verdict → List ℕ → Type 0
 Splits s c english number k refusal t = (refusal ≡ told (splitting s c english number k)) × (t ≡ leaves (splitting s c english number k) s)

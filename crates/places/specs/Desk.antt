@@ -3,7 +3,7 @@ use Rattle.std.specs.Prelude.{ℕ, zero, suc, ◌+◌, ◌*◌, Bool, true, fals
 use Rattle.format.specs.Message.{ahead}
 use Rattle.format.specs.Promises.{answered, read_record}
 use Rattle.format.specs.Refusals.{bare}
-use Rattle.format.specs.declared.Refusal.{Refusal}
+use Rattle.format.specs.Refusals.{Verdict}
 use Rattle.packet.specs.Packet.{part_bytes_of, joined, packets, record_of}
 use Rattle.packet.specs.declared.reading.Packet.{Packet}
 use Rattle.places.specs.Places.{held, lacks, opened, holding, freed, four_places, place_at, front, good_places, open_at, free_at}
@@ -43,7 +43,7 @@ alike (x ∷ xs) (y ∷ ys) = eqb x y && alike xs ys
 -- ---- answers
 
 -- the refusal of each: none for success, 9 for a list of missing numbers
-abbrev pub refusal_of : Reply → Refusal
+abbrev pub refusal_of : Reply → Verdict
 refusal_of Done = bare 0
 refusal_of Again = bare 0
 refusal_of (Joined n l) = bare 0
@@ -75,7 +75,7 @@ pub record Accepting : Type 0 where
   pub change : Change
   pub store : List ℕ
 
-abbrev pub turned_away : List ℕ → Refusal → Accepting
+abbrev pub turned_away : List ℕ → Verdict → Accepting
 turned_away s refusal = record { reply = Refused refusal; change = stays; store = s }
 
 -- packet r with content c is put into place i, which becomes p: only its bytes change
@@ -106,7 +106,7 @@ accepting ps s m =
     (read_record packets record_of m)
 
 -- what a packet is refused by where the row of places is too short: its own refusal comes first
-abbrev pub unplaced : List ℕ → Refusal
+abbrev pub unplaced : List ℕ → Verdict
 unplaced m = answered (λ x. bare 6) (λ refusal. refusal) (read_record packets record_of m)
 
 -- ---- a notice is asked for, with a buffer b for its bytes and a row w for missing numbers
@@ -127,7 +127,7 @@ pub record Asking : Type 0 where
   pub notice : List ℕ
   pub missing : List ℕ
 
-abbrev pub not_answered : List ℕ → List ℕ → Refusal → Asking
+abbrev pub not_answered : List ℕ → List ℕ → Verdict → Asking
 not_answered b w refusal = record { reply = Refused refusal; change = stays; notice = b; missing = w }
 
 -- the missing numbers ns in front of the row

@@ -2,7 +2,7 @@
 use Rattle.std.specs.Prelude.{ℕ, zero, suc, ◌+◌, ◌-◌, ◌*◌, ◌/◌, ◌%◌, ◌^◌, ◌≤◌, ◌<◌, ◌≡◌, true, cond, List, eqb}
 use Rattle.bits.specs.Answers.{got}
 use Rattle.walk.specs.Groups.{repeat_walked}
-use Rattle.walk.specs.declared.walk.Walk.{Walk}
+use Rattle.walk.specs.Walk.{Walk}
 use Rattle.tide.specs.Row.{entry_bits}
 use Rattle.tide.specs.Steps.{entry_step}
 use Rattle.tide.specs.declared.entries.Run.{Run}

@@ -7,7 +7,7 @@ use Rattle.format.specs.Groups.{repeat, repeat_of, repeat_told}
 use Rattle.format.specs.Message.{told, into, read_message, write_message, correct_message}
 use Rattle.format.specs.Promises.{read_record}
 use Rattle.format.specs.Words.{walk, wide}
-use Rattle.format.specs.declared.Refusal.{Refusal}
+use Rattle.format.specs.Refusals.{Verdict}
 use Rattle.tide.specs.Heights.{heights_of}
 use Rattle.tide.specs.HeightsPromises.{counted, answer_of as heights_answer}
 use Rattle.tide.specs.Limits.{most_numbers, most_heights}
@@ -158,17 +158,17 @@ refusals = (refl, refl, refl, refl, refl, refl, refl)
 -- its entry: next year 38, month 39, day 43, hour 48, minute 53, sign 59, value 60; the fill 70. With a point: position type 21, north or south 22,
 -- degrees 23, longitude 43, mark 65, count 66, the first entry 75, the second 107 with month 108, hour 117, sign 128 and value 129; the fill 139.
 
-abbrev at_bit : (code bit : ℕ) → Refusal
+abbrev at_bit : (code bit : ℕ) → Verdict
 at_bit code bit = record { code = code; bit = bit }
 
 -- what the calls promise to answer: reading into a row of so many numbers, writing into so many zero bytes, correcting, heights
 abbrev read_into : ℕ → List ℕ → Answer
 read_into room s = answer_of (housed room (read_record tides record_of s))
 
-abbrev wrote_into : ℕ → Whole → Refusal
+abbrev wrote_into : ℕ → Whole → Verdict
 wrote_into room x = told (into (cond (enough x.0 x.1) (times room (0 ∷ [])) []) (write_message tides (values_of x)))
 
-abbrev corrected_to : (i v : ℕ) → List ℕ → Refusal
+abbrev corrected_to : (i v : ℕ) → List ℕ → Verdict
 corrected_to i v s = told (correct_message tides s i v)
 
 abbrev heights_into : List ℤ → List ℕ → HeightsAnswer

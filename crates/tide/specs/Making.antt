@@ -3,7 +3,7 @@ use Rattle.std.specs.Prelude.{ℕ, ◌+◌, cond, List, eqb, get_or}
 use Rattle.format.specs.Correcting.{put_in}
 use Rattle.walk.specs.Judging.{valued}
 use Rattle.walk.specs.Rows.{JudgeStep, one_judged, then_judged, decided_judged, even_judged, counted_judged, repeat_judged, PutStep, one_put, then_put, decided_put, even_put, counted_put, repeat_put}
-use Rattle.walk.specs.declared.walk.Walk.{Walk}
+use Rattle.walk.specs.Walk.{Walk}
 use Rattle.notice_fields.specs.Making.{point_judged, point_put}
 use Rattle.notice_fields.specs.Parts.{point_bits}
 use Rattle.notice_fields.specs.PartsSteps.{time_judged}

@@ -1,6 +1,6 @@
 -- Entries of a row that are good as they stand, and the walk behind them. Assumes nothing.
 use Rattle.std.specs.Prelude.{ℕ, ◌+◌, ◌*◌, ◌^◌, ◌≤◌, ◌<◌, false, ◌≡◌, List, get_or}
-use Rattle.walk.specs.declared.walk.Walk.{Walk}
+use Rattle.walk.specs.Walk.{Walk}
 use Rattle.tide.specs.Entries.{Good}
 use Rattle.tide.specs.Row.{some_time}
 

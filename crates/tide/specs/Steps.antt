@@ -5,7 +5,7 @@ use Rattle.format.specs.Fmt.{Out, read}
 use Rattle.walk.specs.Groups.{Step, single, then_step, unless_refused, repeat_walked}
 use Rattle.walk.specs.Reading.{ranged, ended}
 use Rattle.walk.specs.Walk.{begun}
-use Rattle.walk.specs.declared.walk.Walk.{Walk}
+use Rattle.walk.specs.Walk.{Walk}
 use Rattle.notice_fields.specs.PartsSteps.{time_read, latitude_read, longitude_read}
 use Rattle.tide.specs.Tide.{least_of, tides}
 use Rattle.tide.specs.declared.reading.Course.{Course}

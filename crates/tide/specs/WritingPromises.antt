@@ -2,7 +2,7 @@
 use Rattle.std.specs.Prelude.{Bool, List, ℕ, leb, length}
 use Rattle.format.specs.Message.{write_message}
 use Rattle.format.specs.Promises.{Lays}
-use Rattle.format.specs.declared.Refusal.{Refusal}
+use Rattle.format.specs.Refusals.{Verdict}
 use Rattle.tide.specs.Record.{values_of}
 use Rattle.tide.specs.Row.{records_long}
 use Rattle.tide.specs.Tide.{tides}
@@ -12,5 +12,5 @@ use Rattle.tide.specs.declared.reading.Tide.{Tide}
 abbrev pub enough : Tide → List ℕ → Bool
 enough r row = leb (records_long r.count row) (length row)
 
-abbrev pub TideWrites : List ℕ → Tide → List ℕ → Refusal → List ℕ → Type 0
+abbrev pub TideWrites : List ℕ → Tide → List ℕ → Verdict → List ℕ → Type 0
 TideWrites s r row = Lays (enough r row) (write_message tides (values_of (r, row))) s

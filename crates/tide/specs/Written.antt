@@ -4,7 +4,7 @@ use Rattle.bits.specs.Bits.{Bytes}
 use Rattle.format.specs.Fmt.{accepted, write}
 use Rattle.format.specs.Laws.Putting.{Putting, Puts}
 use Rattle.walk.specs.Laws.Judging.{Judged}
-use Rattle.walk.specs.declared.making.Stepped.{Stepped}
+use Rattle.walk.specs.Walk.{Stepped}
 use Rattle.tide.specs.Record.{leading, values_of}
 use Rattle.tide.specs.Row.{records_long}
 use Rattle.tide.specs.Standing.{front}

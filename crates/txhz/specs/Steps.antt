@@ -5,7 +5,7 @@ use Rattle.walk.specs.Faults.{ranging}
 use Rattle.format.specs.Correcting.{put_in}
 use Rattle.walk.specs.Judging.{valued, filled}
 use Rattle.walk.specs.Walk.{onward}
-use Rattle.walk.specs.declared.walk.Walk.{Walk}
+use Rattle.walk.specs.Walk.{Walk}
 use Rattle.txhz.specs.declared.reading.Passed.{Passed}
 use Rattle.txhz.specs.declared.reading.Receipt.{Receipt}
 

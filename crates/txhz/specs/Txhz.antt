@@ -5,7 +5,7 @@ use Rattle.format.specs.Fmt.{Out, accepted, Fmt, end, field}
 use Rattle.format.specs.Message.{Layout}
 use Rattle.format.specs.Promises.{answered, refused_by}
 use Rattle.format.specs.Refusals.{bare}
-use Rattle.format.specs.declared.Refusal.{Refusal}
+use Rattle.format.specs.Refusals.{Verdict}
 use Rattle.format.specs.Words.{◌‥◌, ◌▹◌, only, num, ago}
 use Rattle.txhz.specs.declared.reading.Receipt.{Receipt}
 use Rattle.txhz.specs.declared.reading.Txhz.{Txhz}
@@ -80,7 +80,7 @@ abbrev pub out_of : Answer → Out Txhz
 out_of (Good r) = accepted r
 out_of (Refused c) = refused_by c
 
-abbrev pub refusal_of : Answer → Refusal
+abbrev pub refusal_of : Answer → Verdict
 refusal_of (Good r) = bare 0
 refusal_of (Refused c) = c
 

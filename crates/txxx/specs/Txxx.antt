@@ -6,7 +6,7 @@ use Rattle.format.specs.Fmt.{Out, accepted, Fmt, end, choice, pad}
 use Rattle.format.specs.Message.{Layout}
 use Rattle.format.specs.Promises.{answered, refused_by}
 use Rattle.format.specs.Refusals.{bare}
-use Rattle.format.specs.declared.Refusal.{Refusal}
+use Rattle.format.specs.Refusals.{Verdict}
 use Rattle.format.specs.Words.{Test, ◌‥◌, ◌▹◌, num, twice, content, ago}
 use Rattle.txxx.specs.declared.reading.Txxx.{Txxx}
 use Rattle.txxx.specs.declared.reading.Answer.{Answer}
@@ -92,6 +92,6 @@ abbrev pub out_of : Answer → Out Txxx
 out_of (Good r) = accepted r
 out_of (Refused c) = refused_by c
 
-abbrev pub refusal_of : Answer → Refusal
+abbrev pub refusal_of : Answer → Verdict
 refusal_of (Good r) = bare 0
 refusal_of (Refused c) = c

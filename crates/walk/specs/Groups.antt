@@ -2,7 +2,7 @@
 use Rattle.std.specs.Prelude.{ℕ, zero, suc, ◌+◌, false, cond, List, [], ◌∷◌, ◌++◌, ◌==◌}
 use Rattle.bits.specs.Answers.{got}
 use Rattle.walk.specs.Reading.{ranged}
-use Rattle.walk.specs.declared.walk.Walk.{Walk}
+use Rattle.walk.specs.Walk.{Walk}
 
 -- a step of the walk over an item, and from behind it by `next`
 abbrev pub Step : Type 0

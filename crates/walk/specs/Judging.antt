@@ -2,9 +2,9 @@
 use Rattle.std.specs.Prelude.{ℕ, ◌+◌, ◌/◌, ◌%◌, Bool, true, false, cond, ◌&&◌, ◌||◌, ◌==◌, nat_le, nat_lt}
 use Rattle.format.specs.Message.{between}
 use Rattle.format.specs.Refusals.{shown, bare}
-use Rattle.format.specs.declared.Refusal.{Refusal}
+use Rattle.format.specs.Refusals.{Verdict}
 use Rattle.walk.specs.Walk.{onward}
-use Rattle.walk.specs.declared.walk.Walk.{Walk}
+use Rattle.walk.specs.Walk.{Walk}
 
 -- a record's value
 abbrev pub valued : ℕ → ℕ → ℕ → ℕ → Walk → Walk
@@ -22,7 +22,7 @@ unfoldable pub beyond : ℕ → ℕ → Walk → Walk
 beyond w c r = record {
   at = r.at + w;
   code = cond (r.code == 0) c r.code;
-  offset = cond (r.code == 0) r.at r.offset;
+  offset = cond (r.code == 0) (cond (c == 0) 0 r.at) r.offset;
   v = 0;
   seek = r.seek;
   left = r.left;
@@ -41,9 +41,9 @@ abbrev pub made : Bool → ℕ → ℕ
 made seal at = cond seal (bytes_to at + 1) (bytes_to at)
 
 -- the values' own refusal, the size n that they make (1), room (6)
-abbrev pub verdict : Refusal → ℕ → ℕ → ℕ → ℕ → Refusal
+abbrev pub verdict : Verdict → ℕ → ℕ → ℕ → ℕ → Verdict
 verdict own least most room n = cond (own.code == 0) (cond (between least most n) (cond (nat_le n room) (bare 0) (bare 6)) (bare 1)) own
 
 -- after the walk r
-abbrev pub closing : Bool → ℕ → ℕ → ℕ → Walk → Refusal
+abbrev pub closing : Bool → ℕ → ℕ → ℕ → Walk → Verdict
 closing seal least most room r = verdict (shown r.code r.offset) least most room (made seal r.at)

@@ -2,7 +2,20 @@
 use Rattle.std.specs.Prelude.{ℕ, ◌-◌, ◌*◌, ◌/◌, ◌%◌, ◌^◌, min, Bool, cond, ◌&&◌, List, [], ◌∷◌, length, ◌==◌, nat_eq, nat_le, nat_lt}
 use Rattle.bits.specs.Answers.{got}
 use Rattle.format.specs.Words.{Part, part}
-use Rattle.walk.specs.declared.pieces.Pieces.{Pieces}
+use Rattle.format.specs.Refusals.{code_of}
+use Rattle.walk.specs.declared.pieces.Pieces.{Pieces as Declared}
+
+-- the code's number of parts as the definitions see it: the bits that there are, as a number, and how many they are; how many of them are
+-- not judged yet; the number of the first refusal, 0 for none, and how many bits in the part stands that was judged last
+pub record Pieces : Type 0 where
+  pub v : ℕ
+  pub width : ℕ
+  pub left : ℕ
+  pub code : ℕ
+  pub into : ℕ
+
+abbrev pub parts : Declared → Pieces
+parts g = record { v = g.v; width = g.width; left = g.left; code = code_of g.verdict; into = g.into }
 
 -- v, of w bits: too wide (4), or no part is judged yet
 abbrev pub unpieced : ℕ → ℕ → Pieces

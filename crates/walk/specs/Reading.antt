@@ -3,10 +3,8 @@ use Rattle.std.specs.Prelude.{ℕ, ◌+◌, ◌*◌, ◌%◌, ◌^◌, Bool, tru
 use Rattle.bits.specs.Answers.{within, got}
 use Rattle.format.specs.Fmt.{pad}
 use Rattle.walk.specs.Faults.{ranging, signing, blanking, closes}
-use Rattle.walk.specs.Pieces.{unpieced, lying}
-use Rattle.walk.specs.declared.pieces.Pieces.{Pieces}
-use Rattle.walk.specs.Walk.{onward}
-use Rattle.walk.specs.declared.walk.Walk.{Walk}
+use Rattle.walk.specs.Pieces.{Pieces, unpieced, lying}
+use Rattle.walk.specs.Walk.{Walk, sticks, onward}
 
 abbrev pub ranged : List ℕ → ℕ → Bool → ℕ → ℕ → ℕ → Walk → Walk
 ranged s w free lo hi c r = onward w free (got s r.at w) (ranging s r.at w lo hi c) 0 r
@@ -43,13 +41,13 @@ group_judged w judge v r = grouped w v (judge (unpieced w v)) r
 -- ---- the end
 
 unfoldable pub ended : List ℕ → Walk → Walk
-ended s r = record {
+ended s r = let c = closes s r.at in let x = sticks c (cond (c == 5) 0 (pad r.at)) r in record {
   at = r.at;
-  code = cond (r.code == 0) (closes s r.at) r.code;
-  offset = cond (r.code == 0) ((r.at + cond (closes s r.at == 5) 0 (pad r.at)) % 2 ^ 64) r.offset;
+  code = x.code;
+  offset = x.bit;
   v = 0;
   seek = false;
   left = 0;
-  spot = r.spot;
+  spot = cond r.seek 0 r.spot;
   width = cond r.seek 0 r.width;
 }

@@ -3,8 +3,8 @@ use Rattle.std.specs.Prelude.{ℕ, zero, suc, ◌+◌, ◌*◌, ◌%◌, ◌^◌
 use Rattle.format.specs.Correcting.{put_in}
 use Rattle.walk.specs.Judging.{valued}
 use Rattle.walk.specs.declared.making.Laid.{Laid}
-use Rattle.walk.specs.declared.making.Stepped.{Stepped}
-use Rattle.walk.specs.declared.walk.Walk.{Walk}
+use Rattle.walk.specs.Walk.{Stepped}
+use Rattle.walk.specs.Walk.{Walk}
 
 -- ---- judged
 

@@ -1,7 +1,6 @@
 // One field, a number made of parts, and the walk over fields. No function here has a precondition.
 #![tactic(auto)]
 
-pub mod choosing;
 pub mod faults;
 pub mod judging;
 pub mod making;

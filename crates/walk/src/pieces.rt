@@ -1,10 +1,10 @@
 // A number made of parts.
 ghost use Rattle.std.specs.Prelude.{◌≡◌, ◌-◌, ◌*◌, ◌/◌, ◌%◌, ◌^◌, min, []};
 ghost use Rattle.format.specs.Words.{◌‥◌};
-ghost use Rattle.walk.specs.Pieces.{unpieced, lying, ahead, pieced, unless_zero};
+ghost use Rattle.walk.specs.Pieces.{parts, unpieced, lying, ahead, pieced, unless_zero};
 
-use crate::choosing::{both, choose_code, inside};
-use crate::faults::lies_within;
+use crate::faults::{inside, lies_within, unless_cut};
+use format::Reason;
 
 // A number made of parts, judged one by one from its highest bits down.
 #[derive(Clone, Copy)]
@@ -14,28 +14,28 @@ pub struct Pieces {
     pub width: usize,
     // How many of them are not judged yet.
     pub left: usize,
-    // The first refusal, 0 for none, and how many bits in.
-    pub code: u8,
+    // The first refusal, and how many bits in the part stands that was judged last.
+    pub verdict: Result<(), Reason>,
     pub into: usize,
 }
 
 impl Pieces {
     // A number for a field of w bits.
     pub fn of(w: usize, v: u64) -> Self
-        ensures { result ≡ unpieced w v }
+        ensures { parts result ≡ unpieced w v }
     {
         Pieces {
             v,
             width: w,
             left: w,
-            code: inside(above(v, w), 0, 0, format::RANGE),
+            verdict: inside(above(v, w), 0, 0, Reason::Range),
             into: 0,
         }
     }
 
     // Of a field of w bits at bit `at`, the bits that there are.
     pub fn at(s: &[u8], at: usize, w: u32) -> Self
-        ensures { result ≡ lying s.now at w }
+        ensures { parts result ≡ lying s.now at w }
     {
         let n = bits_there(s.len(), at, w);
         Pieces::of(n, bits::get(s, at, n))
@@ -43,42 +43,38 @@ impl Pieces {
 
     // The next w bits.
     pub fn ahead(self, w: usize) -> u64
-        ensures { result ≡ ahead w self }
+        ensures { result ≡ ahead w (parts self) }
     {
-        below(above(self.v, minus(self.left, w)), w)
+        below(above(self.v, self.left.saturating_sub(w)), w)
     }
 
     // The next part, of w bits, from lo to hi. Behind a refusal nothing is judged.
     pub fn piece(self, w: usize, lo: u64, hi: u64) -> Self
-        ensures { result ≡ pieced w 4 ((lo ‥ hi) []) self }
+        ensures { parts result ≡ pieced w 4 ((lo ‥ hi) []) (parts self) }
     {
-        if self.code != 0 {
+        if self.verdict.is_err() {
             return self;
         }
-        let there = w <= self.left;
         let u = self.ahead(w);
         Pieces {
-            v: self.v,
-            width: self.width,
-            left: minus(self.left, w),
-            code: choose_code(there, inside(u, lo, hi, format::RANGE), format::SIZE),
-            into: minus(self.width, self.left),
+            left: self.left.saturating_sub(w),
+            verdict: unless_cut(w <= self.left, inside(u, lo, hi, Reason::Range)),
+            into: self.width.saturating_sub(self.left),
+            ..self
         }
     }
 
     // w zero bits are good too.
     pub fn or_zero(self, w: usize) -> Self
-        ensures { result ≡ unless_zero w self }
+        ensures { parts result ≡ unless_zero w (parts self) }
     {
-        let whole = self.width == w;
-        let zero = self.v == 0;
-        Pieces {
-            v: self.v,
-            width: self.width,
-            left: self.left,
-            code: choose_code(both(whole, zero), 0, self.code),
-            into: self.into,
+        if self.width == w && self.v == 0 {
+            return Pieces {
+                verdict: Ok(()),
+                ..self
+            };
         }
+        self
     }
 }
 
@@ -110,10 +106,4 @@ fn below(v: u64, n: usize) -> u64
         return v % full;
     }
     v
-}
-
-fn minus(a: usize, b: usize) -> usize
-    ensures { result ≡ a - b }
-{
-    if a < b { 0 } else { a - b }
 }

@@ -1,85 +1,78 @@
 // Reading: each kind of field, from the bytes.
-ghost use Rattle.std.specs.Prelude.{◌≡◌, ◌^◌, ◌<◌, true, false};
+ghost use Rattle.std.specs.Prelude.{◌≡◌, ◌^◌, ◌<◌, true, false, cond};
+ghost use Rattle.format.specs.Refusals.{number, code_of};
 ghost use Rattle.walk.specs.Faults.{wholly};
 ghost use Rattle.walk.specs.Reading.{given, carried, blanked, ranged, signedly, ended};
-ghost use Rattle.walk.specs.Walk.{onward};
+ghost use Rattle.walk.specs.Walk.{seen, at_of, width_of, onward};
 
-use crate::choosing::{choose_code, choose_offset, no_refusal};
-use crate::faults::{clear, closing, lies_within, past, range, signs, whole_bytes};
-use crate::walk::Walk;
+use crate::faults::{clear, closing, lies_within, past, range, signs, unless_cut, whole_bytes};
+use crate::walk::{Spot, Walk};
+use format::Reason;
 
 impl Walk {
-    // A number from lo to hi, else `code`; `free` where it may be corrected.
-    pub fn number(self, s: &[u8], w: usize, free: bool, lo: u64, hi: u64, code: u8) -> Self
-        ensures { (result ≡ ranged s.now w free lo hi code self) × (result.v < 2 ^ w) }
+    // A number from lo to hi, else refused for that reason; `free` where it may be corrected.
+    pub fn number(self, s: &[u8], w: usize, free: bool, lo: u64, hi: u64, reason: Reason) -> Self
+        ensures { (seen result ≡ ranged s.now w free lo hi (number reason) (seen self)) × (result.v < 2 ^ w) }
     {
         let at = self.at;
         self.on(
             w,
             free,
             bits::get(s, at, w),
-            range(s, at, w, lo, hi, code),
+            range(s, at, w, lo, hi, reason),
             0,
         )
     }
 
     // A number from lo to hi.
     pub fn num(self, s: &[u8], w: usize, lo: u64, hi: u64) -> Self
-        ensures { (result ≡ ranged s.now w true lo hi 4 self) × (result.v < 2 ^ w) }
+        ensures { (seen result ≡ ranged s.now w true lo hi 4 (seen self)) × (result.v < 2 ^ w) }
     {
-        self.number(s, w, true, lo, hi, format::RANGE)
+        self.number(s, w, true, lo, hi, Reason::Range)
     }
 
     // A number from lo to hi that decides what follows.
     pub fn decide(self, s: &[u8], w: usize, lo: u64, hi: u64) -> Self
-        ensures { (result ≡ ranged s.now w false lo hi 4 self) × (result.v < 2 ^ w) }
+        ensures { (seen result ≡ ranged s.now w false lo hi 4 (seen self)) × (result.v < 2 ^ w) }
     {
-        self.number(s, w, false, lo, hi, format::RANGE)
+        self.number(s, w, false, lo, hi, Reason::Range)
     }
 
-    // A number that decides what follows and that the caller judged: `fault` is 0, or what is wrong with it.
-    pub fn given(self, s: &[u8], w: usize, fault: u8) -> Self
-        ensures { (result ≡ given s.now w fault self) × (result.v < 2 ^ w) }
+    // A number that decides what follows and that the caller judged.
+    pub fn given(self, s: &[u8], w: usize, judged: Result<(), Reason>) -> Self
+        ensures { (seen result ≡ given s.now w (code_of judged) (seen self)) × (result.v < 2 ^ w) }
     {
         let at = self.at;
         let there = bits::holds(s.len(), at, w);
-        self.on(
-            w,
-            false,
-            bits::get(s, at, w),
-            choose_code(there, fault, format::SIZE),
-            0,
-        )
+        self.on(w, false, bits::get(s, at, w), unless_cut(there, judged), 0)
     }
 
     // Content of w bits, of which no number is made.
     pub fn content(self, s: &[u8], w: u32) -> Self
-        ensures { result ≡ carried s.now w self }
+        ensures { seen result ≡ carried s.now w (seen self) }
     {
         let at = self.at;
-        self.wide(
-            w as usize,
-            choose_code(lies_within(s.len(), at, w), 0, format::SIZE),
-        )
+        let there = lies_within(s.len(), at, w);
+        self.wide(w as usize, unless_cut(there, Ok(())))
     }
 
     // A fixed code.
     pub fn code(self, s: &[u8], w: usize, n: u64) -> Self
-        ensures { result ≡ ranged s.now w false n n 2 self }
+        ensures { seen result ≡ ranged s.now w false n n 2 (seen self) }
     {
-        self.number(s, w, false, n, n, format::KIND)
+        self.number(s, w, false, n, n, Reason::Kind)
     }
 
     // Fill.
     pub fn fill(self, s: &[u8], w: usize) -> Self
-        ensures { result ≡ ranged s.now w false 0 0 5 self }
+        ensures { seen result ≡ ranged s.now w false 0 0 5 (seen self) }
     {
-        self.number(s, w, false, 0, 0, format::FILL)
+        self.number(s, w, false, 0, 0, Reason::Fill)
     }
 
     // Fill of up to 64 bits, looked at in two halves.
     pub fn blank(self, s: &[u8], w: u32) -> Self
-        ensures { result ≡ blanked s.now w self }
+        ensures { seen result ≡ blanked s.now w (seen self) }
     {
         let at = self.at;
         self.wide(w as usize, clear(s, at, w))
@@ -87,15 +80,15 @@ impl Walk {
 
     // How many whole bytes are left: no bits.
     pub fn rest(self, s: &[u8]) -> Self
-        ensures { result ≡ onward 0 false (wholly s.now self.at) 0 0 self }
+        ensures { seen result ≡ onward 0 false (wholly s.now self.at) 0 0 (seen self) }
     {
         let at = self.at;
-        self.on(0, false, whole_bytes(s.len(), at), 0, 0)
+        self.on(0, false, whole_bytes(s.len(), at), Ok(()), 0)
     }
 
     // A number of two's complement with the value v: from 0 to `top`, from `bottom` up, or `none`.
     pub fn signed(self, s: &[u8], w: usize, top: u64, bottom: u64, none: u64) -> Self
-        ensures { (result ≡ signedly s.now w top bottom none self) × (result.v < 2 ^ w) }
+        ensures { (seen result ≡ signedly s.now w top bottom none (seen self)) × (result.v < 2 ^ w) }
     {
         let at = self.at;
         self.on(
@@ -109,21 +102,28 @@ impl Walk {
 
     // The end: zero bits up to a whole byte, then nothing.
     pub fn end(self, s: &[u8]) -> Self
-        ensures { result ≡ ended s.now self }
+        ensures { seen result ≡ ended s.now (seen self) }
     {
         let at = self.at;
-        let clear = no_refusal(self.code);
-        let fault = closing(s, at);
-        let into = past(fault, at);
+        let closed = closing(s, at);
+        let into = past(closed, at);
         Walk {
             at,
-            code: choose_code(clear, fault, self.code),
-            offset: choose_offset(clear, std::num::wrapping_add_usize(at, into), self.offset),
+            verdict: self.judged(closed, into),
             v: 0,
-            seek: false,
-            left: 0,
-            spot: self.spot,
-            width: choose_offset(self.seek, 0, self.width),
+            sought: None,
+            spot: self.spot_found(),
+        }
+    }
+
+    // Where the sought field stood, behind all fields: none where it is still sought.
+    fn spot_found(self) -> Option<Spot>
+        ensures place { at_of result ≡ cond (seen self).seek 0 (at_of self.spot) }
+        ensures width { width_of result ≡ cond (seen self).seek 0 (width_of self.spot) }
+    {
+        match self.sought {
+            Some(_) => None,
+            None => self.spot,
         }
     }
 }

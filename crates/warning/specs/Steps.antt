@@ -5,7 +5,7 @@ use Rattle.format.specs.Fmt.{Out, Fmt}
 use Rattle.format.specs.Laws.Putting.{Putting}
 use Rattle.walk.specs.Laws.Judging.{Judging}
 use Rattle.walk.specs.Laws.Step.{Reading}
-use Rattle.walk.specs.declared.walk.Walk.{Walk}
+use Rattle.walk.specs.Walk.{Walk}
 use Rattle.warning.specs.Bodies.{Kind, kind_of, type_of, body, body_kind, body_values}
 use Rattle.warning.specs.declared.bodies.Body.{Body}
 use Rattle.warning.specs.declared.bodies.Passed.{Passed}

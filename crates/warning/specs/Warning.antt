@@ -7,7 +7,7 @@ use Rattle.format.specs.Fmt.{Out, accepted, Fmt, end, choice}
 use Rattle.format.specs.Message.{Layout}
 use Rattle.format.specs.Promises.{answered, refused_by}
 use Rattle.format.specs.Refusals.{bare}
-use Rattle.format.specs.declared.Refusal.{Refusal}
+use Rattle.format.specs.Refusals.{Verdict}
 use Rattle.format.specs.Words.{◌‥◌, only, ◌▹◌, num, code, fill}
 use Rattle.ais_common.specs.Time.{time, spell_time, time_of}
 use Rattle.warning.specs.declared.reading.Warning.{Warning}
@@ -102,6 +102,6 @@ abbrev pub out_of : Answer → Out Warning
 out_of (Good r) = accepted r
 out_of (Refused c) = refused_by c
 
-abbrev pub refusal_of : Answer → Refusal
+abbrev pub refusal_of : Answer → Verdict
 refusal_of (Good r) = bare 0
 refusal_of (Refused c) = c

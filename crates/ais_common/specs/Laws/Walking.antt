@@ -15,7 +15,7 @@ use Rattle.walk.specs.Laws.Parts.{step_there}
 use Rattle.walk.specs.Laws.Pieces.{Matches, parts_match, judge_group}
 use Rattle.walk.specs.Laws.Step.{Reading}
 use Rattle.format.specs.Laws.Zero.{Judged, Numbered, Coded, walk_numbered}
-use Rattle.walk.specs.declared.walk.Walk.{Walk}
+use Rattle.walk.specs.Walk.{Walk}
 use Rattle.ais_common.specs.Steps.{time_read, short_read, time_judged, short_judged}
 use Rattle.ais_common.specs.Time.{date_parts, time_parts, time, short_time}
 

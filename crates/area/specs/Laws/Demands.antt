@@ -10,7 +10,7 @@ use Rattle.format.specs.Fmt.{Spot, accepted, end, spot}
 use Rattle.format.specs.Settled.{Settled}
 use Rattle.format.specs.Promises.{read_record, Writes, Corrects}
 use Rattle.format.specs.Refusals.{bare}
-use Rattle.format.specs.declared.Refusal.{Refusal}
+use Rattle.format.specs.Refusals.{Verdict}
 use Rattle.format.specs.Words.{◌‥◌, num, fill, wide}
 use Rattle.format.specs.Laws.Answers.{good_read, answer_plain}
 use Rattle.format.specs.Laws.Entries.{entries}
@@ -171,7 +171,7 @@ unfolding areas
 written_reads s r t w = sym (ap answer_of (written_front family s r t 31 tt w (one_size areas 31 refl refl (values_of r))))
 
 -- What is read is written back as the same bytes.
-pub read_writes_back : (s : List ℕ) (r : Area) → Bytes s → Reads s (Good r) → (u : List ℕ) (code : Refusal) (t : List ℕ) → length s ≤ length u → Writes areas u code t (values_of r)
+pub read_writes_back : (s : List ℕ) (r : Area) → Bytes s → Reads s (Good r) → (u : List ℕ) (code : Verdict) (t : List ℕ) → length s ≤ length u → Writes areas u code t (values_of r)
     → (code ≡ bare 0) × (t ≡ s ++ drop (length s) u)
 read_writes_back s r fine a = read_written family s r fine (good s r a)
 
@@ -191,7 +191,7 @@ looked_stands s n k fine is there r e =
     ap (λ t. spot areas.fmt [] (values_of r) (field_of t n)) (sym shape) ∙ spotted r (field_of k n) ∙ ap (λ t. spot_of t (field_of k n)) (sym kind) ∙ there
 
 -- Demand 3: every correction of an area, by any number and any value.
-pub corrected : (s : List ℕ) (a : Answer) → Bytes s → Reads s a → (n v : ℕ) (code : Refusal) (t : List ℕ) → Corrects areas s (field_of (field_at s 92 2) n) v code t
+pub corrected : (s : List ℕ) (a : Answer) → Bytes s → Reads s a → (n v : ℕ) (code : Verdict) (t : List ℕ) → Corrects areas s (field_of (field_at s 92 2) n) v code t
     → Settled areas spot_by values_of changed_by s (out_of a) n v code t
 corrected s a fine reads n v code t c =
     settled_named family (λ r. spot_of (shape_kind r.shape)) spotted s fine (field_of (field_at s 92 2) n) v code t c named_by n (λ r e. ap (λ k. field_of k n) (shape_number s r fine e))

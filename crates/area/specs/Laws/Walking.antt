@@ -14,7 +14,7 @@ use Rattle.walk.specs.Laws.Judging.{Judging, judge}
 use Rattle.walk.specs.Laws.Reading.{step_signed, got_lt}
 use Rattle.walk.specs.Laws.Sign.{spell_int}
 use Rattle.walk.specs.Laws.Step.{Reading}
-use Rattle.walk.specs.declared.walk.Walk.{Walk}
+use Rattle.walk.specs.Walk.{Walk}
 use Rattle.area.specs.Shapes.{Kind, circle, rectangle, type_of, shape}
 
 -- The code's number x of an angle of w bits, -m to m or none, which the walk q has passed.

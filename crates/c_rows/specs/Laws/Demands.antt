@@ -3,15 +3,15 @@ use Rattle.std.specs.Prelude.{ℕ, ◌≡◌, List, length}
 use Rattle.std.proofs.Common.{sym, ◌∙◌, ap}
 use Rattle.format.specs.Fmt.{Out, accepted, refused, also}
 use Rattle.format.specs.Message.{told, leaves}
-use Rattle.format.specs.declared.Refusal.{Refusal}
+use Rattle.format.specs.Refusals.{Verdict}
 use Rattle.distress.specs.declared.reading.Report.{Report}
 use Rattle.sentence.specs.Sentence.{laid_over}
 use Rattle.c_rows.specs.Sentence.{sentence_into, SentenceWrites}
 
 -- ---- `bellnewt_sentence_write`
 
-module _ (buf : List ℕ) (size address : ℕ) (r : Report) (c : Refusal) (t : List ℕ) (n : ℕ) (w : SentenceWrites buf size address r c t n) where
-  pub one_sentence : (d : Refusal) (u : List ℕ) (m : ℕ) → SentenceWrites buf size address r d u m → (c ≡ d) × (t ≡ u) × (n ≡ m)
+module _ (buf : List ℕ) (size address : ℕ) (r : Report) (c : Verdict) (t : List ℕ) (n : ℕ) (w : SentenceWrites buf size address r c t n) where
+  pub one_sentence : (d : Verdict) (u : List ℕ) (m : ℕ) → SentenceWrites buf size address r d u m → (c ≡ d) × (t ≡ u) × (n ≡ m)
   one_sentence d u m v = (w.0 ∙ sym v.0, w.1 ∙ sym v.1, w.2 ∙ sym v.2)
 
   pub refused_sentence_writing : (c.code ≡ 0 → ⊥) → (t ≡ buf) × (n ≡ size)

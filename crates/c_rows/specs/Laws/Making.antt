@@ -6,7 +6,7 @@ use Rattle.bits.specs.Laws.Answers.{one_answer}
 use Rattle.format.specs.Fmt.{Out, accepted, or_bad, check}
 use Rattle.format.specs.Message.{fault, told, leaves, into, write_message, correct_message}
 use Rattle.format.specs.Refusals.{bare}
-use Rattle.format.specs.declared.Refusal.{Refusal}
+use Rattle.format.specs.Refusals.{Verdict}
 use Rattle.format.specs.Settled.{Stays, SettledBy}
 use Rattle.format.specs.Laws.Settled.{settled_with}
 use Rattle.notice.specs.Changed.{our_spot, changed}
@@ -26,21 +26,21 @@ use Rattle.c_rows.specs.Txhz.{txhz_into, TxhzWrites}
 
 -- ---- two answers that a promise allows are equal
 
-pub one_correction : (language : ℕ) (s : List ℕ) (i v : ℕ) (c d : Refusal) (t u : List ℕ) → CorrectsIn language s i v c t → CorrectsIn language s i v d u → (c ≡ d) × (t ≡ u)
+pub one_correction : (language : ℕ) (s : List ℕ) (i v : ℕ) (c d : Verdict) (t u : List ℕ) → CorrectsIn language s i v c t → CorrectsIn language s i v d u → (c ≡ d) × (t ≡ u)
 one_correction language s i v c d t u = one_answer (λ c. leaves (correcting language s i v) s)
 
-pub one_split : (s content : List ℕ) (language number k : ℕ) (c d : Refusal) (t u : List ℕ) → SplitsIn s content language number k c t → SplitsIn s content language number k d u → (c ≡ d) × (t ≡ u)
+pub one_split : (s content : List ℕ) (language number k : ℕ) (c d : Verdict) (t u : List ℕ) → SplitsIn s content language number k c t → SplitsIn s content language number k d u → (c ≡ d) × (t ≡ u)
 one_split s content language number k c d t u = one_answer (λ c. leaves (splitting_in s content language number k) s)
 
-pub one_txhz : (s b : List ℕ) (address receiver count : ℕ) (c d : Refusal) (t u : List ℕ) → TxhzWrites s b address receiver count c t → TxhzWrites s b address receiver count d u → (c ≡ d) × (t ≡ u)
+pub one_txhz : (s b : List ℕ) (address receiver count : ℕ) (c d : Verdict) (t u : List ℕ) → TxhzWrites s b address receiver count c t → TxhzWrites s b address receiver count d u → (c ≡ d) × (t ≡ u)
 one_txhz s b address receiver count c d t u = one_answer (λ c. leaves (txhz_into s b address receiver count) s)
 
-pub one_writing : (language : ℕ) (s : List ℕ) (r : Notice) (row text : List ℕ) (c d : Refusal) (t u : List ℕ) → WritesIn language s r row text c t → WritesIn language s r row text d u → (c ≡ d) × (t ≡ u)
+pub one_writing : (language : ℕ) (s : List ℕ) (r : Notice) (row text : List ℕ) (c d : Verdict) (t u : List ℕ) → WritesIn language s r row text c t → WritesIn language s r row text d u → (c ≡ d) × (t ≡ u)
 one_writing language s r row text c d t u =
     let o = spoken language (λ english. write_message (notices (ours english)) (values_of (r, (row, text)))) in
     one_answer (λ c. cond (enough r row) (leaves (into s o) s) s)
 
-pub one_notice : (language : ℕ) (s : List ℕ) (row : List ℤ) (areas text : List ℕ) (c d : Refusal) (row₁ row₂ : List ℤ) (areas₁ text₁ areas₂ text₂ : List ℕ)
+pub one_notice : (language : ℕ) (s : List ℕ) (row : List ℤ) (areas text : List ℕ) (c d : Verdict) (row₁ row₂ : List ℤ) (areas₁ text₁ areas₂ text₂ : List ℕ)
     → NoticeFills language s row areas text c row₁ areas₁ text₁ → NoticeFills language s row areas text d row₂ areas₂ text₂ → (c ≡ d) × (row₁ ≡ row₂) × (areas₁ ≡ areas₂) × (text₁ ≡ text₂)
 one_notice language s row areas text c d row₁ row₂ areas₁ text₁ areas₂ text₂ (a, b, e, f) (a', b', e', f') = (a ∙ sym a', b ∙ sym b', e ∙ sym e', f ∙ sym f')
 
@@ -48,8 +48,8 @@ one_notice language s row areas text c d row₁ row₂ areas₁ text₁ areas₂
 
 -- Every correction of a notice whose language is told as a number, by any field number and any value: another language is 4, else it ends as writing in that language does.
 -- Reading answers c and leaves row', areas' and text'; it did not want for room.
-pub corrected : (language : ℕ) (s : List ℕ) (row : List ℤ) (areas text : List ℕ) (c : Refusal) (row' : List ℤ) (areas' text' : List ℕ) → Bytes s → NoticeFills language s row areas text c row' areas' text' → (c.code ≡ 6 → ⊥)
-    → (i v : ℕ) (code : Refusal) (t : List ℕ) → CorrectsIn language s i v code t
+pub corrected : (language : ℕ) (s : List ℕ) (row : List ℤ) (areas text : List ℕ) (c : Verdict) (row' : List ℤ) (areas' text' : List ℕ) → Bytes s → NoticeFills language s row areas text c row' areas' text' → (c.code ≡ 6 → ⊥)
+    → (i v : ℕ) (code : Verdict) (t : List ℕ) → CorrectsIn language s i v code t
     → cond (leb language 1)
     (SettledBy (λ x u d y. let z = changed i v x in WritesIn language u z.0 z.1.0 z.1.1 d y) (λ x. our_spot x i) false s (check (fault c.code) c.bit (accepted (whole_of (told_in_of row') areas' text'))) v code t)
     (Stays (bare 4) s code t)

@@ -5,7 +5,7 @@ use Rattle.std.proofs.lemmas.Bool.{lt-leb}
 use Rattle.format.specs.Fmt.{Out, accepted, refused, or_bad, check, also, after}
 use Rattle.format.specs.Message.{told, read_message, ahead}
 use Rattle.format.specs.Refusals.{shown, bare}
-use Rattle.format.specs.declared.Refusal.{Refusal}
+use Rattle.format.specs.Refusals.{Verdict}
 use Rattle.format.specs.Promises.{read_record, answered}
 use Rattle.format.proofs.Laws.Zero.{read_zero_message}
 use Rattle.c_rows.specs.Row.{Fills}
@@ -19,7 +19,7 @@ use Rattle.notice.specs.declared.reading.Answer.TheVariants.{Good, Refused}
 use Rattle.c_rows.specs.Notice.{row_of, told_in_of, roomy, unroomed, Lent, NoticeFills}
 
 -- a refusal leaves the row, the areas and the text as they were
-pub refused_lent : (o : Out Whole) (row : List ℤ) (areas text : List ℕ) (c : Refusal) (row' : List ℤ) (areas' text' : List ℕ)
+pub refused_lent : (o : Out Whole) (row : List ℤ) (areas text : List ℕ) (c : Verdict) (row' : List ℤ) (areas' text' : List ℕ)
     → Lent o row areas text c row' areas' text' → (c.code ≡ 0 → ⊥) → (row' ≡ row) × (areas' ≡ areas) × (text' ≡ text)
 refused_lent (accepted x) row areas text c row' areas' text' l n = absurd (n (ap (λ r. r.code) l.0))
 refused_lent (refused d p) row areas text c row' areas' text' l n = (l.1, l.2, l.3)
@@ -60,7 +60,7 @@ module _ (language : ℕ) (s : List ℕ) (row : List ℤ) (areas text : List ℕ
     housing = housed (length areas) (length text)
 
     -- what a reading in a language promises
-    fills_in : {c : Refusal} {row' : List ℤ} {areas' text' : List ℕ} → Lent (roomy (length row) (housing (also whole_of found))) row areas text c row' areas' text' → NoticeFills language s row areas text c row' areas' text'
+    fills_in : {c : Verdict} {row' : List ℤ} {areas' text' : List ℕ} → Lent (roomy (length row) (housing (also whole_of found))) row areas text c row' areas' text' → NoticeFills language s row areas text c row' areas' text'
     fills_in x = rw (le-leb language 1 either) x
 
     pub lent_short : length row < 10 → NoticeFills language s row areas text (unroomed (told found)) row areas text
@@ -76,7 +76,7 @@ module _ (language : ℕ) (s : List ℕ) (row : List ℤ) (areas text : List ℕ
             none false = (refl, refl, refl, refl)
 
     module _ {areas' text' : List ℕ} (ten : 10 ≤ length row) where
-      pub lent_good : {r : Told} {c : Refusal} {row' : List ℤ} → Reads (ours (eqb language 1)) s areas text (Good r) areas' text' → Fills (accepted (row_of r)) row c row' → NoticeFills language s row areas text c row' areas' text'
+      pub lent_good : {r : Told} {c : Verdict} {row' : List ℤ} → Reads (ours (eqb language 1)) s areas text (Good r) areas' text' → Fills (accepted (row_of r)) row c row' → NoticeFills language s row areas text c row' areas' text'
       lent_good {r} {c} {row'} (e, a, t) f = fills_in (go (housing (also whole_of found)) e a t)
         where
           go : (o : Out Whole) → Good r ≡ answer_of o → areas' ≡ answered (λ x. ahead x.1.0 areas) (λ c. areas) o → text' ≡ answered (λ x. ahead x.1.1 text) (λ c. text) o
@@ -87,7 +87,7 @@ module _ (language : ℕ) (s : List ℕ) (row : List ℤ) (areas text : List ℕ
               let full = one_filling f (row_full {o = accepted (row_of r)} row {xs = row_of r} refl ten) in
               rw (le-leb 10 (length row) ten) (full.0, full.1 ∙ ap (λ r. row_of r ++ drop 10 row) is, a, t)
 
-      pub lent_bad : {d : Refusal} → Reads (ours (eqb language 1)) s areas text (Refused d) areas' text' → NoticeFills language s row areas text d row areas' text'
+      pub lent_bad : {d : Verdict} → Reads (ours (eqb language 1)) s areas text (Refused d) areas' text' → NoticeFills language s row areas text d row areas' text'
       lent_bad {d} (e, a, t) = fills_in (go (housing (also whole_of found)) e a t)
         where
           go : (o : Out Whole) → Refused d ≡ answer_of o → areas' ≡ answered (λ x. ahead x.1.0 areas) (λ c. areas) o → text' ≡ answered (λ x. ahead x.1.1 text) (λ c. text) o
@@ -96,7 +96,7 @@ module _ (language : ℕ) (s : List ℕ) (row : List ℤ) (areas text : List ℕ
           go (accepted x) e a t = let z : ◌≡◌ {A = ℕ} 0 1 = cc in absurd (omega arith)
 
     -- A reading that did not want for room answers by the notice's own refusal; where that is none, the row tells what was read.
-    pub told_in : {c : Refusal} {row' : List ℤ} {areas' text' : List ℕ} → NoticeFills language s row areas text c row' areas' text' → (c.code ≡ 6 → ⊥)
+    pub told_in : {c : Verdict} {row' : List ℤ} {areas' text' : List ℕ} → NoticeFills language s row areas text c row' areas' text' → (c.code ≡ 6 → ⊥)
         → (c ≡ told found) × (c.code ≡ 0 → Reads (ours (eqb language 1)) s areas text (Good (told_in_of row')) areas' text')
     told_in {c} {row'} {areas'} {text'} fills roomed =
         go found (named (eqb language 1) s) (subst (λ b. Lent (check (or_bad b 4) 0 (roomy (length row) (housing (also whole_of found)))) row areas text c row' areas' text') (le-leb language 1 either) fills)

@@ -4,7 +4,7 @@ use Rattle.std.proofs.Common.{sym, ap, ◌∙◌, arith, length-drop, length-tak
 use Rattle.std.proofs.Math.Path.{subst⁻¹}
 use Rattle.bits.specs.Bits.{Bytes}
 use Rattle.format.specs.Fmt.{accepted, also}
-use Rattle.format.specs.declared.Refusal.{Refusal}
+use Rattle.format.specs.Refusals.{Verdict}
 use Rattle.format.specs.Promises.{read_record}
 use Rattle.format.specs.Laws.Answers.{read_code, bad_refuses}
 use Rattle.packet.specs.Packet.{greatest, packets, record_of, out_of, refusal_of}
@@ -30,7 +30,7 @@ module _ (s : List ℕ) (r : Packet) (reads : Reads s (Good r)) where
       let long : length c ≡ length s - 4 = length-take-le (length s - 4) (drop 4 s) (omega (arith, length-drop 4 s)) in
       ap (also (λ r. entries (row_of r.0 (length r.1)))) (good s r c reads is) ∙ ap (λ n. accepted (entries (row_of r n))) long
 
-pub refused_numbers : (s : List ℕ) (row : List ℤ) (d : Refusal) → Reads s (Refused d) → Fills (numbers_of s) row d row
+pub refused_numbers : (s : List ℕ) (row : List ℤ) (d : Verdict) → Reads s (Refused d) → Fills (numbers_of s) row d row
 refused_numbers s row d e =
     let (p, is, k) = bad_refuses Good Refused out_of (λ q. refl) (λ c. refl) (λ r. r.0) (read_record packets record_of s) e in
     subst⁻¹ (λ d. Fills (numbers_of s) row d row) k (row_refused row (ap (also (λ r. entries (row_of r.0 (length r.1)))) is))

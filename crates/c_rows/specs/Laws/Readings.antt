@@ -2,7 +2,7 @@
 use Rattle.std.specs.Prelude.{ℕ, ◌≡◌, List, ◌∷◌, ℤ, pos, length}
 use Rattle.std.proofs.Common.{sym, ap}
 use Rattle.format.specs.Promises.{read_record}
-use Rattle.format.specs.declared.Refusal.{Refusal}
+use Rattle.format.specs.Refusals.{Verdict}
 use Rattle.format.proofs.Laws.Family.{never_read}
 use Rattle.area.specs.Area.{areas, record_of as area_of}
 use Rattle.area.specs.Laws.Demands.{family as area_family}
@@ -34,7 +34,7 @@ use Rattle.c_rows.specs.Txsq.{row_of as txsq_row, numbers_of as txsq_numbers}
 use Rattle.c_rows.specs.Txxx.{row_of as txxx_row, numbers_of as txxx_numbers}
 use Rattle.c_rows.specs.Warning.{row_of as warning_row, numbers_of as warning_numbers}
 
-module _ (s : List ℕ) (row : List ℤ) (c : Refusal) (t : List ℤ) where
+module _ (s : List ℕ) (row : List ℤ) (c : Verdict) (t : List ℤ) where
   pub zero_report : Fills (report_numbers s) row c t → c.code ≡ 0 → Filled (λ r. report_row r) (read_record reports report_of s) row t
   zero_report = zero_filling (λ r. report_row r) (read_record reports report_of s) (never_read report_family s)
 

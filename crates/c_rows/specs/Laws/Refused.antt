@@ -4,7 +4,7 @@ use Rattle.std.proofs.Common.{sym, ap, ◌∙◌, subst, arith, leb-true, eqb-tr
 use Rattle.format.specs.Fmt.{Out, accepted, refused, or_bad, check, also}
 use Rattle.format.specs.Message.{told, leaves, into, write_message, correct_message, ahead}
 use Rattle.format.specs.Refusals.{bare}
-use Rattle.format.specs.declared.Refusal.{Refusal}
+use Rattle.format.specs.Refusals.{Verdict}
 use Rattle.format.specs.Promises.{answered, read_record, Writes, Corrects, tested, Lays}
 use Rattle.format.specs.Laws.Family.{refused_stands}
 use Rattle.format.proofs.Laws.Family.{never_read}
@@ -45,7 +45,7 @@ pub record Filled {X : Type 0} (g : X → List ℤ) (o : Out X) (row t : List �
   pub room : length (g told) ≤ length row
   pub front : t ≡ g told ++ drop (length (g told)) row
 
-pub zero_filling : {X : Type 0} (g : X → List ℤ) (o : Out X) {row : List ℤ} {c : Refusal} {t : List ℤ} → ((p : ℕ) → o ≡ refused 0 p → ⊥) → Fills (also g o) row c t → c.code ≡ 0 → Filled g o row t
+pub zero_filling : {X : Type 0} (g : X → List ℤ) (o : Out X) {row : List ℤ} {c : Verdict} {t : List ℤ} → ((p : ℕ) → o ≡ refused 0 p → ⊥) → Fills (also g o) row c t → c.code ≡ 0 → Filled g o row t
 zero_filling g (refused d p) never f z = absurd (never p (ap (λ c. refused c p) (ap (λ r. r.code) (sym f.code_is) ∙ z)))
 zero_filling g (accepted x) {row} {c} {t} never f z = go (leb (length (g x)) (length row)) refl f.code_is f.row_is
   where
@@ -63,7 +63,7 @@ spoken_good : {A : Type 0} (language : ℕ) (o : Bool → Out A) → leb languag
 spoken_good language o e = rw e refl
 
 -- where a call's refusal is 4 for another language, and none is told, it is one of both
-spoken_zero : {A : Type 0} (language : ℕ) (o : Bool → Out A) (f : Out A → Refusal) (code : Refusal) → f (refused 4 0) ≡ bare 4 → code ≡ f (spoken language o) → code.code ≡ 0 → leb language 1 ≡ true
+spoken_zero : {A : Type 0} (language : ℕ) (o : Bool → Out A) (f : Out A → Verdict) (code : Verdict) → f (refused 4 0) ≡ bare 4 → code ≡ f (spoken language o) → code.code ≡ 0 → leb language 1 ≡ true
 spoken_zero language o f code four e z = go (leb language 1) e
   where
     go : (b : Bool) → code ≡ f (check (or_bad b 4) 0 (o (eqb language 1))) → b ≡ true
@@ -72,7 +72,7 @@ spoken_zero language o f code four e z = go (leb language 1) e
 
 module _ (language : ℕ) (s : List ℕ) where
   -- correcting
-  module _ (i v : ℕ) (code : Refusal) (t : List ℕ) (e : CorrectsIn language s i v code t) where
+  module _ (i v : ℕ) (code : Verdict) (t : List ℕ) (e : CorrectsIn language s i v code t) where
     pub refused_correcting : (code.code ≡ 0 → ⊥) → t ≡ s
     refused_correcting = refused_stands (correcting language s i v) s t code e.0 e.1
 
@@ -84,7 +84,7 @@ module _ (language : ℕ) (s : List ℕ) where
         (leb-true language 1 l, (e.0 ∙ ap told is, e.1 ∙ ap (λ o. leaves o s) is))
 
   -- splitting
-  module _ (c : List ℕ) (number k : ℕ) (code : Refusal) (t : List ℕ) (e : SplitsIn s c language number k code t) where
+  module _ (c : List ℕ) (number k : ℕ) (code : Verdict) (t : List ℕ) (e : SplitsIn s c language number k code t) where
     pub refused_splitting : (code.code ≡ 0 → ⊥) → t ≡ s
     refused_splitting = refused_stands (splitting_in s c language number k) s t code e.0 e.1
 
@@ -96,7 +96,7 @@ module _ (language : ℕ) (s : List ℕ) where
         (leb-true language 1 l, (e.0 ∙ ap told is, e.1 ∙ ap (λ o. leaves o s) is))
 
   -- writing a notice
-  module _ (r : Notice) (areas text : List ℕ) (code : Refusal) (t : List ℕ) (e : WritesIn language s r areas text code t) where
+  module _ (r : Notice) (areas text : List ℕ) (code : Verdict) (t : List ℕ) (e : WritesIn language s r areas text code t) where
     abbrev written : Bool → Out (List ℕ)
     written english = write_message (notices (ours english)) (notice_values (r, (areas, text)))
 
@@ -109,7 +109,7 @@ module _ (language : ℕ) (s : List ℕ) where
         (leb-true language 1 l, subst (λ o. Lays (enough r areas) o s code t) (spoken_good language written l) e)
 
   -- reading a notice (a refusal: Notice `refused_lent`)
-  module _ (row : List ℤ) (areas text : List ℕ) (code : Refusal) (row' : List ℤ) (areas' text' : List ℕ) (e : NoticeFills language s row areas text code row' areas' text') where
+  module _ (row : List ℤ) (areas text : List ℕ) (code : Verdict) (row' : List ℤ) (areas' text' : List ℕ) (e : NoticeFills language s row areas text code row' areas' text') where
     abbrev found : Bool → Out Whole
     found english = read_record (notices (ours english)) whole_of s
 
@@ -136,7 +136,7 @@ module _ (language : ℕ) (s : List ℕ) where
         )
 
   -- the outline (a refusal: Told `refused_telling`)
-  pub zero_outline : (row : List ℤ) (n : ℕ) (code : Refusal) (t : List ℤ) (m : ℕ) → OutlineTold s language row n code t m → code.code ≡ 0 → (language ≤ 1) × Outlines (eqb language 1) s row (Good m) t
+  pub zero_outline : (row : List ℤ) (n : ℕ) (code : Verdict) (t : List ℤ) (m : ℕ) → OutlineTold s language row n code t m → code.code ≡ 0 → (language ≤ 1) × Outlines (eqb language 1) s row (Good m) t
   zero_outline row n code t m e z =
       let l = spoken_zero language (λ english. counted english s row) told code refl e.0 z in
       let is = spoken_good language (λ english. counted english s row) l in
@@ -162,7 +162,7 @@ never_slots message bytes p e = go (eqb message 6) (eqb message 8) (eqb bytes 0)
     go false true z e = some broadcast z e
     go false false z e = let k : ◌≡◌ {A = ℕ} 2 0 = ap (λ o. (told o).code) e in omega (arith, k)
 
-module _ (message bytes n : ℕ) (code : Refusal) (m : ℕ) (e : SlotsTold message bytes n code m) where
+module _ (message bytes n : ℕ) (code : Verdict) (m : ℕ) (e : SlotsTold message bytes n code m) where
   pub refused_slots : (code.code ≡ 0 → ⊥) → m ≡ n
   refused_slots = refused_stands (slots_for message bytes) n m code e.0 e.1
 
@@ -171,7 +171,7 @@ module _ (message bytes n : ℕ) (code : Refusal) (m : ℕ) (e : SlotsTold messa
 
 -- ---- writing TXHZ and the sentence
 
-module _ (s b : List ℕ) (address receiver count : ℕ) (code : Refusal) (t : List ℕ) (e : TxhzWrites s b address receiver count code t) where
+module _ (s b : List ℕ) (address receiver count : ℕ) (code : Verdict) (t : List ℕ) (e : TxhzWrites s b address receiver count code t) where
   pub refused_txhz_writing : (code.code ≡ 0 → ⊥) → t ≡ s
   refused_txhz_writing = refused_stands (txhz_into s b address receiver count) s t code e.0 e.1
 
@@ -186,7 +186,7 @@ module _ (s b : List ℕ) (address receiver count : ℕ) (code : Refusal) (t : L
       go false q k l = absurd (omega (arith, ap (λ r. r.code) k, z))
 
 -- the sentence (a refusal: Demands `refused_sentence_writing`)
-pub zero_sentence_writing : (buf : List ℕ) (size address : ℕ) (r : Report) (code : Refusal) (t : List ℕ) (n : ℕ) → SentenceWrites buf size address r code t n → code.code ≡ 0
+pub zero_sentence_writing : (buf : List ℕ) (size address : ℕ) (r : Report) (code : Verdict) (t : List ℕ) (n : ℕ) → SentenceWrites buf size address r code t n → code.code ≡ 0
     → (u : List ℕ) × (sentence_into buf address r ≡ accepted u) × (t ≡ u ++ drop (length u) buf) × (n ≡ length u)
 zero_sentence_writing buf size address r code t n e z = go (sentence_into buf address r) refl e.0 e.1 e.2
   where

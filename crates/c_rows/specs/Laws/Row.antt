@@ -7,14 +7,14 @@ use Rattle.std.proofs.lemmas.Bool.{lt-leb}
 use Rattle.format.specs.Fmt.{Out, accepted, refused, also}
 use Rattle.format.specs.Message.{told, into, leaves, refuses, accepts}
 use Rattle.format.specs.Refusals.{shown, bare}
-use Rattle.format.specs.declared.Refusal.{Refusal}
+use Rattle.format.specs.Refusals.{Verdict}
 use Rattle.format.specs.Promises.{answered, refused_by}
 use Rattle.format.specs.Laws.Answers.{good_accepts, bad_refuses}
 use Rattle.format.specs.Laws.Family.{refused_stands}
 use Rattle.c_rows.specs.Row.{Fills}
 
 -- what is answered in a row, said as numbers
-fills : {o : Out (List ℤ)} {row : List ℤ} {c : Refusal} {t : List ℤ} → (c ≡ told (into row o)) × (t ≡ leaves (into row o) row) → Fills o row c t
+fills : {o : Out (List ℤ)} {row : List ℤ} {c : Verdict} {t : List ℤ} → (c ≡ told (into row o)) × (t ≡ leaves (into row o) row) → Fills o row c t
 fills (x, y) = record { code_is = x; row_is = y }
 
 module _ {o : Out (List ℤ)} (row : List ℤ) where
@@ -54,24 +54,24 @@ module _ (row xs : List ℤ) where
 -- ---- what the promise decides
 
 -- two answers that the promise allows are equal
-pub one_filling : {o : Out (List ℤ)} {row : List ℤ} {c d : Refusal} {t u : List ℤ} → Fills o row c t → Fills o row d u → (c ≡ d) × (t ≡ u)
+pub one_filling : {o : Out (List ℤ)} {row : List ℤ} {c d : Verdict} {t u : List ℤ} → Fills o row c t → Fills o row d u → (c ≡ d) × (t ≡ u)
 one_filling f g = (f.code_is ∙ sym g.code_is, f.row_is ∙ sym g.row_is)
 
 -- a refusal leaves the row
-pub refused_filling : {o : Out (List ℤ)} {row : List ℤ} {c : Refusal} {t : List ℤ} → Fills o row c t → (c.code ≡ 0 → ⊥) → t ≡ row
+pub refused_filling : {o : Out (List ℤ)} {row : List ℤ} {c : Verdict} {t : List ℤ} → Fills o row c t → (c.code ≡ 0 → ⊥) → t ≡ row
 refused_filling {o} {row} {c} {t} f = refused_stands (into row o) row t c f.code_is f.row_is
 
 -- ---- a family's reading, from its own type of answer
 
 -- q is what an answer tells of a record r; the code makes `row_of q` of it, and `as_row` the entries of that
-module _ {R Q A N : Type 0} (part : R → Q) (good : Q → A) (bad : Refusal → A) (out_of : A → Out Q) (of-good : (q : Q) → out_of (good q) ≡ accepted q) (of-bad : (c : Refusal) → out_of (bad c) ≡ refused_by c)
+module _ {R Q A N : Type 0} (part : R → Q) (good : Q → A) (bad : Verdict → A) (out_of : A → Out Q) (of-good : (q : Q) → out_of (good q) ≡ accepted q) (of-bad : (c : Verdict) → out_of (bad c) ≡ refused_by c)
     (as_row : N → List ℤ) (row_of : Q → N) (o : Out R) (row : List ℤ) {a : A} (reads : a ≡ answered (λ r. good (part r)) bad o) where
-  pub fills_good : {q : Q} {xs : N} {c : Refusal} {t : List ℤ} → a ≡ good q → xs ≡ row_of q → Fills (accepted (as_row xs)) row c t → Fills (also (λ r. as_row (row_of (part r))) o) row c t
+  pub fills_good : {q : Q} {xs : N} {c : Verdict} {t : List ℤ} → a ≡ good q → xs ≡ row_of q → Fills (accepted (as_row xs)) row c t → Fills (also (λ r. as_row (row_of (part r))) o) row c t
   fills_good {q} {xs} {c} {t} e x f =
       let (r, is, k) = good_accepts good bad out_of of-good of-bad part o (sym e ∙ reads) in
       subst (λ o. Fills o row c t) (ap (λ x. accepted (as_row x)) (x ∙ ap row_of (sym k)) ∙ sym (ap (also (λ r. as_row (row_of (part r)))) is)) f
 
-  pub fills_refused : {c : Refusal} → a ≡ bad c → Fills (also (λ r. as_row (row_of (part r))) o) row c row
+  pub fills_refused : {c : Verdict} → a ≡ bad c → Fills (also (λ r. as_row (row_of (part r))) o) row c row
   fills_refused {c} e =
       let (p, is, k) = bad_refuses good bad out_of of-good of-bad part o (sym e ∙ reads) in
       subst⁻¹ (λ c. Fills (also (λ r. as_row (row_of (part r))) o) row c row) k (row_refused row (ap (also (λ r. as_row (row_of (part r)))) is))

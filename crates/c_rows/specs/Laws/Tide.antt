@@ -5,7 +5,7 @@ use Rattle.bits.specs.Bits.{Bytes}
 use Rattle.format.specs.Fmt.{Out, accepted, refused, check, or_bad, also}
 use Rattle.format.specs.Message.{told, fault, leaves, read_message, ahead}
 use Rattle.format.specs.Refusals.{bare, shown as Refusals·shown}
-use Rattle.format.specs.declared.Refusal.{Refusal}
+use Rattle.format.specs.Refusals.{Verdict}
 use Rattle.format.specs.Promises.{answered, read_record, Corrects}
 use Rattle.format.specs.Settled.{SettledBy}
 use Rattle.format.proofs.Laws.Family.{never_read}
@@ -30,15 +30,15 @@ told_in_of n m = record { tide = record { count = n }; numbers = m }
 
 -- ---- reading
 
-pub one_telling : (s : List ℕ) (n m : ℕ) (row : List ℕ) (c d : Refusal) (n₁ n₂ m₁ m₂ : ℕ) (row₁ row₂ : List ℕ)
+pub one_telling : (s : List ℕ) (n m : ℕ) (row : List ℕ) (c d : Verdict) (n₁ n₂ m₁ m₂ : ℕ) (row₁ row₂ : List ℕ)
     → TideTold s n m row c n₁ m₁ row₁ → TideTold s n m row d n₂ m₂ row₂ → (c ≡ d) × (n₁ ≡ n₂) × (m₁ ≡ m₂) × (row₁ ≡ row₂)
 one_telling s n m row c d n₁ n₂ m₁ m₂ row₁ row₂ x y = (x.0 ∙ sym y.0, x.1 ∙ sym y.1, x.2 ∙ sym y.2, x.3 ∙ sym y.3)
 
-pub refused_telling : (o : Out Whole) (n m : ℕ) (row : List ℕ) (c : Refusal) (n' m' : ℕ) (row' : List ℕ) → Tells o n m row c n' m' row' → (c.code ≡ 0 → ⊥) → (n' ≡ n) × (m' ≡ m) × (row' ≡ row)
+pub refused_telling : (o : Out Whole) (n m : ℕ) (row : List ℕ) (c : Verdict) (n' m' : ℕ) (row' : List ℕ) → Tells o n m row c n' m' row' → (c.code ≡ 0 → ⊥) → (n' ≡ n) × (m' ≡ m) × (row' ≡ row)
 refused_telling (accepted x) n m row c n' m' row' t h = absurd (h (ap (λ r. r.code) t.0))
 refused_telling (refused d p) n m row c n' m' row' t h = (t.1, t.2, t.3)
 
-module _ (s : List ℕ) (n m : ℕ) (row : List ℕ) (c : Refusal) (n' m' : ℕ) (row' : List ℕ) (tells : TideTold s n m row c n' m' row') where
+module _ (s : List ℕ) (n m : ℕ) (row : List ℕ) (c : Verdict) (n' m' : ℕ) (row' : List ℕ) (tells : TideTold s n m row c n' m' row') where
   -- A reading that did not want for room answers by the telegram's own refusal; where that is none, the numbers tell what was read.
   pub told_in : (c.code ≡ 6 → ⊥) → (c ≡ told (read_message tides s)) × (c.code ≡ 0 → Reads s row (Good (told_in_of n' m')) row')
   told_in roomed = go (read_message tides s) (never_read family s) tells
@@ -63,7 +63,7 @@ module _ (s : List ℕ) (n m : ℕ) (row : List ℕ) (c : Refusal) (n' m' : ℕ)
   zero_telling z = (told_in (λ six. omega (arith, z, six))).1 z
 
   -- Demand 3: every correction, by any number and any value, ends as writing the changed record does.
-  pub corrected : Bytes s → (c.code ≡ 6 → ⊥) → (i v : ℕ) (code : Refusal) (t : List ℕ) → Corrects tides s i v code t
+  pub corrected : Bytes s → (c.code ≡ 6 → ⊥) → (i v : ℕ) (code : Verdict) (t : List ℕ) → Corrects tides s i v code t
       → SettledBy (λ x u d y. let z = changed i v x in TideWrites u z.0 z.1 d y) (λ x. spot_of x i) false s (check (fault c.code) c.bit (accepted (whole_of (told_in_of n' m') row'))) v code t
   corrected fine roomed = let (own, reads) = told_in roomed in corrected_tide s row (told_in_of n' m') row' fine c own reads
 
@@ -79,7 +79,7 @@ module _ (s : List ℕ) (n m : ℕ) (row : List ℕ) where
       go (accepted x) e y = let is : r ≡ told_of x = cc in (refl, ap (λ (r : Told). r.tide.count) is, ap (λ (r : Told). r.numbers) is, y)
       go (refused d p) e y = let z : ◌≡◌ {A = ℕ} 0 1 = cc in absurd (omega arith)
 
-  pub tells_bad : {d : Refusal} {row' : List ℕ} → Reads s row (Refused d) row' → TideTold s n m row d n m row'
+  pub tells_bad : {d : Verdict} {row' : List ℕ} → Reads s row (Refused d) row' → TideTold s n m row d n m row'
   tells_bad {d} {row'} (e, y) = go (housed (length row) (read_record tides record_of s)) e y
     where
       go : (o : Out Whole) → Refused d ≡ answer_of o → left row' o → Tells o n m row d n m row'
@@ -88,10 +88,10 @@ module _ (s : List ℕ) (n m : ℕ) (row : List ℕ) where
 
 -- ---- heights
 
-pub one_heights : (s : List ℕ) (row : List ℤ) (n : ℕ) (c d : Refusal) (t u : List ℤ) (m k : ℕ) → HeightsTold s row n c t m → HeightsTold s row n d u k → (c ≡ d) × (t ≡ u) × (m ≡ k)
+pub one_heights : (s : List ℕ) (row : List ℤ) (n : ℕ) (c d : Verdict) (t u : List ℤ) (m k : ℕ) → HeightsTold s row n c t m → HeightsTold s row n d u k → (c ≡ d) × (t ≡ u) × (m ≡ k)
 one_heights s row n c d t u m k x y = (x.0 ∙ sym y.0, x.1 ∙ sym y.1, x.2 ∙ sym y.2)
 
-module _ (s : List ℕ) (row : List ℤ) (n : ℕ) (c : Refusal) (t : List ℤ) (m : ℕ) (tells : HeightsTold s row n c t m) where
+module _ (s : List ℕ) (row : List ℤ) (n : ℕ) (c : Verdict) (t : List ℤ) (m : ℕ) (tells : HeightsTold s row n c t m) where
   pub refused_heights : (c.code ≡ 0 → ⊥) → (t ≡ row) × (m ≡ n)
   refused_heights h = go (shown s row) tells.0 tells.1 tells.2
     where

@@ -5,7 +5,7 @@ use Rattle.bits.specs.Bits.{field_at}
 use Rattle.format.specs.Fmt.{Out, accepted, refused}
 use Rattle.format.specs.Message.{read_message, told}
 use Rattle.format.specs.Refusals.{placed, bare}
-use Rattle.format.specs.declared.Refusal.{Refusal}
+use Rattle.format.specs.Refusals.{Verdict}
 use Rattle.gljc.specs.Gljc.{gljcs, letters as GLJC}
 use Rattle.txsq.specs.Txsq.{txsqs, letters as TXSQ}
 use Rattle.txxx.specs.Txxx.{txxxs, letters as TXXX}
@@ -25,7 +25,7 @@ use Rattle.daylog.specs.Log.{ending_of}
 -- ---- what reading a body tells
 
 -- a number that no field gives has no bit
-record Told (r : Refusal) : Type 0 where
+record Told (r : Verdict) : Type 0 where
   pub none : placed r.code ≡ false → r.bit ≡ 0
 
 told_so : {A : Type 0} (o : Out A) → Told (told o)
@@ -35,7 +35,7 @@ told_so (refused c p) = record { none = λ h. ap (λ b. cond b p 0) h }
 bare_so : (c : ℕ) → Told (bare c)
 bare_so c = record { none = λ h. refl }
 
-either_so : (b : Bool) {x y : Refusal} → Told x → Told y → Told (cond b x y)
+either_so : (b : Bool) {x y : Verdict} → Told x → Told y → Told (cond b x y)
 either_so true x y = x
 either_so false x y = y
 
@@ -83,7 +83,7 @@ EndsIn0 t = (front : List ℕ) × (t ≡ front ++ (0x20 ∷ 0x30 ∷ 0x0a ∷ []
 behind : (x : List ℕ) {t : List ℕ} → EndsIn0 t → EndsIn0 (x ++ t)
 behind x (front, e) = (x ++ front, ap (λ l. x ++ l) e ∙ sym (append_assoc x front (0x20 ∷ 0x30 ∷ 0x0a ∷ [])))
 
-line_ends : (n : ℕ) (w : List ℕ) (refusal : Refusal) (bytes : ℕ) → refusal.bit ≡ 0 → EndsIn0 (line n w refusal bytes)
+line_ends : (n : ℕ) (w : List ℕ) (refusal : Verdict) (bytes : ℕ) → refusal.bit ≡ 0 → EndsIn0 (line n w refusal bytes)
 unfolding line decimal digits_by
 line_ends n w refusal bytes z =
     behind (decimal n)

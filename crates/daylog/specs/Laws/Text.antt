@@ -3,7 +3,7 @@ use Rattle.std.specs.Prelude.{◌≡◌, ℕ, zero, suc, ◌+◌, ◌/◌, ◌%�
 use Rattle.std.proofs.Common.{sym, ap, ◌∙◌, inl, inr, ⊎_elim, pow-suc, add-one, arith, length-append, drop_of_length-le, drop-cons, lt-ltb, le-ltb, ltb-true, ltb-false}
 use Rattle.std.proofs.lemmas.List.Edits.{sets}
 use Rattle.std.proofs.lemmas.List.{set_comm}
-use Rattle.format.specs.declared.Refusal.{Refusal}
+use Rattle.format.specs.Refusals.{Verdict}
 use Rattle.daylog.specs.LinesText.{digits_by, decimal, line}
 
 either : (n m : ℕ) → (n < m) ⊎ (m ≤ n)
@@ -54,16 +54,16 @@ digits_few (suc k) n h =
 
 -- ---- lines
 
-pub line_length : (n : ℕ) (word : List ℕ) (refusal : Refusal) (bytes : ℕ)
+pub line_length : (n : ℕ) (word : List ℕ) (refusal : Verdict) (bytes : ℕ)
     → length (line n word refusal bytes)
     ≡ length (decimal n) + length word + length (decimal refusal.code) + length (decimal bytes) + length (decimal refusal.bit) + 5
 unfolding line
 line_length n word refusal bytes = simp length-append (omega arith)
 
-pub line_some : (n : ℕ) (word : List ℕ) (refusal : Refusal) (bytes : ℕ) → 1 ≤ length (line n word refusal bytes)
+pub line_some : (n : ℕ) (word : List ℕ) (refusal : Verdict) (bytes : ℕ) → 1 ≤ length (line n word refusal bytes)
 line_some n word refusal bytes = omega (arith, line_length n word refusal bytes)
 
-pub line_most : (n : ℕ) (word : List ℕ) (refusal : Refusal) (bytes : ℕ) → n < 2 ^ 64 → refusal.code < 256 → refusal.bit < 2 ^ 64 → bytes < 2 ^ 64
+pub line_most : (n : ℕ) (word : List ℕ) (refusal : Verdict) (bytes : ℕ) → n < 2 ^ 64 → refusal.code < 256 → refusal.bit < 2 ^ 64 → bytes < 2 ^ 64
     → length (line n word refusal bytes) ≤ length word + 68
 line_most n word refusal bytes a c b d =
     omega (arith, line_length n word refusal bytes, digits_few 19 n (omega arith), digits_few 2 refusal.code (omega arith), digits_few 19 refusal.bit (omega arith), digits_few 19 bytes (omega arith))

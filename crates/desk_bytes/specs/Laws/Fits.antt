@@ -8,7 +8,7 @@ use Rattle.std.proofs.Math.ListN.{length, length-replicate}
 use Rattle.format.specs.Fmt.{Out, accepted, refused}
 use Rattle.format.specs.Promises.{answered, read_record}
 use Rattle.format.specs.Refusals.{shown, bare}
-use Rattle.format.specs.declared.Refusal.{Refusal}
+use Rattle.format.specs.Refusals.{Verdict}
 use Rattle.packet.specs.Packet.{most_packets, packets, record_of}
 use Rattle.packet.specs.declared.reading.Packet.{Packet}
 use Rattle.places.specs.Desk.{Change, stays, turns, first_tests, Accepting, turned_away, contradicts, joins, received, accepting, Asking, missing_below, joined_below, not_answered, answers, asking, Dropping, dropping}
@@ -56,10 +56,10 @@ ask_by = by (λ (o : Asking). o.reply) (λ o. o.change)
 abbrev drop_by : (t : Bool) {x y : Dropping} → (t ≡ true → Dropped x) → Dropped y → Dropped (cond t x y)
 drop_by = by (λ (o : Dropping). o.reply) (λ o. o.change)
 
-away : (s : List ℕ) (r : Refusal) → Accepted (turned_away s r)
+away : (s : List ℕ) (r : Verdict) → Accepted (turned_away s r)
 away s r = record { is = none refl }
 
-unanswered : (b w : List ℕ) (r : Refusal) → Asked (not_answered b w r)
+unanswered : (b w : List ℕ) (r : Verdict) → Asked (not_answered b w r)
 unanswered b w r = record { is = none refl }
 
 module _ (ps : List Place) (sized : (i : ℕ) → i < four_places → length (place_at (front ps) i).sizes ≡ most_packets) where

@@ -4,7 +4,7 @@ use Rattle.std.proofs.Common.{sym, ap, ◌∙◌}
 use Rattle.format.specs.Fmt.{accepted}
 use Rattle.format.specs.Message.{told}
 use Rattle.format.specs.Promises.{read_record}
-use Rattle.format.specs.declared.Refusal.{Refusal}
+use Rattle.format.specs.Refusals.{Verdict}
 use Rattle.packet.specs.Packet.{packets, record_of}
 use Rattle.packet.specs.declared.reading.Packet.{Packet}
 use Rattle.places.specs.Desk.{turns, first_tests, Accepting, accepting, Asking, Dropping}
@@ -14,10 +14,10 @@ use Rattle.places.specs.Laws.Ends.{its, notice, without, whole, accepting_so, as
 use Rattle.desk_bytes.specs.Bytes.{row_in, changed_bytes}
 use Rattle.desk_bytes.specs.Promises.{again_of, count_of, language_of, AcceptsIn, AsksIn, DropsIn}
 
-number : {r q : Refusal} → r ≡ q → r.code ≡ q.code
-number = ap (λ (r : Refusal). r.code)
+number : {r q : Verdict} → r ≡ q → r.code ≡ q.code
+number = ap (λ (r : Verdict). r.code)
 
-module _ (bs s m : List ℕ) (again : ℕ) (code : Refusal) (cs t : List ℕ) (again' : ℕ) (e : AcceptsIn bs s m again code cs t again') where
+module _ (bs s m : List ℕ) (again : ℕ) (code : Verdict) (cs t : List ℕ) (again' : ℕ) (e : AcceptsIn bs s m again code cs t again') where
   pub refused_accept : (code.code ≡ 0 → ⊥) → (cs ≡ bs) × (t ≡ s) × (again' ≡ again)
   refused_accept h =
       let is = accepting_away (accepting_so (row_in bs) s m) (λ z. h (number e.0 ∙ z)) in (
@@ -32,9 +32,9 @@ module _ (bs s m : List ℕ) (again : ℕ) (code : Refusal) (cs t : List ℕ) (a
 
   -- The bit is the one that reading the packet tells.
   pub bit_accept : code.bit ≡ (told (read_record packets record_of m)).bit
-  bit_accept = ap (λ (r : Refusal). r.bit) e.0 ∙ accepting_bit (accepting_so (row_in bs) s m)
+  bit_accept = ap (λ (r : Verdict). r.bit) e.0 ∙ accepting_bit (accepting_so (row_in bs) s m)
 
-module _ (bs s : List ℕ) (n : ℕ) (b w : List ℕ) (count language : ℕ) (code : Refusal) (cs c v : List ℕ) (count' language' : ℕ) (e : AsksIn bs s n b w count language code cs c v count' language') where
+module _ (bs s : List ℕ) (n : ℕ) (b w : List ℕ) (count language : ℕ) (code : Verdict) (cs c v : List ℕ) (count' language' : ℕ) (e : AsksIn bs s n b w count language code cs c v count' language') where
   pub refused_ask : (code.code ≡ 0 → ⊥) → (code.code ≡ 9 → ⊥) → (cs ≡ bs) × (c ≡ b) × (v ≡ w) × (count' ≡ count) × (language' ≡ language)
   refused_ask h k =
       let is = asking_away (asking_so (row_in bs) s n b w) (λ z. h (number e.0 ∙ z)) (λ z. k (number e.0 ∙ z)) in (
@@ -72,9 +72,9 @@ module _ (bs s : List ℕ) (n : ℕ) (b w : List ℕ) (count language : ℕ) (co
 
   -- Asking tells no bit.
   pub bit_ask : code.bit ≡ 0
-  bit_ask = ap (λ (r : Refusal). r.bit) e.0 ∙ asking_bit (asking_so (row_in bs) s n b w)
+  bit_ask = ap (λ (r : Verdict). r.bit) e.0 ∙ asking_bit (asking_so (row_in bs) s n b w)
 
-module _ (bs s : List ℕ) (n : ℕ) (code : Refusal) (cs : List ℕ) (e : DropsIn bs s n code cs) where
+module _ (bs s : List ℕ) (n : ℕ) (code : Verdict) (cs : List ℕ) (e : DropsIn bs s n code cs) where
   pub refused_drop : (code.code ≡ 0 → ⊥) → cs ≡ bs
   refused_drop h = e.1 ∙ ap (λ (o : Dropping). changed_bytes bs o.change) (dropping_away (dropping_so (row_in bs) s n) (λ z. h (number e.0 ∙ z)))
 
@@ -86,4 +86,4 @@ module _ (bs s : List ℕ) (n : ℕ) (code : Refusal) (cs : List ℕ) (e : Drops
 
   -- Nor does dropping.
   pub bit_drop : code.bit ≡ 0
-  bit_drop = ap (λ (r : Refusal). r.bit) e.0 ∙ dropping_bit (dropping_so (row_in bs) s n)
+  bit_drop = ap (λ (r : Verdict). r.bit) e.0 ∙ dropping_bit (dropping_so (row_in bs) s n)

@@ -4,7 +4,7 @@ use Rattle.std.proofs.Common.{ap, ◌∙◌}
 use Rattle.format.specs.Fmt.{accepted}
 use Rattle.format.specs.Promises.{read_record}
 use Rattle.format.specs.Refusals.{bare}
-use Rattle.format.specs.declared.Refusal.{Refusal}
+use Rattle.format.specs.Refusals.{Verdict}
 use Rattle.packet.specs.Packet.{packets, record_of}
 use Rattle.packet.specs.declared.reading.Packet.{Packet}
 use Rattle.places.specs.Desk.{refusal_of, first_tests, Accepting}
@@ -14,7 +14,7 @@ use Rattle.desk_bytes.specs.Bytes.{row_in, changed_bytes}
 use Rattle.desk_bytes.specs.Promises.{again_of, AcceptsIn}
 
 pub takes_in : (bs s m : List ℕ) (r : Packet) (c : List ℕ) → first_tests (row_in bs) s ≡ 0 → read_record packets record_of m ≡ accepted (r, c) → {o : Accepting} → Takes (row_in bs) s r c o
-    → (again : ℕ) (code : Refusal) (cs t : List ℕ) (again' : ℕ) → AcceptsIn bs s m again code cs t again'
+    → (again : ℕ) (code : Verdict) (cs t : List ℕ) (again' : ℕ) → AcceptsIn bs s m again code cs t again'
     → (code ≡ bare 0) × (cs ≡ changed_bytes bs o.change) × (t ≡ o.store) × (again' ≡ again_of o.reply again)
 takes_in bs s m r c tests reads x again code cs t again' (d, e, f, g) =
     let is = taking (row_in bs) s m r c tests reads x in (

@@ -8,7 +8,7 @@ use Prim.Native.Nat.{ℕ, ◌≤◌, ◌<◌}
 use Rattle.format.specs.Fmt.{Out, accepted, refused}
 use Rattle.format.specs.Promises.{read_record}
 use Rattle.format.specs.Refusals.{bare}
-use Rattle.format.specs.declared.Refusal.{Refusal}
+use Rattle.format.specs.Refusals.{Verdict}
 use Rattle.packet.specs.Packet.{packets, record_of}
 use Rattle.packet.specs.Splitter.{packet_of}
 use Rattle.places.specs.Places.{four_places}
@@ -79,7 +79,7 @@ module _ (english : Bool) (number : ℕ) (c : List ℕ) where
             let mine = f.ours x (subst (Memᴰ x) (sym (brings_it number m x e (eqb-true x.0.number number q))) (Memᴰ.head refl)) in
             let first = ours y (Memᴰ.head refl) in
             let zero : code ≡ 0 =
-            ap (λ (r : Refusal). r.code)
+            ap (λ (r : Verdict). r.code)
             (joins_its_notice d empty cs m x e y ys (ap (λ n. since n (log d cs)) (eqb-true x.0.number number q) ∙ have) (ap (λ (z : Part). z.0.language) mine.is ∙ sym (ap (λ (z : Part). z.0.language) first.is))
             (ap (λ (z : Part). z.0.total) mine.is ∙ sym (ap (λ (z : Part). z.0.total) first.is)) (λ z k. same_ours z x (ours z k) mine)) in
             rw zero refl
@@ -141,7 +141,7 @@ module _ (english : Bool) (number : ℕ) (c : List ℕ) (d : Lent) (empty : Empt
 
   -- and when each packet of the content has been sent, asking with room hands it out.
   pub arrives_over_bytes : 1 ≤ length c → Sent english number c (calls_of new ++ (comes m ∷ [])) → (b w : List ℕ) → length c ≤ length b
-      → (count language : ℕ) (code : Refusal) (bs t v : List ℕ) (count' language' : ℕ) → AsksIn e.places e.store number b w count language code bs t v count' language'
+      → (count language : ℕ) (code : Verdict) (bs t v : List ℕ) (count' language' : ℕ) → AsksIn e.places e.store number b w count language code bs t v count' language'
       → (code ≡ bare 0) × (t ≡ c ++ drop (length c) b) × (v ≡ w) × (count' ≡ length c) × (language' ≡ cond english 1 0)
       × (since number ((asks number b w, code.code) ∷ (new ++ ((comes m, code₀) ∷ old))) ≡ [])
   arrives_over_bytes some sent = split_over_bytes english number c some d empty (new ++ ((comes m, code₀) ∷ old)) e r (all_came english number c taken_over_bytes sent)

@@ -2,7 +2,7 @@
 use Rattle.std.specs.Prelude.{◌≡◌, List, ◌∷◌, ℕ, ◌≤◌, length}
 use Rattle.std.proofs.Common.{sym, ap, ◌∙◌}
 use Rattle.format.specs.Refusals.{bare}
-use Rattle.format.specs.declared.Refusal.{Refusal}
+use Rattle.format.specs.Refusals.{Verdict}
 use Rattle.places.specs.Desk.{refusal_of}
 use Rattle.desk_runs.specs.Runs.{Desk, Call, comes, reply_to, Part, since, Complete, Given, asked, due}
 use Rattle.desk_runs.specs.Taking.{due_for}
@@ -17,7 +17,7 @@ use Rattle.desk_runs.specs.Laws.BytesDemand.{empty_in}
 
 module _ (d : Lent) (empty : EmptyIn d) (h : List (Call × ℕ)) (e : Lent) (r : Run d h e) (m : List ℕ) where
   -- Demand 2: the refusal and the mark are what is due for the packet.
-  pub accepted_over_bytes : (again : ℕ) (code : Refusal) (bs t : List ℕ) (again' : ℕ) → AcceptsIn e.places e.store m again code bs t again'
+  pub accepted_over_bytes : (again : ℕ) (code : Verdict) (bs t : List ℕ) (again' : ℕ) → AcceptsIn e.places e.store m again code bs t again'
       → (code ≡ refusal_of (due_for h m)) × (again' ≡ again_of (due_for h m) again)
   accepted_over_bytes again code bs t again' (x, _, _, y) =
       let f = follows d empty.wide h e r in
@@ -33,7 +33,7 @@ module _ (d : Lent) (empty : EmptyIn d) (h : List (Call × ℕ)) (e : Lent) (r :
       let f = follows d empty.wide h e r in
       ap (asked n b w) f.left ∙ asked_is_due (desk_in d) (empty_in empty) (calls_of h) n b w ∙ ap (λ h. due (since n h) b w) (sym f.logged)
 
-  module _ (count language : ℕ) (code : Refusal) (bs c v : List ℕ) (count' language' : ℕ) (answer : AsksIn e.places e.store n b w count language code bs c v count' language') where
+  module _ (count language : ℕ) (code : Verdict) (bs c v : List ℕ) (count' language' : ℕ) (answer : AsksIn e.places e.store n b w count language code bs c v count' language') where
     -- Demand 2: the refusal, the buffer, the row, the count and the language are what is due.
     pub asked_over_bytes : let g = due (since n h) b w in (code ≡ refusal_of g.reply) × (c ≡ g.notice) × (v ≡ g.missing) × (count' ≡ count_of g.reply count) × (language' ≡ language_of g.reply language)
     asked_over_bytes =
@@ -51,4 +51,4 @@ module _ (d : Lent) (empty : EmptyIn d) (h : List (Call × ℕ)) (e : Lent) (r :
         let f = follows d empty.wide h e r in
         let (there, back) = handed_out_exactly (desk_in d) (empty_in empty) (calls_of h) n x xs (ap (since n) (sym f.logged) ∙ have) b w room in
         let same : code ≡ refusal_of (asked n b w _).reply = answer.0 ∙ ap (λ (x : Desk). refusal_of (asked n b w x).reply) f.left in
-        (λ z. there (ap (λ (r : Refusal). r.code) (sym same) ∙ z), λ k. same ∙ back k)
+        (λ z. there (ap (λ (r : Verdict). r.code) (sym same) ∙ z), λ k. same ∙ back k)

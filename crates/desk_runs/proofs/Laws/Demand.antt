@@ -5,7 +5,7 @@ use Rattle.std.proofs.lemmas.Bool.{false≢true, lt-leb}
 use mathlib.Core.List.Memᴰ
 use mathlib.Core.List.{List, [], ◌∷◌, ◌++◌, Memᴰ}
 use Rattle.format.specs.Refusals.{bare}
-use Rattle.format.specs.declared.Refusal.{Refusal}
+use Rattle.format.specs.Refusals.{Verdict}
 use Rattle.places.specs.Places.{good_places}
 use Rattle.places.specs.Desk.{refusal_of, first_tests}
 use Rattle.places.specs.declared.Reply.TheVariants.{Joined, Missing}
@@ -65,7 +65,7 @@ module _ (x : Part) (xs : List Part) where
 
     -- what is handed out is complete
     pub joined_complete : number_of (due (x ∷ xs) b w).reply ≡ 0 → Complete (x ∷ xs)
-    joined_complete z = go (eqb (length lacking) 0) (leb (length lacking) (length w)) refl (ap (λ (r : Refusal). r.code) (sym number_due) ∙ z)
+    joined_complete z = go (eqb (length lacking) 0) (leb (length lacking) (length w)) refl (ap (λ (r : Verdict). r.code) (sym number_due) ∙ z)
       where
         go : (u v : Bool) → eqb (length lacking) 0 ≡ u → ◌≡◌ {A = ℕ} (cond u (cond (leb (length whole) (length b)) 0 6) (cond v 9 6)) 0 → Complete (x ∷ xs)
         go true v e q = all_came (eqb-true (length lacking) 0 e)
@@ -74,7 +74,7 @@ module _ (x : Part) (xs : List Part) where
 
     -- it is never 11
     pub known : number_of (due (x ∷ xs) b w).reply ≡ 11 → ⊥
-    known z = go (eqb (length lacking) 0) (leb (length whole) (length b)) (leb (length lacking) (length w)) (ap (λ (r : Refusal). r.code) (sym number_due) ∙ z)
+    known z = go (eqb (length lacking) 0) (leb (length whole) (length b)) (leb (length lacking) (length w)) (ap (λ (r : Verdict). r.code) (sym number_due) ∙ z)
       where
         go : (u v y : Bool) → ◌≡◌ {A = ℕ} (cond u (cond v 0 6) (cond y 9 6)) 11 → ⊥
         go true true y q = omega (arith, q)
@@ -132,7 +132,7 @@ module _ (d : Desk) (empty : Empty d) where
     pub handed_out_exactly : length (whole x xs) ≤ length b → (number_of (asked n b w (run d cs)).reply ≡ 0 → Complete (x ∷ xs)) × (Complete (x ∷ xs) → refusal_of (asked n b w (run d cs)).reply ≡ bare 0)
     handed_out_exactly room =
         let is = ap (λ g. refusal_of g.reply) is_due in
-        (λ e. joined_complete x xs b w (ap (λ (r : Refusal). r.code) (sym is) ∙ e), λ h. is ∙ ap (λ g. refusal_of g.reply) (complete_due x xs b w h room))
+        (λ e. joined_complete x xs b w (ap (λ (r : Verdict). r.code) (sym is) ∙ e), λ h. is ∙ ap (λ g. refusal_of g.reply) (complete_due x xs b w h room))
 
     -- in number order, with its language;
     pub asked_complete : Complete (x ∷ xs) → length (whole x xs) ≤ length b

@@ -1,7 +1,7 @@
 -- A run over lent bytes is, read as rows of places, the run of its calls (desk_runs), and its numbers are those of that run's log: by induction, since each call leaves the row that it says. Assumes nothing.
 use Rattle.std.specs.Prelude.{◌≡◌, refl, List, ◌∷◌, ℕ, ◌≤◌, length}
 use Rattle.std.proofs.Common.{ap, ◌∙◌, arith}
-use Rattle.format.specs.declared.Refusal.{Refusal}
+use Rattle.format.specs.Refusals.{Verdict}
 use Rattle.places.specs.Desk.{refusal_of}
 use Rattle.places.specs.Places.{four_places}
 use Rattle.desk_runs.specs.Runs.{Call, comes, asks, drops, reply_to, after, run, log}
@@ -11,7 +11,7 @@ use Rattle.desk_runs.specs.Lent.{Lent, desk_in, Run, none, accepts, answers, giv
 use Rattle.desk_runs.specs.Laws.Follows.{Follows}
 
 -- one call more
-step : {d : Lent} {h : List (Call × ℕ)} {e : Lent} → Follows d h e → (c : Call) (code : Refusal) (e' : Lent) → code ≡ refusal_of (reply_to c (desk_in e)) → desk_in e' ≡ after c (desk_in e) → length e'.places ≡ length e.places
+step : {d : Lent} {h : List (Call × ℕ)} {e : Lent} → Follows d h e → (c : Call) (code : Verdict) (e' : Lent) → code ≡ refusal_of (reply_to c (desk_in e)) → desk_in e' ≡ after c (desk_in e) → length e'.places ≡ length e.places
     → Follows d ((c, code.code) ∷ h) e'
 unfolding run log calls_of
 step f c code e' is left long = record {

@@ -12,7 +12,7 @@ use borrow.Author.Tests.{eq-eqb}
 use Rattle.packet.specs.Packet.{part_bytes_of}
 use Rattle.packet.specs.Splitter.{packet_count, part_of, packet_of}
 use Rattle.format.specs.Refusals.{bare}
-use Rattle.format.specs.declared.Refusal.{Refusal}
+use Rattle.format.specs.Refusals.{Verdict}
 use Rattle.places.specs.Desk.{refusal_of}
 use Rattle.places.specs.declared.Reply.TheVariants.{Joined}
 use Rattle.places.specs.Laws.Front.{Unopened}
@@ -84,7 +84,7 @@ module _ (english : Bool) (number : ℕ) (c : List ℕ) where
 
     -- Over lent bytes the same: the refusal, the buffer, the row, the count and the language; and the place is free.
     module _ (d : Lent) (empty : EmptyIn d) (h : List (Call × ℕ)) (e : Lent) (r : Run d h e) (all : AllCame english number c (since number h)) (b w : List ℕ) (room : length c ≤ length b) where
-      pub split_over_bytes : (count language : ℕ) (code : Refusal) (bs t v : List ℕ) (count' language' : ℕ) → AsksIn e.places e.store number b w count language code bs t v count' language'
+      pub split_over_bytes : (count language : ℕ) (code : Verdict) (bs t v : List ℕ) (count' language' : ℕ) → AsksIn e.places e.store number b w count language code bs t v count' language'
           → (code ≡ bare 0) × (t ≡ c ++ drop (length c) b) × (v ≡ w) × (count' ≡ length c) × (language' ≡ cond english 1 0) × (since number ((asks number b w, code.code) ∷ h) ≡ [])
       unfolding since
       split_over_bytes count language code bs t v count' language' answer =

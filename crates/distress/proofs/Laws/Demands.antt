@@ -3,7 +3,7 @@ use Rattle.std.specs.Prelude.{◌≡◌, refl, List, [], ◌∷◌, ◌++◌, �
 use Rattle.std.proofs.Common.{sym, ap, ◌∙◌, subst, lit≤}
 use Rattle.bits.specs.Bits.{Bytes}
 use Rattle.format.specs.Refusals.{bare}
-use Rattle.format.specs.declared.Refusal.{Refusal}
+use Rattle.format.specs.Refusals.{Verdict}
 use Rattle.format.specs.Promises.{read_record, Writes, Corrects}
 use Rattle.format.specs.Laws.Answers.{answer_plain}
 use Rattle.format.specs.Laws.Entries.{entries, legal_entries}
@@ -78,10 +78,10 @@ pub written_reads : (s : List ℕ) (r : Report) (t : List ℕ) → Writes report
 written_reads s r t w = sym (ap answer_of (written_front family s r t 17 tt w (long (values_of r))))
 
 -- What is read is written back as the same bytes.
-pub read_writes_back : (s : List ℕ) (r : Report) → Bytes s → Reads s (Good r) → (u : List ℕ) (code : Refusal) (t : List ℕ) → length s ≤ length u → Writes reports u code t (values_of r)
+pub read_writes_back : (s : List ℕ) (r : Report) → Bytes s → Reads s (Good r) → (u : List ℕ) (code : Verdict) (t : List ℕ) → length s ≤ length u → Writes reports u code t (values_of r)
     → (code ≡ bare 0) × (t ≡ s ++ drop (length s) u)
 read_writes_back s r fine a = read_written family s r fine (good s r a)
 
 -- Demand 3: every correction of a report, by any number and any value.
-pub corrected : (s : List ℕ) (a : Answer) → Bytes s → Reads s a → (i v : ℕ) (code : Refusal) (t : List ℕ) → Corrects reports s i v code t → Settled reports (λ r. spot_of) values_of changed s (out_of a) i v code t
+pub corrected : (s : List ℕ) (a : Answer) → Bytes s → Reads s a → (i v : ℕ) (code : Verdict) (t : List ℕ) → Corrects reports s i v code t → Settled reports (λ r. spot_of) values_of changed s (out_of a) i v code t
 corrected s a fine reads i v code t c = settled family (λ r. spot_of) spotted s fine i v code t c (out_of a) (answer_plain Good Refused out_of (λ q. refl) (λ c. refl) (read_record reports report_of s) reads)

@@ -11,7 +11,7 @@ use Rattle.bits.specs.Laws.Answers.{one_answer, got_fits, puttable_fits}
 use Rattle.bits.specs.Laws.Fields.{field_lt, length_put, put_put, put_field}
 use Rattle.format.specs.Correcting.{standing, admitted, put_in, Begins, Finishes}
 use Rattle.format.specs.Refusals.{shown, bare}
-use Rattle.format.specs.declared.Refusal.{Refusal}
+use Rattle.format.specs.Refusals.{Verdict}
 use Rattle.format.specs.Promises.{Corrects}
 use Rattle.format.specs.Fmt.{accepted, refused, also, read, spot, found}
 use Rattle.format.specs.Message.{Layout, Sound, body, sealed, told, read_message, correct_message, refuses, accepts}
@@ -23,7 +23,7 @@ use Rattle.format.proofs.Laws.Zero.{read_zero_message}
 use Rattle.format.specs.Laws.Correcting.{admitted_clean, accepted_by, refused_by_lem, own_refusal}
 
 -- Reading the message told c, and where it was accepted, the field i stands at p with w bits.
-module _ (l : Layout) (ok : Sound l) (numbers : Judged l.fmt) (s : List ℕ) (i v p w : ℕ) {c : Refusal} (reads : c ≡ told (read_message l s))
+module _ (l : Layout) (ok : Sound l) (numbers : Judged l.fmt) (s : List ℕ) (i v p w : ℕ) {c : Verdict} (reads : c ≡ told (read_message l s))
     (stands : (vs : List ℕ) → read_message l s ≡ accepted vs → spot l.fmt [] vs i ≡ standing p w) (slim : w ≤ 32) where
   early : ((admitted c p w v).code ≡ 0 → ⊥) → Corrects l s i v (admitted c p w v) s
   unfolding correct_message
@@ -44,7 +44,7 @@ module _ (l : Layout) (ok : Sound l) (numbers : Judged l.fmt) (s : List ℕ) (i 
       go true false true ex ey ez = absurd (h (rw (ex, ey, ez) refl))
 
   -- The correction begun leaves t, reading whose fields tells d, and finished it answers `last` and leaves x.
-  module _ (fine : Bytes s) {code : Refusal} {at width old : ℕ} {d last : Refusal} {t x : List ℕ} (begun : Begins s c p w v code at width old t)
+  module _ (fine : Bytes s) {code : Verdict} {at width old : ℕ} {d last : Verdict} {t x : List ℕ} (begun : Begins s c p w v code at width old t)
       (again : c.code ≡ 0 → length t ≡ length s → d ≡ told (read l.fmt [] 0 (bits_of (body l.seal t)))) (finished : Finishes l.seal code at width old d t last x) where
     -- the field was changed
     module _ (on : code.code ≡ 0) where
@@ -128,7 +128,7 @@ module _ (l : Layout) (ok : Sound l) (numbers : Judged l.fmt) (s : List ℕ) (i 
 
 -- ---- two answers that the promises of its steps allow are equal
 
-pub one_beginning : (s : List ℕ) (c : Refusal) (p w v : ℕ) (code : Refusal) (at width old : ℕ) (code' : Refusal) (at' width' old' : ℕ) (t t' : List ℕ) → Begins s c p w v code at width old t → Begins s c p w v code' at' width' old' t'
+pub one_beginning : (s : List ℕ) (c : Verdict) (p w v : ℕ) (code : Verdict) (at width old : ℕ) (code' : Verdict) (at' width' old' : ℕ) (t t' : List ℕ) → Begins s c p w v code at width old t → Begins s c p w v code' at' width' old' t'
     → (code ≡ code') × (at ≡ at') × (width ≡ width') × (old ≡ old') × (t ≡ t')
 one_beginning s c p w v code at width old code' at' width' old' t t' x y =
     let (e, left) = one_answer (λ code. cond (eqb code.code 0) (put_in s p w v) s) (x.admits, x.puts) (y.admits, y.puts) in

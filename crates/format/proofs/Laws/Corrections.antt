@@ -6,7 +6,7 @@ use Rattle.format.specs.Correcting.{standing, Begins, Finishes}
 use Rattle.format.specs.Fmt.{Out, accepted, also, read, spot}
 use Rattle.format.specs.Message.{Layout, body, fields_of, told, read_message}
 use Rattle.format.specs.Refusals.{bare}
-use Rattle.format.specs.declared.Refusal.{Refusal}
+use Rattle.format.specs.Refusals.{Verdict}
 use Rattle.format.specs.Promises.{answered, read_record, Corrects}
 use Rattle.format.specs.Laws.Answers.{numbered, read_code}
 use Rattle.format.specs.Laws.Correcting.{accepted_by}
@@ -28,9 +28,9 @@ good_size l t least most = sized_fields l.fmt (inside l.seal l.least) (inside l.
     go true = let n = length-take-le (length t - 1) t (omega arith) in (omega (arith, n), omega (arith, n))
 
 module _ {l : Layout} {R A : Type 0} {Lent : R → Type 0} {values_of : R → List ℕ} {record_of : List ℕ → R} {changed : ℕ → ℕ → R → R} (F : Family l R Lent values_of record_of changed)
-    (good : R → A) (bad : Refusal → A) (refusal_of : A → Refusal) (of-good : (r : R) → refusal_of (good r) ≡ bare 0) (of-bad : (c : Refusal) → refusal_of (bad c) ≡ c)
+    (good : R → A) (bad : Verdict → A) (refusal_of : A → Verdict) (of-good : (r : R) → refusal_of (good r) ≡ bare 0) (of-bad : (c : Verdict) → refusal_of (bad c) ≡ c)
     -- the answer a of reading s, its refusal n, and where the field i of an accepted record stands
-    (s : List ℕ) (i v p w : ℕ) {a : A} {n : Refusal} (read_so : a ≡ answered good bad (read_record l record_of s)) (is : n ≡ refusal_of a)
+    (s : List ℕ) (i v p w : ℕ) {a : A} {n : Verdict} (read_so : a ≡ answered good bad (read_record l record_of s)) (is : n ≡ refusal_of a)
     (stands : (r : R) → read_record l record_of s ≡ accepted r → spot l.fmt [] (values_of r) i ≡ standing p w) (slim : w ≤ 32) where
   reads : n ≡ told (read_message l s)
   reads = read_code good bad record_of refusal_of of-good of-bad l s read_so is
@@ -39,8 +39,8 @@ module _ {l : Layout} {R A : Type 0} {Lent : R → Type 0} {values_of : R → Li
   found_so vs e = rw (← record_values F s vs e) (stands (record_of vs) (ap (also record_of) e))
 
   -- The correction begun leaves t, the answer of its fields is b, with the refusal d, and finished it answers `last` and leaves x.
-  module _ (fine : Bytes s) {code : Refusal} {at width old : ℕ} {t inner : List ℕ} (begun : Begins s n p w v code at width old t) (laid : inner ≡ body l.seal t) where
-    corrects : {d last : Refusal} {b : A} {x : List ℕ} (o : Out (List ℕ)) → (l.least ≤ length t → length t ≤ l.most → o ≡ read l.fmt [] 0 (bits_of (body l.seal t)))
+  module _ (fine : Bytes s) {code : Verdict} {at width old : ℕ} {t inner : List ℕ} (begun : Begins s n p w v code at width old t) (laid : inner ≡ body l.seal t) where
+    corrects : {d last : Verdict} {b : A} {x : List ℕ} (o : Out (List ℕ)) → (l.least ≤ length t → length t ≤ l.most → o ≡ read l.fmt [] 0 (bits_of (body l.seal t)))
         → b ≡ answered good bad (also record_of o) → d ≡ refusal_of b → Finishes l.seal code at width old d t last x → Corrects l s i v last x
     corrects o again tells number finished =
         in_place l F.sound F.judged s i v p w reads found_so slim fine begun
@@ -51,12 +51,12 @@ module _ {l : Layout} {R A : Type 0} {Lent : R → Type 0} {values_of : R → Li
         finished
 
     -- The fields are read whatever their size,
-    pub family_corrected : {d last : Refusal} {b : A} {x : List ℕ} → b ≡ answered good bad (also record_of (read l.fmt [] 0 (bits_of inner))) → d ≡ refusal_of b
+    pub family_corrected : {d last : Verdict} {b : A} {x : List ℕ} → b ≡ answered good bad (also record_of (read l.fmt [] 0 (bits_of inner))) → d ≡ refusal_of b
         → Finishes l.seal code at width old d t last x → Corrects l s i v last x
     family_corrected = corrects (read l.fmt [] 0 (bits_of inner)) (λ least most. ap (λ b. read l.fmt [] 0 (bits_of b)) laid)
 
     -- or their size is tested first.
-    pub family_sized : {d last : Refusal} {b : A} {x : List ℕ} → b ≡ answered good bad (also record_of (fields_of l.fmt (inside l.seal l.least) (inside l.seal l.most) inner)) → d ≡ refusal_of b
+    pub family_sized : {d last : Verdict} {b : A} {x : List ℕ} → b ≡ answered good bad (also record_of (fields_of l.fmt (inside l.seal l.least) (inside l.seal l.most) inner)) → d ≡ refusal_of b
         → Finishes l.seal code at width old d t last x → Corrects l s i v last x
     family_sized =
         corrects (fields_of l.fmt (inside l.seal l.least) (inside l.seal l.most) inner)

@@ -6,7 +6,7 @@ use Rattle.bits.specs.Bits.{Bytes}
 use Rattle.format.specs.Fmt.{Out, accepted, refused, or_bad, check, also, spot, none, found}
 use Rattle.format.specs.Message.{Layout, told, leaves, into, read_message, write_message, correct_message}
 use Rattle.format.specs.Refusals.{bare}
-use Rattle.format.specs.declared.Refusal.{Refusal}
+use Rattle.format.specs.Refusals.{Verdict}
 use Rattle.format.specs.Promises.{read_record, Writes}
 use Rattle.format.specs.Laws.Lead.{sized_by}
 use Rattle.format.proofs.Laws.Legal.{legal}
@@ -89,7 +89,7 @@ module _ {l : Layout} {R : Type 0} {Lent : R → Type 0} {values_of : R → List
     read_writes = read_write_message l F.sound s (values_of r) fine read_values.0
 
     -- What is read is written back as the same bytes.
-    pub read_written : (u : List ℕ) (code : Refusal) (t : List ℕ) → length s ≤ length u → Writes l u code t (values_of r) → (code ≡ bare 0) × (t ≡ s ++ drop (length s) u)
+    pub read_written : (u : List ℕ) (code : Verdict) (t : List ℕ) → length s ≤ length u → Writes l u code t (values_of r) → (code ≡ bare 0) × (t ≡ s ++ drop (length s) u)
     read_written u code t h (z, x) =
         let o = ap (into u) read_writes ∙ roomy u s h in
         (z ∙ ap told o, x ∙ ap (λ o. leaves o u) o)

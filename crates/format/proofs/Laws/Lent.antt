@@ -5,7 +5,7 @@ use Rattle.std.proofs.lemmas.Bool.{false≢true}
 use Rattle.format.specs.Fmt.{Out, accepted, refused, or_bad, check}
 use Rattle.format.specs.Message.{Layout, told, into, ahead, write_message}
 use Rattle.format.specs.Refusals.{bare}
-use Rattle.format.specs.declared.Refusal.{Refusal}
+use Rattle.format.specs.Refusals.{Verdict}
 use Rattle.format.specs.Promises.{Writes, Lays}
 use Rattle.format.specs.Laws.Lead.{sized_by}
 use Rattle.format.proofs.Laws.Whole.{made}
@@ -14,7 +14,7 @@ use Rattle.format.proofs.Laws.Whole.{made}
 
 module _ (l : Layout) (vs s : List ℕ) where
   -- from a row that has enough
-  pub enough_lays : (has : Bool) (code : Refusal) (t : List ℕ) → has ≡ true → Lays has (write_message l vs) s code t → Writes l s code t vs
+  pub enough_lays : (has : Bool) (code : Verdict) (t : List ℕ) → has ≡ true → Lays has (write_message l vs) s code t → Writes l s code t vs
   enough_lays true code t e x = x
   enough_lays false code t e x = absurd (false≢true e)
 

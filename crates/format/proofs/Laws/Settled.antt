@@ -7,7 +7,7 @@ use Rattle.bits.specs.Laws.Fields.{length_put, field_put, field_put_before, fiel
 use Rattle.format.specs.Fmt.{Out, accepted, refused, also, read, Spot, none, found, spot}
 use Rattle.format.specs.Message.{Layout, body, sealed, told, leaves, into, read_message, write_message, correct_message, ahead}
 use Rattle.format.specs.Refusals.{shown, bare}
-use Rattle.format.specs.declared.Refusal.{Refusal}
+use Rattle.format.specs.Refusals.{Verdict}
 use Rattle.format.specs.Laws.Refusals.{shown_again}
 use Rattle.format.specs.Promises.{refused_by, plain, read_record, Writes, Corrects}
 use Rattle.format.specs.Settled.{Stays, Differs, AsWritten, SettledAt, Settled}
@@ -34,15 +34,15 @@ differs z s p w v whole fits narrow =
     }
 
 -- a correction that is refused by c
-stays : (l : Layout) (s : List ℕ) (i v c p : ℕ) (code : Refusal) (t : List ℕ) → correct_message l s i v ≡ refused c p → Corrects l s i v code t → Stays (shown c p) s code t
+stays : (l : Layout) (s : List ℕ) (i v c p : ℕ) (code : Verdict) (t : List ℕ) → correct_message l s i v ≡ refused c p → Corrects l s i v code t → Stays (shown c p) s code t
 stays l s i v c p code t e (z, x) = (z ∙ ap told e, x ∙ ap (λ o. leaves o s) e)
 
 -- ---- every correction ends so
 
 module _ {l : Layout} {R : Type 0} {Lent : R → Type 0} {values_of : R → List ℕ} {record_of : List ℕ → R} {changed : ℕ → ℕ → R → R} (F : Family l R Lent values_of record_of changed)
     (spot_of : R → ℕ → Spot) (spotted : (r : R) (i : ℕ) → spot l.fmt [] (values_of r) i ≡ spot_of r i)
-    (s : List ℕ) (fine : Bytes s) (i v : ℕ) (code : Refusal) (t : List ℕ) (corrects : Corrects l s i v code t) where
-  abbrev writes : R → List ℕ → Refusal → List ℕ → Type 0
+    (s : List ℕ) (fine : Bytes s) (i v : ℕ) (code : Verdict) (t : List ℕ) (corrects : Corrects l s i v code t) where
+  abbrev writes : R → List ℕ → Verdict → List ℕ → Type 0
   writes r u d x = Writes l u d x (values_of (changed i v r))
 
   -- the message's own refusal

@@ -4,7 +4,7 @@ use Rattle.std.proofs.Common.{sym, ap}
 use Rattle.format.specs.Fmt.{accepted, also}
 use Rattle.format.specs.Message.{Layout, told, read_message}
 use Rattle.format.specs.Refusals.{bare}
-use Rattle.format.specs.declared.Refusal.{Refusal}
+use Rattle.format.specs.Refusals.{Verdict}
 use Rattle.format.specs.Promises.{answered, read_record}
 use Rattle.format.specs.Laws.Answers.{read_code}
 use Rattle.format.specs.Laws.Correcting.{accepted_by, refused_by_lem}
@@ -12,8 +12,8 @@ use Rattle.format.specs.Laws.Zero.{Judged}
 use Rattle.format.proofs.Laws.Zero.{read_zero_message}
 
 -- the answer a of reading s has the refusal n; of a good record `show` is shown
-module _ (l : Layout) (numbers : Judged l.fmt) {R A C : Type 0} (good : R → A) (bad : Refusal → A) (record_of : List ℕ → R) (refusal_of : A → Refusal) (of-good : (r : R) → refusal_of (good r) ≡ bare 0)
-    (of-bad : (c : Refusal) → refusal_of (bad c) ≡ c) (show : R → C) (none : C) (s : List ℕ) {a : A} {n : Refusal} (reads : a ≡ answered good bad (read_record l record_of s)) (is : n ≡ refusal_of a) where
+module _ (l : Layout) (numbers : Judged l.fmt) {R A C : Type 0} (good : R → A) (bad : Verdict → A) (record_of : List ℕ → R) (refusal_of : A → Verdict) (of-good : (r : R) → refusal_of (good r) ≡ bare 0)
+    (of-bad : (c : Verdict) → refusal_of (bad c) ≡ c) (show : R → C) (none : C) (s : List ℕ) {a : A} {n : Verdict} (reads : a ≡ answered good bad (read_record l record_of s)) (is : n ≡ refusal_of a) where
   code : n ≡ told (read_message l s)
   code = read_code good bad record_of refusal_of of-good of-bad l s reads is
 

@@ -5,7 +5,7 @@ use Rattle.std.proofs.Common.{sym, ap, ◌∙◌, le-leb}
 use Rattle.bits.specs.Laws.Answers.{one_answer}
 use Rattle.format.specs.Fmt.{Out, accepted, refused, spot, found}
 use Rattle.format.specs.Message.{Layout, Sound, told, leaves, into, write_message, correct_message}
-use Rattle.format.specs.declared.Refusal.{Refusal}
+use Rattle.format.specs.Refusals.{Verdict}
 use Rattle.format.specs.Promises.{Writes, Corrects}
 use Rattle.format.specs.Laws.Legal.{Legal}
 use Rattle.format.specs.Laws.Zero.{Judged, Counted}
@@ -26,22 +26,22 @@ pub record Family (l : Layout) (R : Type 0) (Lent : R → Type 0) (values_of : R
 pub one_reading : {A : Type 0} (x a b : A) → a ≡ x → b ≡ x → a ≡ b
 one_reading x a b d e = d ∙ sym e
 
-pub one_writing : (l : Layout) (s vs : List ℕ) (c d : Refusal) (t u : List ℕ) → Writes l s c t vs → Writes l s d u vs → (c ≡ d) × (t ≡ u)
+pub one_writing : (l : Layout) (s vs : List ℕ) (c d : Verdict) (t u : List ℕ) → Writes l s c t vs → Writes l s d u vs → (c ≡ d) × (t ≡ u)
 one_writing l s vs c d t u = one_answer (λ c. leaves (into s (write_message l vs)) s)
 
-pub one_correction : (l : Layout) (s : List ℕ) (i v : ℕ) (c d : Refusal) (t u : List ℕ) → Corrects l s i v c t → Corrects l s i v d u → (c ≡ d) × (t ≡ u)
+pub one_correction : (l : Layout) (s : List ℕ) (i v : ℕ) (c d : Verdict) (t u : List ℕ) → Corrects l s i v c t → Corrects l s i v d u → (c ≡ d) × (t ≡ u)
 one_correction l s i v c d t u = one_answer (λ c. leaves (correct_message l s i v) s)
 
 -- ---- a refusal leaves every byte
 
-pub refused_stands : {A : Type 0} (o : Out A) (s t : A) (code : Refusal) → code ≡ told o → t ≡ leaves o s → (code.code ≡ 0 → ⊥) → t ≡ s
+pub refused_stands : {A : Type 0} (o : Out A) (s t : A) (code : Verdict) → code ≡ told o → t ≡ leaves o s → (code.code ≡ 0 → ⊥) → t ≡ s
 refused_stands (accepted u) s t code z x h = absurd (h (ap (λ c. c.code) z))
 refused_stands (refused c p) s t code z x h = x
 
-pub refused_writing : (l : Layout) (s vs : List ℕ) (code : Refusal) (t : List ℕ) → Writes l s code t vs → (code.code ≡ 0 → ⊥) → t ≡ s
+pub refused_writing : (l : Layout) (s vs : List ℕ) (code : Verdict) (t : List ℕ) → Writes l s code t vs → (code.code ≡ 0 → ⊥) → t ≡ s
 refused_writing l s vs code t (z, x) h = refused_stands (into s (write_message l vs)) s t code z x h
 
-pub refused_correction : (l : Layout) (s : List ℕ) (i v : ℕ) (code : Refusal) (t : List ℕ) → Corrects l s i v code t → (code.code ≡ 0 → ⊥) → t ≡ s
+pub refused_correction : (l : Layout) (s : List ℕ) (i v : ℕ) (code : Verdict) (t : List ℕ) → Corrects l s i v code t → (code.code ≡ 0 → ⊥) → t ≡ s
 refused_correction l s i v code t (z, x) h = refused_stands (correct_message l s i v) s t code z x h
 
 -- a message with room for it, in front of a lent buffer

@@ -4,7 +4,7 @@ use Rattle.std.proofs.Common.{sym, ap, ◌∙◌, arith}
 use Rattle.bits.specs.Laws.Answers.{one_answer}
 use Rattle.format.specs.Fmt.{Out, accepted, refused, or_bad, check, also}
 use Rattle.format.specs.Message.{told, leaves, into}
-use Rattle.format.specs.declared.Refusal.{Refusal}
+use Rattle.format.specs.Refusals.{Verdict}
 use Rattle.format.specs.Promises.{tested, Lays}
 use Rattle.format.specs.Laws.Family.{refused_stands}
 
@@ -14,7 +14,7 @@ same_code f (accepted x) = refl
 same_code f (refused c p) = refl
 
 -- an answer without refusal that leaves t is an acceptance of t, where nothing is refused by 0
-pub zero_stands : {A : Type 0} (o : Out A) (s t : A) (code : Refusal) → ((p : ℕ) → o ≡ refused 0 p → ⊥) → code ≡ told o → t ≡ leaves o s → code.code ≡ 0 → o ≡ accepted t
+pub zero_stands : {A : Type 0} (o : Out A) (s t : A) (code : Verdict) → ((p : ℕ) → o ≡ refused 0 p → ⊥) → code ≡ told o → t ≡ leaves o s → code.code ≡ 0 → o ≡ accepted t
 zero_stands (accepted u) s t code never z x h = ap accepted (sym x)
 zero_stands (refused c p) s t code never z x h = absurd (never p (ap (λ c. refused c p) (ap (λ r. r.code) (sym z) ∙ h)))
 
@@ -32,10 +32,10 @@ tested_zero test (refused c p) never z = absurd (never p (ap (λ c. refused c p)
 -- ---- writing from a row
 
 -- A refusal leaves the buffer.
-pub refused_laying : (has : Bool) (o : Out (List ℕ)) (s : List ℕ) (code : Refusal) (t : List ℕ) → Lays has o s code t → (code.code ≡ 0 → ⊥) → t ≡ s
+pub refused_laying : (has : Bool) (o : Out (List ℕ)) (s : List ℕ) (code : Verdict) (t : List ℕ) → Lays has o s code t → (code.code ≡ 0 → ⊥) → t ≡ s
 refused_laying true o s code t (z, x) h = refused_stands (into s o) s t code z x h
 refused_laying false o s code t (z, x) h = x
 
 -- two answers that it allows are equal
-pub one_laying : (has : Bool) (o : Out (List ℕ)) (s : List ℕ) (c d : Refusal) (t u : List ℕ) → Lays has o s c t → Lays has o s d u → (c ≡ d) × (t ≡ u)
+pub one_laying : (has : Bool) (o : Out (List ℕ)) (s : List ℕ) (c d : Verdict) (t u : List ℕ) → Lays has o s c t → Lays has o s d u → (c ≡ d) × (t ≡ u)
 one_laying has o s c d t u = one_answer (λ c. cond has (leaves (into s o) s) s)

@@ -5,12 +5,12 @@ use Rattle.format.specs.Fmt.{Out, accepted, refused}
 use Rattle.format.specs.Message.{told}
 use Rattle.format.specs.Promises.{Packs}
 use Rattle.format.specs.Refusals.{placed, shown, bare, packed, unpacked}
-use Rattle.format.specs.declared.Refusal.{Refusal}
+use Rattle.format.specs.Refusals.{Verdict}
 
 pub shown_again : (c p : ℕ) → shown c (shown c p).bit ≡ shown c p
 shown_again c p = go (placed c)
   where
-    go : (b : Bool) → ◌≡◌ {A = Refusal} (record { code = c; bit = cond b (cond b p 0) 0 }) (record { code = c; bit = cond b p 0 })
+    go : (b : Bool) → ◌≡◌ {A = Verdict} (record { code = c; bit = cond b (cond b p 0) 0 }) (record { code = c; bit = cond b p 0 })
     go true = refl
     go false = refl
 
@@ -18,17 +18,17 @@ shown_again c p = go (placed c)
 pub shown_bare : (c : ℕ) → shown c 0 ≡ bare c
 shown_bare c = go (placed c)
   where
-    go : (b : Bool) → ◌≡◌ {A = Refusal} (record { code = c; bit = cond b 0 0 }) (bare c)
+    go : (b : Bool) → ◌≡◌ {A = Verdict} (record { code = c; bit = cond b 0 0 }) (bare c)
     go true = refl
     go false = refl
 
 -- number 0 is no refusal
-pub told_none : {A : Type 0} (o : Out A) {r : Refusal} → r ≡ told o → r.code ≡ 0 → r ≡ bare 0
+pub told_none : {A : Type 0} (o : Out A) {r : Verdict} → r ≡ told o → r.code ≡ 0 → r ≡ bare 0
 told_none (accepted a) e z = e
 told_none (refused c p) e z = e ∙ ap (λ c. shown c p) (ap (λ r. r.code) (sym e) ∙ z)
 
 -- What C takes apart is what was packed: a number below 256, and a bit below 2^24.
-pub unpacks : (r : Refusal) → r.code < 256 → r.bit < 2 ^ 24 → unpacked (packed r) ≡ r
+pub unpacks : (r : Verdict) → r.code < 256 → r.bit < 2 ^ 24 → unpacked (packed r) ≡ r
 unpacks r c b = λ i. record { code = low i; bit = high i }
   where
     small : r.bit % 2 ^ 24 ≡ r.bit
@@ -41,5 +41,5 @@ unpacks r c b = λ i. record { code = low i; bit = high i }
     high = rw small (omega (arith, c))
 
 -- A call for C that promises one refusal gives one number.
-pub one_packed : {P : Refusal → Type 0} → ((x y : Refusal) → P x → P y → x ≡ y) → {m n : ℕ} → Packs P m → Packs P n → m ≡ n
+pub one_packed : {P : Verdict → Type 0} → ((x y : Verdict) → P x → P y → x ≡ y) → {m n : ℕ} → Packs P m → Packs P n → m ≡ n
 one_packed same (x, a, p) (y, b, q) = a ∙ ap packed (same x y p q) ∙ sym b

@@ -7,14 +7,14 @@ use Rattle.bits.specs.Laws.Answers.{one_answer}
 use Rattle.format.specs.Fmt.{Out, accepted, refused, Spot, none, found}
 use Rattle.format.specs.Message.{Layout, told, leaves, into, write_message}
 use Rattle.format.specs.Refusals.{shown}
-use Rattle.format.specs.declared.Refusal.{Refusal}
+use Rattle.format.specs.Refusals.{Verdict}
 use Rattle.format.specs.Promises.{Writes}
 use Rattle.format.specs.Settled.{Stays, AsWritten, SettledAt, SettledBy, Settled}
 
 -- another promise of writing does, where it says as much of the changed record
 module _ {R : Type 0} (stands : R → Spot) (seal : Bool) (s : List ℕ) (v : ℕ) where
-  pub settled_with : (writes writes' : R → List ℕ → Refusal → List ℕ → Type 0) (o : Out R) (code : Refusal) (t : List ℕ)
-      → ((r : R) (p w : ℕ) → o ≡ accepted r → stands r ≡ found p w → (u : List ℕ) (d : Refusal) (x : List ℕ) → writes' r u d x → writes r u d x)
+  pub settled_with : (writes writes' : R → List ℕ → Verdict → List ℕ → Type 0) (o : Out R) (code : Verdict) (t : List ℕ)
+      → ((r : R) (p w : ℕ) → o ≡ accepted r → stands r ≡ found p w → (u : List ℕ) (d : Verdict) (x : List ℕ) → writes' r u d x → writes r u d x)
       → SettledBy writes stands seal s o v code t → SettledBy writes' stands seal s o v code t
   settled_with writes writes' (refused c p) code t f e = e
   settled_with writes writes' (accepted r) code t f e = at (stands r) refl e
@@ -28,7 +28,7 @@ module _ {R : Type 0} (stands : R → Spot) (seal : Bool) (s : List ℕ) (v : �
           by false e = e
 
 -- The endings exclude one another: two answers that one allows are equal, where writing a record into s answers something.
-module _ {R : Type 0} (writes : R → List ℕ → Refusal → List ℕ → Type 0) (stands : R → Spot) (seal : Bool) (s : List ℕ) (v : ℕ) (some : (r : R) → (d : Refusal) × (x : List ℕ) × writes r s d x) (c d : Refusal) (t u : List ℕ) where
+module _ {R : Type 0} (writes : R → List ℕ → Verdict → List ℕ → Type 0) (stands : R → Spot) (seal : Bool) (s : List ℕ) (v : ℕ) (some : (r : R) → (d : Verdict) × (x : List ℕ) × writes r s d x) (c d : Verdict) (t u : List ℕ) where
   one_written : (r : R) (p w : ℕ) → AsWritten (writes r) seal s p w v c t → AsWritten (writes r) seal s p w v d u → (c ≡ d) × (t ≡ u)
   one_written r p w x y = (same, go (eqb c.code 0) refl)
     where
@@ -52,7 +52,7 @@ module _ {R : Type 0} (writes : R → List ℕ → Refusal → List ℕ → Type
           by false x y = one_answer (λ c. s) x y
 
 -- So what `Settled` says decides the refusal and every byte, as the promise `Corrects` does.
-pub one_settled : {R : Type 0} (l : Layout) (spot_of : R → ℕ → Spot) (values_of : R → List ℕ) (changed : ℕ → ℕ → R → R) (s : List ℕ) (o : Out R) (i v : ℕ) (c d : Refusal) (t u : List ℕ)
+pub one_settled : {R : Type 0} (l : Layout) (spot_of : R → ℕ → Spot) (values_of : R → List ℕ) (changed : ℕ → ℕ → R → R) (s : List ℕ) (o : Out R) (i v : ℕ) (c d : Verdict) (t u : List ℕ)
     → Settled l spot_of values_of changed s o i v c t → Settled l spot_of values_of changed s o i v d u → (c ≡ d) × (t ≡ u)
 one_settled l spot_of values_of changed s o i v c d t u =
     one_ending (λ r u d x. Writes l u d x (values_of (changed i v r))) (λ r. spot_of r i) l.seal s v (λ r. let w = into s (write_message l (values_of (changed i v r))) in (told w, leaves w s, (refl, refl))) c d t u o

@@ -15,7 +15,7 @@ use Rattle.walk.specs.Laws.Reading.{start, step_code, step_limits, step_num}
 use Rattle.walk.specs.Laws.Step.{Reading}
 use Rattle.format.specs.Laws.Tells.{only_tells}
 use Rattle.format.specs.Laws.Zero.{Judged, only_numbered}
-use Rattle.walk.specs.declared.walk.Walk.{Walk}
+use Rattle.walk.specs.Walk.{Walk}
 use Rattle.frame.specs.Frame.{frame}
 use Rattle.frame.specs.Steps.{headed, head_judged, head_put}
 

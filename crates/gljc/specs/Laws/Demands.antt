@@ -7,7 +7,7 @@ use Rattle.frame.specs.Laws.Sound.{frame_sound}
 use Rattle.format.specs.Fmt.{accepted, read}
 use Rattle.format.specs.Settled.{Settled}
 use Rattle.format.specs.Refusals.{bare}
-use Rattle.format.specs.declared.Refusal.{Refusal}
+use Rattle.format.specs.Refusals.{Verdict}
 use Rattle.format.specs.Promises.{read_record, Writes, Corrects}
 use Rattle.format.specs.Laws.Answers.{good_read, answer_plain}
 use Rattle.format.specs.Laws.Entries.{entries, legal_entries}
@@ -75,10 +75,10 @@ unfolding gljcs
 written_reads s r t w = sym (ap answer_of (written_front family s r t 12 tt w (one_size gljcs 12 refl refl (values_of r))))
 
 -- What is read is written back as the same bytes.
-pub read_writes_back : (s : List ℕ) (r : Gljc) → Bytes s → Reads s (Good r) → (u : List ℕ) (code : Refusal) (t : List ℕ) → length s ≤ length u → Writes gljcs u code t (values_of r)
+pub read_writes_back : (s : List ℕ) (r : Gljc) → Bytes s → Reads s (Good r) → (u : List ℕ) (code : Verdict) (t : List ℕ) → length s ≤ length u → Writes gljcs u code t (values_of r)
     → (code ≡ bare 0) × (t ≡ s ++ drop (length s) u)
 read_writes_back s r fine a = read_written family s r fine (good s r a)
 
 -- Demand 3: every correction of a frame GLJC, by any number and any value.
-pub corrected : (s : List ℕ) (a : Answer) → Bytes s → Reads s a → (i v : ℕ) (code : Refusal) (t : List ℕ) → Corrects gljcs s i v code t → Settled gljcs (λ r. spot_of) values_of changed s (out_of a) i v code t
+pub corrected : (s : List ℕ) (a : Answer) → Bytes s → Reads s a → (i v : ℕ) (code : Verdict) (t : List ℕ) → Corrects gljcs s i v code t → Settled gljcs (λ r. spot_of) values_of changed s (out_of a) i v code t
 corrected s a fine reads i v code t c = settled family (λ r. spot_of) spotted s fine i v code t c (out_of a) (answer_plain Good Refused out_of (λ q. refl) (λ c. refl) (read_record gljcs record_of s) reads)

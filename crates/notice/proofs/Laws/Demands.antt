@@ -7,7 +7,7 @@ use Rattle.bits.specs.Laws.Bytes.{length_bytes, bytes_below}
 use Rattle.format.specs.Message.{ahead}
 use Rattle.format.specs.Promises.{Writes, Corrects}
 use Rattle.format.specs.Refusals.{bare}
-use Rattle.format.specs.declared.Refusal.{Refusal}
+use Rattle.format.specs.Refusals.{Verdict}
 use Rattle.format.specs.Laws.Family.{Family}
 use Rattle.format.proofs.Laws.Family.{written_read, read_written}
 use Rattle.format.specs.Settled.{Differs}
@@ -80,7 +80,7 @@ written_reads terms s r row t u fine w =
 
 module _ (terms : Terms) (s row text : List ℕ) (a : Told) (row' text' : List ℕ) (fine : Bytes s) (reads : Reads terms s row text (Good a) row' text') where
   -- What is read is written back as the same bytes.
-  pub read_writes_back : (u : List ℕ) (code : Refusal) (t : List ℕ) → length s ≤ length u → Writes (notices terms) u code t (values_of (whole_of a row' text')) → (code ≡ bare 0) × (t ≡ s ++ drop (length s) u)
+  pub read_writes_back : (u : List ℕ) (code : Verdict) (t : List ℕ) → length s ≤ length u → Writes (notices terms) u code t (values_of (whole_of a row' text')) → (code ≡ bare 0) × (t ≡ s ++ drop (length s) u)
   read_writes_back = read_written (family terms) s (whole_of a row' text') fine (good terms s row text a row' text' reads)
 
 -- An expiry that was corrected leaves the areas' count, four bits at 59, and every other bit: what stands before its own 21 bits, and what stands behind them.

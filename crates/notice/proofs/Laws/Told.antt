@@ -10,7 +10,7 @@ use Rattle.format.specs.Fmt.{accepted, refused, check, also, none, spot}
 use Rattle.format.specs.Message.{between, fault, told as Message·told, read_message}
 use Rattle.format.specs.Promises.{read_record}
 use Rattle.format.specs.Refusals.{shown}
-use Rattle.format.specs.declared.Refusal.{Refusal}
+use Rattle.format.specs.Refusals.{Verdict}
 use Rattle.bits.specs.Bits.{bytes_at}
 use Rattle.bits.specs.Laws.Runs.{bytes_run}
 use Rattle.format.specs.Correcting.{standing}
@@ -87,7 +87,7 @@ module _ (english : Bool) (i : ℕ) (s : List ℕ) (f : Course) (d : f ≡ cours
   walked_bad n = x.walked.so ∙ stuck f.walk _ n
 
   -- what reading tells is what the walk's refusal tells
-  pub walked_refusal : {r : Refusal} → r ≡ shown f.walk.code f.walk.offset → r ≡ Message·told (read_message (notices (ours english)) s)
+  pub walked_refusal : {r : Verdict} → r ≡ shown f.walk.code f.walk.offset → r ≡ Message·told (read_message (notices (ours english)) s)
   walked_refusal is = is ∙ go (eqb f.walk.code 0) refl
     where
       go : (t : Bool) → eqb f.walk.code 0 ≡ t → shown f.walk.code f.walk.offset ≡ Message·told (read_message (notices (ours english)) s)

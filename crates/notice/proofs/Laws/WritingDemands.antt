@@ -6,7 +6,7 @@ use Rattle.format.specs.Fmt.{accepted, refused, check}
 use Rattle.format.specs.Message.{fault, told as Message·told, read_message, write_message, ahead}
 use Rattle.format.specs.Promises.{plain, read_record, Writes, Corrects}
 use Rattle.format.specs.Refusals.{bare}
-use Rattle.format.specs.declared.Refusal.{Refusal}
+use Rattle.format.specs.Refusals.{Verdict}
 use Rattle.format.proofs.Laws.Family.{never_read, never_written, read_values}
 use Rattle.format.specs.Settled.{SettledBy}
 use Rattle.format.specs.Laws.Answers.{plain_good, code_plain}
@@ -57,7 +57,7 @@ module _ (terms : Terms) (s row text : List ℕ) (a : Told) (row' text' : List �
   lent = (read_values (family terms) s (whole_of a row' text') fine (good terms s row text a row' text' reads)).1
 
   -- What is read is written back as the same bytes, from the numbers that were read, whatever stands behind them in the row.
-  pub read_writes_back : (us u : List ℕ) (code : Refusal) (t : List ℕ) → length s ≤ length u → NoticeWrites terms u a.notice (take a.numbers row' ++ us) (take a.text text') code t
+  pub read_writes_back : (us u : List ℕ) (code : Verdict) (t : List ℕ) → length s ≤ length u → NoticeWrites terms u a.notice (take a.numbers row' ++ us) (take a.text text') code t
       → (code ≡ bare 0) × (t ≡ s ++ drop (length s) u)
   read_writes_back us u code t l x =
       let r = a.notice in
@@ -69,8 +69,8 @@ module _ (terms : Terms) (s row text : List ℕ) (a : Told) (row' text' : List �
 -- ---- demand 3
 
 -- Every correction of a notice, by any number and any value. Its own refusal is c; where that is none, a, row' and text' are what reading it gave.
-pub corrected : (terms : Terms) (s row text : List ℕ) (a : Told) (row' text' : List ℕ) → Bytes s → (c : Refusal) → c ≡ Message·told (read_message (notices terms) s) → (c.code ≡ 0 → Reads terms s row text (Good a) row' text')
-    → (i v : ℕ) (code : Refusal) (t : List ℕ) → Corrects (notices terms) s i v code t
+pub corrected : (terms : Terms) (s row text : List ℕ) (a : Told) (row' text' : List ℕ) → Bytes s → (c : Verdict) → c ≡ Message·told (read_message (notices terms) s) → (c.code ≡ 0 → Reads terms s row text (Good a) row' text')
+    → (i v : ℕ) (code : Verdict) (t : List ℕ) → Corrects (notices terms) s i v code t
     → SettledBy (λ x u d y. let z = changed i v x in NoticeWrites terms u z.0 z.1.0 z.1.1 d y) (λ x. spot_of terms.point x i) false s (check (fault c.code) c.bit (accepted (whole_of a row' text'))) v code t
 unfolding notices
 corrected terms s row text a row' text' fine c own reads i v code t corrects =

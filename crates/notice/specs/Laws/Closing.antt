@@ -17,7 +17,7 @@ use Rattle.walk.specs.Laws.Along.{Going}
 use Rattle.walk.specs.Laws.Reading.{step_rest}
 use Rattle.walk.specs.Laws.Step.{Steps, stuck, step_late}
 use Rattle.walk.specs.Laws.Walked.{Walked, finish, same_values}
-use Rattle.walk.specs.declared.walk.Walk.{Walk}
+use Rattle.walk.specs.Walk.{Walk}
 use Rattle.packet.specs.Packet.{joined}
 use Rattle.text.specs.Text.{in_language}
 use Rattle.notice.specs.Notice.{ours, text}

@@ -4,7 +4,7 @@ use Rattle.std.proofs.Common.{sym, ap, ap₂, ◌∙◌, append-nil, arith, take
 use Rattle.format.specs.Fmt.{Out, accepted, refused, check, or_bad}
 use Rattle.format.specs.Message.{read_message, ahead}
 use Rattle.format.specs.Promises.{answered, read_record}
-use Rattle.format.specs.declared.Refusal.{Refusal}
+use Rattle.format.specs.Refusals.{Verdict}
 use Rattle.format.proofs.Laws.Legal.{legal}
 use Rattle.format.specs.Laws.Round.{also_inv}
 use Rattle.format.proofs.Laws.Round.{read_write}
@@ -61,7 +61,7 @@ whole_of a row text = (a.notice, (take a.numbers row, take a.text text))
 pub good : (terms : Terms) (s row text : List ℕ) (a : Told) (row' text' : List ℕ) → Reads terms s row text (Good a) row' text' → read_record (notices terms) record_of s ≡ accepted (whole_of a row' text')
 good terms s row text a row' text' (x, y, z) = go (read_record (notices terms) record_of s) x y z
   where
-    clash : {X : Type 0} {c : Refusal} → Good a ≡ Refused c → X
+    clash : {X : Type 0} {c : Verdict} → Good a ≡ Refused c → X
     clash e = let z : ◌≡◌ {A = ℕ} 0 1 = cc in absurd (omega arith)
 
     fits : (q : Whole) → Good a ≡ Good (told_of q) → row' ≡ ahead q.1.0 row → text' ≡ ahead q.1.1 text → q ≡ whole_of a row' text'

@@ -16,7 +16,7 @@ use Rattle.walk.specs.Walk.{onward}
 use Rattle.walk.specs.Laws.Judging.{Judging, Judged, judge_bytes, judge_beyond, judge_end}
 use Rattle.walk.specs.Laws.Loops.{Going}
 use Rattle.walk.specs.Laws.Step.{clear, stuck}
-use Rattle.walk.specs.declared.walk.Walk.{Walk}
+use Rattle.walk.specs.Walk.{Walk}
 use Rattle.text.specs.Text.{in_language}
 use Rattle.notice_fields.specs.Making.{fresh}
 use Rattle.notice_fields.specs.Standing.{front}

@@ -11,7 +11,7 @@ use Rattle.format.specs.Fmt.{accepted, refused}
 use Rattle.format.specs.Message.{read_message, ahead}
 use Rattle.format.specs.Promises.{read_record}
 use Rattle.format.specs.Refusals.{shown, bare}
-use Rattle.format.specs.declared.Refusal.{Refusal}
+use Rattle.format.specs.Refusals.{Verdict}
 use Rattle.bits.specs.Bits.{bytes_at}
 use Rattle.bits.specs.Answers.{gettable}
 use Rattle.bits.specs.Laws.Runs.{length_run}
@@ -46,7 +46,7 @@ unfolding text_of
 told r xs t fine = recorded r xs (length t) (value_of (bits_of t)) ∙ ap (λ t. (r, (xs, t))) (run_again t fine)
 
 module _ (terms : Terms) (s a t : List ℕ) where
-  pub reads_refused : {c p : ℕ} {r : Refusal} → r ≡ shown c p → read_record (notices terms) record_of s ≡ refused c p → Reads terms s a t (Refused r) a t
+  pub reads_refused : {c p : ℕ} {r : Verdict} → r ≡ shown c p → read_record (notices terms) record_of s ≡ refused c p → Reads terms s a t (Refused r) a t
   reads_refused is e = rw e (ap Refused is, refl, refl)
 
   module _ {x : Whole} (e : read_record (notices terms) record_of s ≡ accepted x) where

@@ -5,18 +5,18 @@ use Rattle.std.proofs.Common.{sym, ap, ◌∙◌, arith, eqb-true}
 use Rattle.format.specs.Fmt.{accepted, write}
 use Rattle.format.specs.Promises.{room_for}
 use Rattle.format.specs.Refusals.{bare}
-use Rattle.format.specs.declared.Refusal.{Refusal}
+use Rattle.format.specs.Refusals.{Verdict}
 use Rattle.format.specs.Laws.Putting.{Puts}
 use Rattle.walk.specs.Judging.{beyond, closing}
 use Rattle.walk.specs.Laws.RowsMade.{Closes, closes, row_refused, row_stands}
 use Rattle.walk.specs.Laws.Step.{clear}
-use Rattle.walk.specs.declared.walk.Walk.{Walk}
+use Rattle.walk.specs.Walk.{Walk}
 use Rattle.notice_fields.specs.Row.{areas_long}
 use Rattle.packet.specs.Packet.{joined}
 use Rattle.notice.specs.Notice.{ours, notice, notices}
 use Rattle.notice.specs.Record.{values_of}
 use Rattle.notice.specs.declared.reading.Notice.{Notice}
-use Rattle.walk.specs.declared.making.Stepped.{Stepped}
+use Rattle.walk.specs.Walk.{Stepped}
 use Rattle.notice.specs.Making.{NoticeJudged}
 use Rattle.notice.specs.WritingPromises.{NoticeWrites}
 
@@ -29,7 +29,7 @@ before_text w r = go (eqb r.code 0) refl
     go true e z = eqb-true r.code 0 e
     go false e z = z
 
-module _ (english : Bool) (s : List ℕ) (r : Notice) (areas text : List ℕ) (st : Stepped) (x : NoticeJudged english r areas text st) {room : ℕ} {code : Refusal}
+module _ (english : Bool) (s : List ℕ) (r : Notice) (areas text : List ℕ) (st : Stepped) (x : NoticeJudged english r areas text st) {room : ℕ} {code : Verdict}
     (is : room ≡ room_for (length areas) st.next (length s)) (e : code ≡ closing false 8 joined room (beyond (length text * 8) 0 st.walk)) where
   abbrev pub all : Walk
   all = beyond (length text * 8) 0 st.walk

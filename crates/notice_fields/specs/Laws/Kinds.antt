@@ -1,7 +1,7 @@
 -- The kind of an area by its number, and what the code does for it. Assumes nothing.
 use Rattle.std.specs.Prelude.{ℕ, ◌≡◌, refl, Bool, true, false, cond, List, eqb}
 use Rattle.std.proofs.Common.{eq-eqb, ne_eqb}
-use Rattle.walk.specs.declared.walk.Walk.{Walk}
+use Rattle.walk.specs.Walk.{Walk}
 use Rattle.notice_fields.specs.Areas.{sea, circle, several, least_of, kind_of}
 use Rattle.notice_fields.specs.Steps.{closed_as}
 

@@ -9,7 +9,7 @@ use Rattle.walk.specs.Laws.Judging.{Judging}
 use Rattle.walk.specs.Laws.Parts.{step_group}
 use Rattle.walk.specs.Laws.Pieces.{Matches, parts_match, zero_match, piecewise_v, piecewise_width, judge_group}
 use Rattle.walk.specs.Laws.Step.{Reading}
-use Rattle.walk.specs.declared.walk.Walk.{Walk}
+use Rattle.walk.specs.Walk.{Walk}
 use Rattle.notice_fields.specs.Parts.{moment, expiry, angle, latitude_bits, longitude_bits}
 use Rattle.notice_fields.specs.Terms.{angle_coded}
 use Rattle.notice_fields.specs.PartsSteps.{expiry_pieces, expiry_judged, expiry_read}

@@ -8,7 +8,7 @@ use Rattle.walk.specs.Groups.{single, repeat_walked, repeat_at}
 use Rattle.walk.specs.Laws.Along.{Along, stay}
 use Rattle.walk.specs.Laws.Groups.{Stretch, valued, number, parted as Groups·parted, guard, follows, decides, repeats, at_most, evenly, counts_evenly, walk_turn}
 use Rattle.walk.specs.Reading.{ranged}
-use Rattle.walk.specs.declared.walk.Walk.{Walk}
+use Rattle.walk.specs.Walk.{Walk}
 use Rattle.notice_fields.specs.declared.areas.Opened.{Opened}
 use Rattle.notice_fields.specs.Areas.{Kind, sea, circle, several, kind_of, inside, area, areas}
 use Rattle.notice_fields.specs.Parts.{parted, angle, latitude_bits, longitude_bits, point_bits}

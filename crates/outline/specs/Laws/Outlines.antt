@@ -9,7 +9,7 @@ use Rattle.std.proofs.lemmas.Bool.{lt-leb}
 use Rattle.format.specs.Fmt.{Out, accepted, refused, check, or_bad, also}
 use Rattle.format.specs.Message.{read_message, leaves, into}
 use Rattle.format.specs.Refusals.{shown, bare}
-use Rattle.format.specs.declared.Refusal.{Refusal}
+use Rattle.format.specs.Refusals.{Verdict}
 use Rattle.format.proofs.Laws.Zero.{read_zero_message}
 use Rattle.notice.specs.Notice.{ours, notices}
 use Rattle.notice.specs.Record.{Whole, record_of}
@@ -19,7 +19,7 @@ use Rattle.outline.specs.declared.Answer.{Answer}
 use Rattle.outline.specs.declared.Answer.TheVariants.{Good, Refused}
 
 module _ (english : Bool) (s : List ℕ) (row : List ℤ) where
-  pub outlines_refused : {c p : ℕ} {r : Refusal} → r ≡ shown c p → told english s ≡ refused c p → Outlines english s row (Refused r) row
+  pub outlines_refused : {c p : ℕ} {r : Verdict} → r ≡ shown c p → told english s ≡ refused c p → Outlines english s row (Refused r) row
   outlines_refused is e = rw e (ap Refused is, refl)
 
   module _ {x : Whole} (e : told english s ≡ accepted x) where
@@ -39,7 +39,7 @@ module _ (english : Bool) (s : List ℕ) (row : List ℤ) where
   one_outline a b t u f g = (f.0 ∙ sym g.0, f.1 ∙ sym g.1)
 
   -- a refusal leaves the row as it was
-  pub refused_outline : (c : Refusal) (t : List ℤ) → Outlines english s row (Refused c) t → t ≡ row
+  pub refused_outline : (c : Verdict) (t : List ℤ) → Outlines english s row (Refused c) t → t ≡ row
   refused_outline c t f = go (drawn english s row) f.0 f.1
     where
       go : (o : Out (List ℤ)) → Refused c ≡ answer_of (also (λ t. points_told english s) o) → t ≡ leaves o row → t ≡ row
@@ -47,7 +47,7 @@ module _ (english : Bool) (s : List ℕ) (row : List ℤ) where
       go (refused d p) a e = e
 
   -- no refusal has the number 0
-  pub no_zero_outline : (c : Refusal) (t : List ℤ) → c.code ≡ 0 → Outlines english s row (Refused c) t → ⊥
+  pub no_zero_outline : (c : Verdict) (t : List ℤ) → c.code ≡ 0 → Outlines english s row (Refused c) t → ⊥
   unfolding notices
   no_zero_outline c t z f = go (read_message (notices (ours english)) s) refl f.0
     where

@@ -7,7 +7,7 @@ use Rattle.format.specs.Fmt.{accepted, also}
 use Rattle.format.specs.Message.{write_message}
 use Rattle.format.specs.Settled.{Settled}
 use Rattle.format.specs.Refusals.{bare}
-use Rattle.format.specs.declared.Refusal.{Refusal}
+use Rattle.format.specs.Refusals.{Verdict}
 use Rattle.format.specs.Promises.{answered, read_record, Writes, Corrects}
 use Rattle.format.specs.Laws.Answers.{good_shown, shown_plain}
 use Rattle.format.specs.Laws.Entries.{entries}
@@ -82,12 +82,12 @@ written_reads s r c t fine w =
     (sym (ap answer_of e), sym (ap (answered (λ r. r.1) (λ n. [])) e))
 
 -- What is read and shown is written back as the same bytes.
-pub read_writes_back : (s : List ℕ) (r : Packet) (c : List ℕ) → Bytes s → Reads s (Good r) → Shows s c → (u : List ℕ) (code : Refusal) (t : List ℕ) → length s ≤ length u → Writes packets u code t (values_of (r, c))
+pub read_writes_back : (s : List ℕ) (r : Packet) (c : List ℕ) → Bytes s → Reads s (Good r) → Shows s c → (u : List ℕ) (code : Verdict) (t : List ℕ) → length s ≤ length u → Writes packets u code t (values_of (r, c))
     → (code ≡ bare 0) × (t ≡ s ++ drop (length s) u)
 read_writes_back s r c fine a b = read_written family s (r, c) fine (good s r c a b)
 
 -- Demand 3: every correction of a packet, by any number and any value; the content c that it shows stays.
-pub corrected : (s : List ℕ) (a : Answer) (c : List ℕ) → Bytes s → Reads s a → Shows s c → (i v : ℕ) (code : Refusal) (t : List ℕ) → Corrects packets s i v code t
+pub corrected : (s : List ℕ) (a : Answer) (c : List ℕ) → Bytes s → Reads s a → Shows s c → (i v : ℕ) (code : Verdict) (t : List ℕ) → Corrects packets s i v code t
     → Settled packets (λ r. spot_of) values_of changed s (also (λ r. (r, c)) (out_of a)) i v code t
 corrected s a c fine reads shows i v code t x =
     settled family (λ r. spot_of) spotted s fine i v code t x (also (λ r. (r, c)) (out_of a)) (shown_plain Good Refused out_of (λ q. refl) (λ c. refl) (read_record packets record_of s) reads shows)

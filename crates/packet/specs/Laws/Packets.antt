@@ -10,7 +10,7 @@ use Rattle.format.specs.Fmt.{Out, accepted, or_bad, check}
 use Rattle.format.specs.Message.{between, told, leaves, into, write_message}
 use Rattle.format.specs.Promises.{read_record, Writes}
 use Rattle.format.specs.Refusals.{bare}
-use Rattle.format.specs.declared.Refusal.{Refusal}
+use Rattle.format.specs.Refusals.{Verdict}
 use Rattle.format.specs.Laws.Refusals.{told_none}
 use Rattle.format.specs.Laws.Family.{refused_stands}
 use Rattle.packet.specs.Packet.{part_bytes_of, joined, packets, values_of, record_of}
@@ -66,7 +66,7 @@ module _ (english : Bool) (number : ℕ) (c : List ℕ) where
 
   -- ---- what `split` answers
 
-  module _ (s : List ℕ) (k : ℕ) (code : Refusal) (t : List ℕ) (e : Splits s c english number k code t) where
+  module _ (s : List ℕ) (k : ℕ) (code : Verdict) (t : List ℕ) (e : Splits s c english number k code t) where
     -- The content's size (1), a number past the last packet (4), room (6), and no other refusal: none has a bit.
     pub split_code : number < 256 → code ≡ bare (cond (between 1 joined (length c)) (cond (nat_lt k (packet_count (length c))) (cond (nat_le (4 + length (part_of c k)) (length s)) 0 6) 4) 1)
     unfolding splitting
@@ -108,5 +108,5 @@ module _ (english : Bool) (number : ℕ) (c : List ℕ) where
     split_reads fine z = written_reads s (packet_of english number c k).0 (part_of c k) t (part_bytes k fine) (split_writes z)
 
     -- Two answers that the promise allows are equal.
-    pub one_split : (code' : Refusal) (t' : List ℕ) → Splits s c english number k code' t' → (code ≡ code') × (t ≡ t')
+    pub one_split : (code' : Verdict) (t' : List ℕ) → Splits s c english number k code' t' → (code ≡ code') × (t ≡ t')
     one_split code' t' e' = (e.0 ∙ sym e'.0, e.1 ∙ sym e'.1)

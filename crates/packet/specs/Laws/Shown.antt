@@ -16,7 +16,7 @@ use Rattle.format.proofs.Laws.Round.{read_write}
 use Rattle.format.specs.Laws.Runs.{run_stands}
 use Rattle.format.proofs.Laws.Showing.{shows_none, shows_values}
 use Rattle.format.proofs.Laws.Whole.{was}
-use Rattle.format.specs.declared.Refusal.{Refusal}
+use Rattle.format.specs.Refusals.{Verdict}
 use Rattle.packet.specs.Promises.{Reads, Shows}
 use Rattle.packet.specs.Packet.{packet, packets, record_of, refusal_of}
 use Rattle.packet.specs.declared.reading.Answer.{Answer}
@@ -24,7 +24,7 @@ use Rattle.packet.specs.declared.reading.Answer.TheVariants.{Good, Refused}
 use Rattle.packet.specs.Laws.Demands.{family}
 use Rattle.packet.specs.Laws.Sound.{listed}
 
-module _ (s : List ℕ) {a : Answer} {n : Refusal} (reads : Reads s a) (number : n ≡ refusal_of a) where
+module _ (s : List ℕ) {a : Answer} {n : Verdict} (reads : Reads s a) (number : n ≡ refusal_of a) where
   -- a refused packet shows nothing
   pub hidden : (n.code ≢ 0) → Shows s []
   hidden = shows_none packets family.judged (λ r. Good r.0) Refused record_of refusal_of (λ r. refl) (λ c. refl) (λ r. r.1) [] s reads number

@@ -11,7 +11,7 @@ use Rattle.format.specs.Fmt.{Out, accepted, refused}
 use Rattle.format.specs.Message.{ahead, told}
 use Rattle.format.specs.Promises.{answered, read_record}
 use Rattle.format.specs.Refusals.{shown, bare}
-use Rattle.format.specs.declared.Refusal.{Refusal}
+use Rattle.format.specs.Refusals.{Verdict}
 use Rattle.format.proofs.Laws.Family.{never_read}
 use Rattle.packet.specs.Packet.{packets, record_of}
 use Rattle.packet.specs.Laws.Demands.{family}
@@ -170,7 +170,7 @@ module _ (ps : List Place) (s : List ℕ) where
 
 module _ {ps : List Place} {s m : List ℕ} where
   pub accepting_away : {o : Accepting} → Accepted ps s m o → ((refusal_of o.reply).code ≡ 0 → ⊥) → o ≡ turned_away s (refusal_of o.reply)
-  accepting_away (takes y reads tests o z) h = absurd (h (ap (λ (r : Refusal). r.code) (takes_zero z)))
+  accepting_away (takes y reads tests o z) h = absurd (h (ap (λ (r : Verdict). r.code) (takes_zero z)))
   accepting_away (unread c p e n) h = refl
   accepting_away (away x e code n) h = refl
 
@@ -180,7 +180,7 @@ module _ {ps : List Place} {s m : List ℕ} where
   accepting_in (away x e code n) z = absurd (n z)
 
   pub accepting_bit : {o : Accepting} → Accepted ps s m o → (refusal_of o.reply).bit ≡ (told (read_record packets record_of m)).bit
-  accepting_bit (takes x e tests o z) = ap (λ (r : Refusal). r.bit) (takes_zero z) ∙ ap (λ o. (told o).bit) (sym e)
+  accepting_bit (takes x e tests o z) = ap (λ (r : Verdict). r.bit) (takes_zero z) ∙ ap (λ o. (told o).bit) (sym e)
   accepting_bit (unread c p e n) = ap (λ o. (told o).bit) (sym e)
   accepting_bit (away x e code n) = ap (λ o. (told o).bit) (sym e)
 

@@ -8,7 +8,7 @@ use Rattle.format.specs.Fmt.{Out, accepted, refused, also}
 use Rattle.format.specs.Message.{told, leaves, into, write_message}
 use Rattle.format.specs.Refusals.{shown, bare}
 use Rattle.format.specs.Laws.Refusals.{shown_bare}
-use Rattle.format.specs.declared.Refusal.{Refusal}
+use Rattle.format.specs.Refusals.{Verdict}
 use Rattle.format.proofs.Laws.Whole.{made}
 use Rattle.format.proofs.Laws.Family.{never_written}
 use Rattle.format.specs.Promises.{read_record, Writes}
@@ -72,11 +72,11 @@ unfolding reports
 bytewise vs bs e = let m = made reports bs vs e in record { long = long vs bs e; fine = subst Bytes m.closes m.fine }
 
 -- what writing into 17 bytes says
-pub record Reported (r : Report) (code : Refusal) (t : List ℕ) : Type 0 where
+pub record Reported (r : Report) (code : Verdict) (t : List ℕ) : Type 0 where
   pub good : code.code ≡ 0 → write_message reports (values_of r) ≡ accepted t
   pub bad : (code.code ≡ 0 → ⊥) → code ≡ told (write_message reports (values_of r))
 
-pub reported : (u : List ℕ) (r : Report) (code : Refusal) (t : List ℕ) → length u ≡ 17 → Writes reports u code t (values_of r) → Reported r code t
+pub reported : (u : List ℕ) (r : Report) (code : Verdict) (t : List ℕ) → length u ≡ 17 → Writes reports u code t (values_of r) → Reported r code t
 reported u r code t n (z, x) = go (write_message reports (values_of r)) refl z x
   where
     go : (o : Out (List ℕ)) → write_message reports (values_of r) ≡ o → code ≡ told (into u o) → t ≡ leaves (into u o) u → Reported r code t
@@ -98,7 +98,7 @@ module _ (s : List ℕ) (a : ℕ) (r : Report) where
   bad_address e = sends s a r (refused 4 0) (rw e refl)
 
   module _ (good : address_good a ≡ true) where
-    pub bad_report : (c : Refusal) → (c.code ≡ 0 → ⊥) → c ≡ told (write_message reports (values_of r)) → Sends s a r (Unsent c) s
+    pub bad_report : (c : Verdict) → (c.code ≡ 0 → ⊥) → c ≡ told (write_message reports (values_of r)) → Sends s a r (Unsent c) s
     unfolding write_sentence
     bad_report c h e = go (write_message reports (values_of r)) refl e
       where

@@ -4,7 +4,7 @@ use Rattle.std.proofs.Math.Bool.{and-eq-true_iff}
 use Rattle.std.proofs.Common.{sym, ap, ◌∙◌, arith, take_at, leb-true}
 use Rattle.format.specs.Fmt.{Out, accepted, refused, or_bad, check, also}
 use Rattle.format.specs.Message.{write_message}
-use Rattle.format.specs.declared.Refusal.{Refusal}
+use Rattle.format.specs.Refusals.{Verdict}
 use Rattle.format.proofs.Laws.Family.{never_read, never_written, written_record}
 use Rattle.format.specs.Promises.{read_record}
 use Rattle.distress.proofs.Laws.Demands.{family}
@@ -129,7 +129,7 @@ no_zero_sent {n} s a r t (d, l) = go (address_good a) (write_message reports (va
 
 -- ---- a refusal leaves the buffer
 
-pub refused_sending : (s : List ℕ) (a : ℕ) (r : Report) (c : Refusal) (t : List ℕ) → Sends s a r (Unsent c) t → t ≡ s
+pub refused_sending : (s : List ℕ) (a : ℕ) (r : Report) (c : Verdict) (t : List ℕ) → Sends s a r (Unsent c) t → t ≡ s
 refused_sending s a r c t (d, l) = go (room_for s (write_sentence a r)) d l
   where
     go : (o : Out (List ℕ)) → Unsent c ≡ sent_of o → t ≡ laid_over o s → t ≡ s

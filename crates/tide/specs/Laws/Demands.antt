@@ -6,7 +6,7 @@ use Rattle.format.specs.Fmt.{Out, accepted, refused, check, or_bad, end, none, f
 use Rattle.format.specs.Groups.{repeat}
 use Rattle.format.specs.Message.{ahead}
 use Rattle.format.specs.Promises.{answered, read_record}
-use Rattle.format.specs.declared.Refusal.{Refusal}
+use Rattle.format.specs.Refusals.{Verdict}
 use Rattle.format.specs.Laws.Correct.{none_clash, later_inv}
 use Rattle.format.specs.Laws.Family.{Family}
 use Rattle.format.specs.Laws.Groups.{told_exact, told_again}
@@ -162,7 +162,7 @@ whole_of a row = (a.tide, take a.numbers row)
 pub good : (s row : List ℕ) (a : Told) (row' : List ℕ) → Reads s row (Good a) row' → read_record tides record_of s ≡ accepted (whole_of a row')
 good s row a row' (x, y) = go (read_record tides record_of s) x y
   where
-    clash : {X : Type 0} {c : Refusal} → Good a ≡ Refused c → X
+    clash : {X : Type 0} {c : Verdict} → Good a ≡ Refused c → X
     clash e = let z : ◌≡◌ {A = ℕ} 0 1 = cc in absurd (omega arith)
 
     fits : (q : Whole) → Good a ≡ Good (told_of q) → row' ≡ ahead q.1 row → q ≡ whole_of a row'

@@ -14,8 +14,8 @@ use Rattle.walk.specs.Reading.{ranged, grouped}
 use Rattle.walk.specs.Walk.{onward}
 use Rattle.walk.specs.Laws.Parts.{lying_whole}
 use Rattle.walk.specs.Laws.Reading.{got_lt}
-use Rattle.walk.specs.declared.pieces.Pieces.{Pieces}
-use Rattle.walk.specs.declared.walk.Walk.{Walk}
+use Rattle.walk.specs.Pieces.{Pieces}
+use Rattle.walk.specs.Walk.{Walk}
 use Rattle.notice_fields.specs.Parts.{moment}
 use Rattle.notice_fields.specs.PartsSteps.{time_read}
 use Rattle.tide.specs.Entries.{Good, word_at, AllGood, Unsought, passed, Passes}

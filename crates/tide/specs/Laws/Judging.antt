@@ -13,8 +13,8 @@ use Rattle.walk.specs.Laws.Loops.{JudgesAlong, going, step_near}
 use Rattle.walk.specs.Laws.Pieces.{judge_group}
 use Rattle.walk.specs.Laws.Rows.{here}
 use Rattle.walk.specs.Laws.RowsJudged.{Judges, step_good, judges_number, judges_next, judges_decided, judges_counted, judges_most, judges_repeated}
-use Rattle.walk.specs.declared.making.Stepped.{Stepped}
-use Rattle.walk.specs.declared.walk.Walk.{Walk}
+use Rattle.walk.specs.Walk.{Stepped}
+use Rattle.walk.specs.Walk.{Walk}
 use Rattle.notice_fields.specs.Terms.{point}
 use Rattle.notice_fields.specs.Making.{point_judged}
 use Rattle.notice_fields.specs.Parts.{point_bits}

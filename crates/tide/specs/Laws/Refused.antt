@@ -4,7 +4,7 @@ use Rattle.std.proofs.Common.{sym, ap, ◌∙◌, arith, leb-true}
 use Rattle.format.specs.Fmt.{Out, accepted, refused, check, or_bad, also}
 use Rattle.format.specs.Message.{told, into, leaves, ahead}
 use Rattle.format.specs.Promises.{answered, read_record}
-use Rattle.format.specs.declared.Refusal.{Refusal}
+use Rattle.format.specs.Refusals.{Verdict}
 use Rattle.format.specs.Laws.Answers.{bad_refuses}
 use Rattle.format.proofs.Laws.Family.{never_read}
 use Rattle.format.specs.Laws.Lent.{tested_zero}
@@ -43,7 +43,7 @@ module _ (s row : List ℕ) (a : Answer) (row' : List ℕ) (e : Reads s row a ro
 
 module _ (s : List ℕ) (row t : List ℤ) where
   -- A refusal leaves the row.
-  pub refused_showing : (c : Refusal) → Shows s row (HeightsRefused c) t → t ≡ row
+  pub refused_showing : (c : Verdict) → Shows s row (HeightsRefused c) t → t ≡ row
   refused_showing c f = go (shown s row) f.0 f.1
     where
       go : (o : Out (List ℤ)) → HeightsRefused c ≡ heights_answer (also (λ t. length (leaves (heights_read s) [])) o) → t ≡ leaves o row → t ≡ row
@@ -51,7 +51,7 @@ module _ (s : List ℕ) (row t : List ℤ) where
       go (refused d p) a e = e
 
   -- No refusal has the number 0.
-  pub no_zero_showing : (c : Refusal) → Shows s row (HeightsRefused c) t → c.code ≡ 0 → ⊥
+  pub no_zero_showing : (c : Verdict) → Shows s row (HeightsRefused c) t → c.code ≡ 0 → ⊥
   no_zero_showing c f z =
       let (q, is, so) = bad_refuses HeightsGood HeightsRefused out_of (λ n. refl) (λ c. refl) (λ n. n) (counted s row) f.0 in
       go (read_record tides record_of s) refl q (is ∙ ap (λ c. refused c q) z)

@@ -11,7 +11,7 @@ use Rattle.walk.specs.Pieces.{unpieced, piecewise}
 use Rattle.walk.specs.Reading.{grouped}
 use Rattle.walk.specs.Rows.{even_judged}
 use Rattle.walk.specs.Walk.{onward}
-use Rattle.walk.specs.declared.walk.Walk.{Walk}
+use Rattle.walk.specs.Walk.{Walk}
 use Rattle.notice_fields.specs.Parts.{moment}
 use Rattle.notice_fields.specs.PartsSteps.{time_judged}
 use Rattle.tide.specs.Making.{level_judged, entry_judged, entries_judged, three_put, entry_put}

@@ -5,7 +5,7 @@ use Rattle.bits.specs.Answers.{got}
 use Rattle.format.specs.Fmt.{Out, accepted, refused, check, or_bad, also}
 use Rattle.format.specs.Message.{told, leaves, into, ahead, read_message}
 use Rattle.format.specs.Promises.{read_record}
-use Rattle.format.specs.declared.Refusal.{Refusal}
+use Rattle.format.specs.Refusals.{Verdict}
 use Rattle.format.specs.Laws.Lead.{read_led}
 use Rattle.format.specs.Laws.Round.{also_inv, accepted_inj}
 use Rattle.walk.specs.Walk.{onward}
@@ -29,7 +29,7 @@ read_stands s x e =
     let (vs, m, k) = also_inv record_of (read_message tides s) e in
     let zero : (told (read_message tides s)).code ≡ 0 = ap (λ o. (told o).code) m in
     let f = course_of 0 s in
-    let good = walked_good 0 s f refl (ap (λ (r : Refusal). r.code) (walked_told 0 s f refl) ∙ zero) in
+    let good = walked_good 0 s f refl (ap (λ (r : Verdict). r.code) (walked_told 0 s f refl) ∙ zero) in
     let n : f.tide.count ≡ got s 12 9 = count_stands s (read_led tides s zero) in
     accepted_inj (sym e ∙ good) ∙ (λ i. (record { count = n i }, records_at s (n i) front))
 

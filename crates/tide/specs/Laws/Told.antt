@@ -13,7 +13,7 @@ use Rattle.format.specs.Fmt.{Out, accepted, refused, check, also, Fmt, spot, end
 use Rattle.format.specs.Message.{fault, told, read_message, ahead}
 use Rattle.format.specs.Promises.{read_record}
 use Rattle.format.specs.Refusals.{shown, bare}
-use Rattle.format.specs.declared.Refusal.{Refusal}
+use Rattle.format.specs.Refusals.{Verdict}
 use Rattle.format.specs.Words.{◌‥◌}
 use Rattle.format.specs.Laws.Lead.{read_first, held_back, read_led}
 use Rattle.format.specs.Laws.Round.{accepted_inj}
@@ -24,7 +24,7 @@ use Rattle.walk.specs.Laws.Along.{Going, going}
 use Rattle.walk.specs.Laws.Reading.{start, step_code, step_decide, got_lt}
 use Rattle.walk.specs.Laws.Step.{clear, stuck}
 use Rattle.walk.specs.Laws.Walked.{Walked, finish, same_values}
-use Rattle.walk.specs.declared.walk.Walk.{Walk}
+use Rattle.walk.specs.Walk.{Walk}
 use Rattle.tide.specs.Promises.{told_of, Reads}
 use Rattle.tide.specs.Record.{Whole, leading, record_of}
 use Rattle.tide.specs.Shapes.{filled}
@@ -183,12 +183,12 @@ module _ (i : ℕ) (s : List ℕ) (f : Course) (d : f ≡ course_of i s) where
   -- the field i of a telegram that was read stands where the walk found it
   pub stands : (vs : List ℕ) → read_message tides s ≡ accepted vs → spot tides.fmt [] vs i ≡ standing f.walk.spot f.walk.width
   stands vs a =
-      let c : f.walk.code ≡ 0 = ap (λ (r : Refusal). r.code) (walked_told ∙ ap told a) in
+      let c : f.walk.code ≡ 0 = ap (λ (r : Verdict). r.code) (walked_told ∙ ap told a) in
       let same = accepted_inj (sym (x.walked.so ∙ clear f.walk _ c) ∙ a) in
       ap (λ vs. spot tides.fmt [] vs i) (sym same) ∙ x.walked.spots c
 
   -- of what was read, and of all that is as long, the fields' walk is the fields' answer
   pub fields_again : f.walk.code ≡ 0 → (t : List ℕ) → length t ≡ length s → {g : Course} → g ≡ behind t (head_read 0 t) → shown g.walk.code g.walk.offset ≡ told (fields_read t)
   fields_again z t e d =
-      let small : length s ≤ 210 = lead_small s (read_led tides s (ap (λ (r : Refusal). r.code) (sym walked_told) ∙ z)) in
+      let small : length s ≤ 210 = lead_small s (read_led tides s (ap (λ (r : Verdict). r.code) (sym walked_told) ∙ z)) in
       ap (λ (g : Course). shown g.walk.code g.walk.offset) d ∙ walked_refusal (behind_walked 0 t (omega (arith, e, small)))

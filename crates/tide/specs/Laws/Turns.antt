@@ -4,7 +4,7 @@ use Rattle.std.proofs.Common.{sym, ap, ◌∙◌}
 use Rattle.walk.specs.Groups.{repeat_walked}
 use Rattle.walk.specs.Reading.{ranged}
 use Rattle.walk.specs.Laws.Groups.{walk_turn}
-use Rattle.walk.specs.declared.walk.Walk.{Walk}
+use Rattle.walk.specs.Walk.{Walk}
 use Rattle.tide.specs.Steps.{count_read, opened_at, entry_read, entry_step, entries_step, record_step, records_walked}
 
 -- over one entry, and by `next` behind the last: a refused one ends it

@@ -11,7 +11,7 @@ use Rattle.walk.specs.Reading.{ranged}
 use Rattle.walk.specs.Laws.Along.{Along, Going, going, fronted, stay, then, under, ranged_v, ranged_at}
 use Rattle.walk.specs.Laws.Groups.{Stretch, valued, number, parted, guard, follows, decides, repeats, evenly, at_most}
 use Rattle.walk.specs.Laws.Reading.{step_num, step_limits}
-use Rattle.walk.specs.declared.walk.Walk.{Walk}
+use Rattle.walk.specs.Walk.{Walk}
 use Rattle.notice_fields.specs.Terms.{point}
 use Rattle.notice_fields.specs.Parts.{time, latitude_bits, longitude_bits, point_bits}
 use Rattle.notice_fields.specs.PartsSteps.{time_read, latitude_read, longitude_read}

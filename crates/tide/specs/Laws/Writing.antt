@@ -8,15 +8,15 @@ use Rattle.format.specs.Codes.{headed}
 use Rattle.format.specs.Fmt.{write}
 use Rattle.format.specs.Promises.{room_for}
 use Rattle.format.specs.Refusals.{bare}
-use Rattle.format.specs.declared.Refusal.{Refusal}
+use Rattle.format.specs.Refusals.{Verdict}
 use Rattle.format.specs.Laws.Putting.{Puts}
 use Rattle.walk.specs.Judging.{closing}
 use Rattle.walk.specs.Laws.Judging.{Judging, Judged, judge_end}
 use Rattle.walk.specs.Laws.Loops.{going}
 use Rattle.walk.specs.Laws.RowsMade.{row_refused, row_stands}
 use Rattle.walk.specs.Laws.Step.{stuck}
-use Rattle.walk.specs.declared.making.Stepped.{Stepped}
-use Rattle.walk.specs.declared.walk.Walk.{Walk}
+use Rattle.walk.specs.Walk.{Stepped}
+use Rattle.walk.specs.Walk.{Walk}
 use Rattle.tide.specs.Making.{records_judged}
 use Rattle.tide.specs.Record.{leading, values_of}
 use Rattle.tide.specs.Row.{record_most, records_long, records_told}
@@ -56,7 +56,7 @@ module _ (r : Tide) (row : List ℕ) (w : Walk) (x : HeadJudged r.count w) where
 
 -- ---- the size that is made, and room
 
-module _ (s : List ℕ) (r : Tide) (row : List ℕ) (st : Stepped) (x : TideJudged r row st) {room : ℕ} {code : Refusal}
+module _ (s : List ℕ) (r : Tide) (row : List ℕ) (st : Stepped) (x : TideJudged r row st) {room : ℕ} {code : Verdict}
     (is : room ≡ room_for (length row) st.next (length s)) (e : code ≡ closing false 9 210 room st.walk) where
   abbrev values : List ℕ
   values = values_of (r, row)

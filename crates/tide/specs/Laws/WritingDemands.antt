@@ -9,7 +9,7 @@ use Rattle.format.specs.Message.{fault, told, read_message, write_message, ahead
 use Rattle.format.specs.Promises.{plain, read_record, Writes, Corrects}
 use Rattle.format.specs.Refusals.{bare}
 use Rattle.format.specs.Settled.{SettledBy}
-use Rattle.format.specs.declared.Refusal.{Refusal}
+use Rattle.format.specs.Refusals.{Verdict}
 use Rattle.format.specs.Laws.Answers.{plain_good, code_plain}
 use Rattle.format.proofs.Laws.Family.{never_read, read_values, written_read, read_written, never_written}
 use Rattle.format.specs.Laws.Groups.{exact_told, exact_more}
@@ -33,7 +33,7 @@ use Rattle.tide.specs.Laws.Told.{reads_good}
 
 -- ---- what writing a tide telegram promises, where the row has enough, is what every layout's writing does
 
-pub enough_writes : (s : List ℕ) (r : Tide) (row : List ℕ) (code : Refusal) (u : List ℕ) → enough r row ≡ true → TideWrites s r row code u → Writes tides s code u (values_of (r, row))
+pub enough_writes : (s : List ℕ) (r : Tide) (row : List ℕ) (code : Verdict) (u : List ℕ) → enough r row ≡ true → TideWrites s r row code u → Writes tides s code u (values_of (r, row))
 enough_writes s r row code u = enough_lays tides (values_of (r, row)) s (enough r row) code u
 
 -- where it told no refusal, the row had enough
@@ -45,7 +45,7 @@ accepted_writes s r row u = accepted_lays tides (values_of (r, row)) s (enough r
     never p e = never_written family (r, records_told r.count row) p (exact_told (many r.count) row) (ap (write_message tides) (asked_row r row) ∙ e)
 
 -- two answers that it allows are equal
-pub one_writing : (s : List ℕ) (r : Tide) (row : List ℕ) (c d : Refusal) (u w : List ℕ) → TideWrites s r row c u → TideWrites s r row d w → (c ≡ d) × (u ≡ w)
+pub one_writing : (s : List ℕ) (r : Tide) (row : List ℕ) (c d : Verdict) (u w : List ℕ) → TideWrites s r row c u → TideWrites s r row d w → (c ≡ d) × (u ≡ w)
 one_writing s r row = one_laying (enough r row) (write_message tides (values_of (r, row))) s
 
 -- ---- demand 2
@@ -65,7 +65,7 @@ module _ (s row : List ℕ) (a : Told) (row' : List ℕ) (fine : Bytes s) (reads
   lent = (read_values family s (whole_of a row') fine (good s row a row' reads)).1
 
   -- What is read is written back as the same bytes, from the numbers that were read, whatever stands behind them in the row.
-  pub read_writes_back : (us u : List ℕ) (code : Refusal) (t : List ℕ) → length s ≤ length u → TideWrites u a.tide (take a.numbers row' ++ us) code t → (code ≡ bare 0) × (t ≡ s ++ drop (length s) u)
+  pub read_writes_back : (us u : List ℕ) (code : Verdict) (t : List ℕ) → length s ≤ length u → TideWrites u a.tide (take a.numbers row' ++ us) code t → (code ≡ bare 0) × (t ≡ s ++ drop (length s) u)
   read_writes_back us u code t l x =
       let r = a.tide in
       let xs = take a.numbers row' in
@@ -76,8 +76,8 @@ module _ (s row : List ℕ) (a : Told) (row' : List ℕ) (fine : Bytes s) (reads
 -- ---- demand 3
 
 -- Every correction of a tide telegram, by any number and any value. Its own refusal is c; where that is none, a and row' are what reading it gave.
-pub corrected : (s row : List ℕ) (a : Told) (row' : List ℕ) → Bytes s → (c : Refusal) → c ≡ told (read_message tides s) → (c.code ≡ 0 → Reads s row (Good a) row')
-    → (i v : ℕ) (code : Refusal) (t : List ℕ) → Corrects tides s i v code t
+pub corrected : (s row : List ℕ) (a : Told) (row' : List ℕ) → Bytes s → (c : Verdict) → c ≡ told (read_message tides s) → (c.code ≡ 0 → Reads s row (Good a) row')
+    → (i v : ℕ) (code : Verdict) (t : List ℕ) → Corrects tides s i v code t
     → SettledBy (λ x u d y. let z = changed i v x in TideWrites u z.0 z.1 d y) (λ x. spot_of x i) false s (check (fault c.code) c.bit (accepted (whole_of a row'))) v code t
 unfolding tides headed
 corrected s row a row' fine c own reads i v code t corrects =

@@ -21,7 +21,7 @@ use Rattle.format.proofs.Laws.Settled.{settled}
 use Rattle.format.specs.Laws.Zero.{Judged, only_numbered, twice_numbered}
 use Rattle.format.specs.Settled.{Settled}
 use Rattle.format.specs.Refusals.{bare}
-use Rattle.format.specs.declared.Refusal.{Refusal}
+use Rattle.format.specs.Refusals.{Verdict}
 use Rattle.format.specs.Promises.{answered, read_record, Writes, Corrects}
 use Rattle.format.specs.Message.{read_message, write_message}
 use Rattle.format.proofs.Laws.Whole.{was, made, write_read_message}
@@ -142,12 +142,12 @@ written_reads s r c t fine w =
     (sym (ap answer_of e), sym (ap (answered (λ r. r.1) (λ n. [])) e))
 
 -- What is read and shown is written back as the same bytes.
-pub read_writes_back : (s : List ℕ) (r : Txxx) (c : List ℕ) → Bytes s → Reads s (Good r) → Shows s c → (u : List ℕ) (code : Refusal) (t : List ℕ) → length s ≤ length u → Writes txxxs u code t (values_of (r, c))
+pub read_writes_back : (s : List ℕ) (r : Txxx) (c : List ℕ) → Bytes s → Reads s (Good r) → Shows s c → (u : List ℕ) (code : Verdict) (t : List ℕ) → length s ≤ length u → Writes txxxs u code t (values_of (r, c))
     → (code ≡ bare 0) × (t ≡ s ++ drop (length s) u)
 read_writes_back s r c fine a b = read_written family s (r, c) fine (good s r c a b)
 
 -- Demand 3: every correction of a frame TXXX, by any number and any value; the content c that it shows stays.
-pub corrected : (s : List ℕ) (a : Answer) (c : List ℕ) → Bytes s → Reads s a → Shows s c → (i v : ℕ) (code : Refusal) (t : List ℕ) → Corrects txxxs s i v code t
+pub corrected : (s : List ℕ) (a : Answer) (c : List ℕ) → Bytes s → Reads s a → Shows s c → (i v : ℕ) (code : Verdict) (t : List ℕ) → Corrects txxxs s i v code t
     → Settled txxxs spot_of values_of changed s (also (λ r. (r, c)) (out_of a)) i v code t
 corrected s a c fine reads shows i v code t x =
     settled family spot_of spotted s fine i v code t x (also (λ r. (r, c)) (out_of a)) (shown_plain Good Refused out_of (λ q. refl) (λ c. refl) (read_record txxxs record_of s) reads shows)

@@ -16,7 +16,7 @@ use Rattle.format.proofs.Laws.Legal.{legal}
 use Rattle.format.specs.Laws.Round.{also_inv}
 use Rattle.format.proofs.Laws.Round.{read_write}
 use Rattle.format.specs.Words.{any, ◌‥◌, only, kept, num, fill}
-use Rattle.format.specs.declared.Refusal.{Refusal}
+use Rattle.format.specs.Refusals.{Verdict}
 use Rattle.format.proofs.Laws.Showing.{shows_none, shows_values}
 use Rattle.format.proofs.Laws.Whole.{was}
 use Rattle.txxx.specs.Promises.{Reads, Shows}
@@ -26,7 +26,7 @@ use Rattle.txxx.specs.declared.reading.Answer.{Answer}
 use Rattle.txxx.specs.declared.reading.Answer.TheVariants.{Good, Refused}
 use Rattle.txxx.specs.Laws.Demands.{family, listed, read_long}
 
-module _ (s : List ℕ) {a : Answer} {n : Refusal} (reads : Reads s a) (number : n ≡ refusal_of a) where
+module _ (s : List ℕ) {a : Answer} {n : Verdict} (reads : Reads s a) (number : n ≡ refusal_of a) where
   -- a refused frame shows nothing
   pub hidden : (n.code ≡ 0 → ⊥) → Shows s []
   hidden = shows_none txxxs family.judged (λ r. Good r.0) Refused record_of refusal_of (λ r. refl) (λ c. refl) (λ r. r.1) [] s reads number

@@ -11,7 +11,7 @@ use Rattle.walk.specs.Reading.{ranged}
 use Rattle.walk.specs.Walk.{onward}
 use Rattle.walk.specs.Laws.Reading.{step_num, step_decide}
 use Rattle.walk.specs.Laws.Step.{sticky, Reading}
-use Rattle.walk.specs.declared.walk.Walk.{Walk}
+use Rattle.walk.specs.Walk.{Walk}
 
 -- Reading stands at f where r says, after the values us, unless r was refused.
 pub record Going (o : Out (List ℕ)) (all : Fmt) (i : ℕ) (s : List ℕ) (f : Fmt) (us : List ℕ) (r : Walk) : Type 0 where

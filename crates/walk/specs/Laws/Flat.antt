@@ -7,7 +7,7 @@ use Rattle.format.specs.Fmt.{accepted, check, write}
 use Rattle.walk.specs.Judging.{bytes_to}
 use Rattle.format.specs.Promises.{Writes}
 use Rattle.format.specs.Refusals.{shown, bare}
-use Rattle.format.specs.declared.Refusal.{Refusal}
+use Rattle.format.specs.Refusals.{Verdict}
 use Rattle.format.specs.Message.{Layout, fault, between}
 use Rattle.format.specs.Laws.Extent.{Plain}
 use Rattle.format.proofs.Laws.Extent.{span_laid}
@@ -15,13 +15,13 @@ use Rattle.walk.specs.Laws.Judging.{Judged}
 use Rattle.walk.specs.Laws.Making.{write_refused, write_bare}
 use Rattle.format.specs.Laws.Putting.{Puts}
 use Rattle.walk.specs.Laws.Step.{clear}
-use Rattle.walk.specs.declared.walk.Walk.{Walk}
+use Rattle.walk.specs.Walk.{Walk}
 
 module _ (l : Layout) {n : ℕ} (x : Plain l n) (s vs : List ℕ) {w : Walk} (j : Judged (write l.fmt [] 0 vs) w) where
   whole : Judged (check (fault (l.kind vs)) 0 (write l.fmt [] 0 vs)) w
   whole = subst⁻¹ (λ c. Judged (check (fault c) 0 (write l.fmt [] 0 vs)) w) (x.kindless vs) j
 
-  pub write_fails : {r : Refusal} → r ≡ shown w.code w.offset → (w.code ≢ 0) → Writes l s r s vs
+  pub write_fails : {r : Verdict} → r ≡ shown w.code w.offset → (w.code ≢ 0) → Writes l s r s vs
   write_fails e h = write_refused l vs s whole (e ∙ rw (ne_eqb w.code 0 h) refl) (λ z. h (ap (λ r. r.code) (sym e) ∙ z))
 
   module _ (h : w.code ≡ 0) where
@@ -30,7 +30,7 @@ module _ (l : Layout) {n : ℕ} (x : Plain l n) (s vs : List ℕ) {w : Walk} (j 
         let e = span_laid l.fmt [] 0 vs j.laid x.even (j.so ∙ clear w (accepted j.laid) h) ∙ x.spans in
         omega (arith, e, j.long h)
 
-    passes : (b : Bool) (c : Refusal) → ◌≡◌ {A = ℕ} (cond b 0 1) 0 → c ≡ cond b c (bare 1)
+    passes : (b : Bool) (c : Verdict) → ◌≡◌ {A = ℕ} (cond b 0 1) 0 → c ≡ cond b c (bare 1)
     passes true c e = refl
     passes false c e = absurd (omega (arith, e))
 

@@ -10,8 +10,8 @@ use Rattle.walk.specs.Laws.Along.{Along, go, stay, then, under, dropped, along_n
 use Rattle.walk.specs.Laws.Parts.{group_v, group_at, step_group}
 use Rattle.walk.specs.Laws.Pieces.{Matches}
 use Rattle.walk.specs.Laws.Reading.{got_lt}
-use Rattle.walk.specs.declared.pieces.Pieces.{Pieces}
-use Rattle.walk.specs.declared.walk.Walk.{Walk}
+use Rattle.walk.specs.Pieces.{Pieces}
+use Rattle.walk.specs.Walk.{Walk}
 use Rattle.format.specs.Groups.{repeat, counted}
 use Rattle.walk.specs.Groups.{Step, single, then_step, unless_refused, repeat_walked, decided_walked, counted_walked, Standing, Width, then_at, then_wide, repeat_at, repeat_wide, decided_at, decided_wide}
 

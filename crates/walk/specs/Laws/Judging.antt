@@ -16,7 +16,7 @@ use Rattle.format.proofs.Laws.Extent.{extent_laid}
 use Rattle.format.specs.Laws.Round.{sized_at}
 use Rattle.walk.specs.Laws.Step.{sticky, stuck, clean}
 use Rattle.format.specs.Laws.Tells.{blamed, Tells, wrong, wrong_tells, wrong_narrow, wrong_wide}
-use Rattle.walk.specs.declared.walk.Walk.{Walk}
+use Rattle.walk.specs.Walk.{Walk}
 
 -- o is what writing vs in f from `at` on answers, the bits before them put in front by k, unless r was refused before.
 pub record Judging (o : Out (List Bool)) (f : Fmt) (h : List ℕ) (at : ℕ) (vs : List ℕ) (r : Walk) : Type 0 where

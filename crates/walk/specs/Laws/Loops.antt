@@ -8,7 +8,7 @@ use Rattle.format.specs.Fmt.{Out, Fmt}
 use Rattle.walk.specs.Walk.{onward}
 use Rattle.walk.specs.Laws.Judging.{Judging, judge_refused}
 use Rattle.format.specs.Laws.Putting.{Putting}
-use Rattle.walk.specs.declared.walk.Walk.{Walk}
+use Rattle.walk.specs.Walk.{Walk}
 
 -- ---- judging
 

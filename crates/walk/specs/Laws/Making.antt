@@ -11,14 +11,14 @@ use Rattle.format.specs.Fmt.{Out, accepted, refused, Fault, good, bad, check, af
 use Rattle.walk.specs.Judging.{beyond, bytes_to, made, verdict, closing}
 use Rattle.format.specs.Promises.{Writes}
 use Rattle.format.specs.Refusals.{shown, bare}
-use Rattle.format.specs.declared.Refusal.{Refusal}
+use Rattle.format.specs.Refusals.{Verdict}
 use Rattle.format.specs.Sealing.{stamped}
 use Rattle.format.specs.Message.{Layout, fault, between, size, sealed, closed, told, into, refuses, accepts, write_message}
 use Rattle.walk.specs.Laws.Judging.{Judged}
 use Rattle.format.specs.Laws.Putting.{Puts}
 use Rattle.format.specs.Laws.Round.{checked}
 use Rattle.walk.specs.Laws.Step.{sticky, clear}
-use Rattle.walk.specs.declared.walk.Walk.{Walk}
+use Rattle.walk.specs.Walk.{Walk}
 
 length_sealed : (z : Bool) (t : List ℕ) (at : ℕ) → length t ≡ bytes_to at → length (sealed z t) ≡ made z at
 length_sealed false t at e = e
@@ -38,7 +38,7 @@ pub closing_beyond : (z : Bool) (least most room m : ℕ) (r : Walk) → closing
 unfolding beyond
 closing_beyond z least most room m r = ap₂ (λ c n. verdict c least most room n) (own (r.code == 0) refl) (more z)
   where
-    own : (x : Bool) → (r.code == 0) ≡ x → shown (cond x 0 r.code) (cond x r.at r.offset) ≡ shown r.code r.offset
+    own : (x : Bool) → (r.code == 0) ≡ x → shown (cond x 0 r.code) (cond x 0 r.offset) ≡ shown r.code r.offset
     own true e = ap (λ c. shown c r.offset) (sym (eqb-true r.code 0 e))
     own false e = refl
 
@@ -75,7 +75,7 @@ module _ (l : Layout) (vs s : List ℕ) {r : Walk} (j : Judged (check (fault (l.
           rw (m, long) refl
 
   -- what closing the walk says is what writing tells, refused or not
-  pub closing_told : {code : Refusal} → code ≡ closing l.seal l.least l.most (length s) r → code ≡ told (into s (write_message l vs))
+  pub closing_told : {code : Verdict} → code ≡ closing l.seal l.least l.most (length s) r → code ≡ told (into s (write_message l vs))
   closing_told e = e ∙ go (r.code == 0) (between l.least l.most whole) (nat_le whole (length s)) refl refl refl
     where
       go : (x y z : Bool) → (r.code == 0) ≡ x → between l.least l.most whole ≡ y → nat_le whole (length s) ≡ z
@@ -86,7 +86,7 @@ module _ (l : Layout) (vs s : List ℕ) {r : Walk} (j : Judged (check (fault (l.
       go true true true ex ey ez = sym (ap (λ o. told (into s o)) makes ∙ rw (ex, ey, long, ez) refl)
 
   -- nothing is written
-  pub write_refused : {code : Refusal} → code ≡ closing l.seal l.least l.most (length s) r → (code.code ≢ 0) → Writes l s code s vs
+  pub write_refused : {code : Verdict} → code ≡ closing l.seal l.least l.most (length s) r → (code.code ≢ 0) → Writes l s code s vs
   write_refused {code} e h = go (r.code == 0) (between l.least l.most whole) (nat_le whole (length s)) refl refl refl
     where
       go : (x y z : Bool) → (r.code == 0) ≡ x → between l.least l.most whole ≡ y → nat_le whole (length s) ≡ z → Writes l s code s vs
@@ -105,7 +105,7 @@ module _ (l : Layout) (vs s : List ℕ) {r : Walk} (j : Judged (check (fault (l.
       go true true true ex ey ez = absurd (h (ap (λ c. c.code) e ∙ rw (ex, ey, ez) refl))
 
   -- t has the fields, and u the seal besides
-  pub write_stands : {code : Refusal} {t u : List ℕ} → code ≡ closing l.seal l.least l.most (length s) r → code.code ≡ 0 → Puts l.fmt vs s t
+  pub write_stands : {code : Verdict} {t u : List ℕ} → code ≡ closing l.seal l.least l.most (length s) r → code.code ≡ 0 → Puts l.fmt vs s t
       → u ≡ sealed l.seal (take n t) ++ drop whole t → Writes l s (bare 0) u vs
   write_stands {code} {t} {u} e h p d = go (r.code == 0) (between l.least l.most whole) (nat_le whole (length s)) refl refl refl (ap (λ c. c.code) (sym e) ∙ h)
     where
@@ -126,11 +126,11 @@ module _ (l : Layout) (vs s : List ℕ) {r : Walk} (j : Judged (check (fault (l.
           accepts s i
 
   -- with no seal
-  pub write_bare : {code : Refusal} {t : List ℕ} → l.seal ≡ false → code ≡ closing l.seal l.least l.most (length s) r → code.code ≡ 0 → Puts l.fmt vs s t → Writes l s (bare 0) t vs
+  pub write_bare : {code : Verdict} {t : List ℕ} → l.seal ≡ false → code ≡ closing l.seal l.least l.most (length s) r → code.code ≡ 0 → Puts l.fmt vs s t → Writes l s (bare 0) t vs
   write_bare {t = t} z e h p = write_stands e h p (rw z (sym (take-append-drop n t)))
 
   -- with the seal stamped behind the fields
-  pub write_stamped : {code : Refusal} {n : ℕ} {t u : List ℕ} → l.seal ≡ true → code ≡ closing l.seal l.least l.most (length s) r → code.code ≡ 0 → Puts l.fmt vs s t → length t ≡ length s
+  pub write_stamped : {code : Verdict} {n : ℕ} {t u : List ℕ} → l.seal ≡ true → code ≡ closing l.seal l.least l.most (length s) r → code.code ≡ 0 → Puts l.fmt vs s t → length t ≡ length s
       → n ≡ bytes_to r.at → u ≡ stamped n t → Writes l s (bare 0) u vs
   unfolding stamped
   write_stamped {n = n} {t} z e h p same k d =

@@ -20,8 +20,8 @@ use Rattle.walk.specs.Walk.{onward}
 use Rattle.walk.specs.Laws.Pieces.{Matches}
 use Rattle.walk.specs.Laws.Reading.{got_lt}
 use Rattle.walk.specs.Laws.Step.{Reading, flaw, step}
-use Rattle.walk.specs.declared.pieces.Pieces.{Pieces}
-use Rattle.walk.specs.declared.walk.Walk.{Walk}
+use Rattle.walk.specs.Pieces.{Pieces}
+use Rattle.walk.specs.Walk.{Walk}
 
 -- a field that is there lies there as its number
 pub lying_whole : (s : List ℕ) (at w : ℕ) → at + w ≤ length s * 8 → lying s at w ≡ unpieced w (got s at w)

@@ -13,8 +13,8 @@ use Rattle.format.specs.Laws.Zero.{Coded}
 use Rattle.walk.specs.Pieces.{unpieced, ahead, pieced, piecewise, unless_zero}
 use Rattle.walk.specs.Reading.{group_judged}
 use Rattle.walk.specs.Laws.Judging.{Judging, judge}
-use Rattle.walk.specs.declared.pieces.Pieces.{Pieces}
-use Rattle.walk.specs.declared.walk.Walk.{Walk}
+use Rattle.walk.specs.Pieces.{Pieces}
+use Rattle.walk.specs.Walk.{Walk}
 
 -- ---- what parts leave as it is
 

@@ -17,7 +17,7 @@ use Rattle.walk.specs.Walk.{begun, onward}
 use Rattle.format.specs.Words.{Test, any, ◌‥◌, signed, only, kept, num, code, fill}
 use Rattle.walk.specs.Laws.Step.{sticky, sought, Reading, Steps, step, step_choice, step_late, step_spots, told, tested, clean, also_also}
 use Rattle.format.specs.Laws.Tells.{blamed, Tells, only_tells, only_one}
-use Rattle.walk.specs.declared.walk.Walk.{Walk}
+use Rattle.walk.specs.Walk.{Walk}
 
 -- ---- the code's steps
 

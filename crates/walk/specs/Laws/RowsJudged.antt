@@ -13,9 +13,9 @@ use Rattle.walk.specs.Laws.Judging.{judge_num, judge_deciding, judge_refused, va
 use Rattle.walk.specs.Laws.Loops.{JudgesAlong, going, judges_stay, judges_refused, judges_then, judges_under, step_near}
 use Rattle.walk.specs.Laws.Pieces.{Matches, judge_group}
 use Rattle.walk.specs.Laws.Step.{clean}
-use Rattle.walk.specs.declared.pieces.Pieces.{Pieces}
-use Rattle.walk.specs.declared.making.Stepped.{Stepped}
-use Rattle.walk.specs.declared.walk.Walk.{Walk}
+use Rattle.walk.specs.Pieces.{Pieces}
+use Rattle.walk.specs.Walk.{Stepped}
+use Rattle.walk.specs.Walk.{Walk}
 use Rattle.walk.specs.Laws.Rows.{here, fronts, after_one, long_then, long_one}
 
 told_as : {g g' : Fmt → Fmt} {r r' : Walk} {us vs : List ℕ} → us ≡ vs → JudgesAlong g g' r us r' → JudgesAlong g g' r vs r'

@@ -6,12 +6,12 @@ use Rattle.format.specs.Fmt.{check, write}
 use Rattle.format.specs.Message.{Layout, fault, write_message}
 use Rattle.format.specs.Promises.{room_for, Lays}
 use Rattle.format.specs.Refusals.{shown, bare}
-use Rattle.format.specs.declared.Refusal.{Refusal}
+use Rattle.format.specs.Refusals.{Verdict}
 use Rattle.format.specs.Laws.Putting.{Puts}
 use Rattle.walk.specs.Judging.{bytes_to, closing}
 use Rattle.walk.specs.Laws.Judging.{Judged}
 use Rattle.walk.specs.Laws.Making.{write_refused, write_bare}
-use Rattle.walk.specs.declared.walk.Walk.{Walk}
+use Rattle.walk.specs.Walk.{Walk}
 
 -- what an answer without refusal says of the walk r: no refusal, a size that may be, and room
 pub record Closes (least most room : ℕ) (r : Walk) : Type 0 where
@@ -39,7 +39,7 @@ any_room least most a b r n = rw (ne_eqb r.code 0 n) refl
 
 -- Values vs that a row of `has` numbers tells were judged by the walk r; where nothing was refused, it was asked for `asked` numbers.
 module _ (l : Layout) (vs s : List ℕ) (r : Walk) (j : Judged (check (fault (l.kind vs)) 0 (write l.fmt [] 0 vs)) r) (unsealed : l.seal ≡ false) (some : 0 < l.least)
-    (has asked long : ℕ) (count : r.code ≡ 0 → asked ≡ long) {room : ℕ} {code : Refusal} (is : room ≡ room_for has asked (length s)) (e : code ≡ closing false l.least l.most room r) where
+    (has asked long : ℕ) (count : r.code ≡ 0 → asked ≡ long) {room : ℕ} {code : Verdict} (is : room ≡ room_for has asked (length s)) (e : code ≡ closing false l.least l.most room r) where
   -- the room is the buffer's where the row has enough, else none
   room_is : r.code ≡ 0 → (b : Bool) → nat_le long has ≡ b → room ≡ cond b (length s) 0
   room_is z true y = let n = count z in let k = leb-true long has y in is ∙ rw (le-ltb has asked (omega (arith, n, k))) refl

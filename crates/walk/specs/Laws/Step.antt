@@ -14,7 +14,7 @@ use Rattle.walk.specs.Walk.{onward}
 use Rattle.format.specs.Words.{or_else, kept}
 use Rattle.format.specs.Laws.Spots.{later_later}
 use Rattle.format.specs.Laws.Tells.{blamed, Tells}
-use Rattle.walk.specs.declared.walk.Walk.{Walk}
+use Rattle.walk.specs.Walk.{Walk}
 
 -- a refusal sticks
 abbrev pub sticky : {A : Type 0} → Walk → Out A → Out A

@@ -11,7 +11,7 @@ use Rattle.format.specs.Fmt.{Out, accepted, Fmt, end, also, read, pad, spot}
 use Rattle.walk.specs.Reading.{ended}
 use Rattle.walk.specs.Faults.{closes}
 use Rattle.walk.specs.Laws.Step.{sticky, stood, sought, Reading, clean}
-use Rattle.walk.specs.declared.walk.Walk.{Walk}
+use Rattle.walk.specs.Walk.{Walk}
 
 -- The whole walk: its answer, and where the field i stood.
 pub record Walked (o : Out (List ℕ)) (all : Fmt) (i : ℕ) (vs : List ℕ) (r : Walk) : Type 0 where

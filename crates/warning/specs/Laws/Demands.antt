@@ -15,7 +15,7 @@ use Rattle.format.specs.Fmt.{Spot, accepted, end, spot}
 use Rattle.format.specs.Settled.{Settled}
 use Rattle.format.specs.Promises.{read_record, Writes, Corrects}
 use Rattle.format.specs.Refusals.{bare}
-use Rattle.format.specs.declared.Refusal.{Refusal}
+use Rattle.format.specs.Refusals.{Verdict}
 use Rattle.format.specs.Words.{◌‥◌, wide, num, fill}
 use Rattle.format.specs.Laws.Answers.{good_read, answer_plain}
 use Rattle.format.specs.Laws.Entries.{entries, entries_behind}
@@ -228,12 +228,12 @@ unfolding warnings
 written_reads s r t w = sym (ap answer_of (written_front family s r t 23 tt w (one_size warnings 23 refl refl (values_of r))))
 
 -- What is read is written back as the same bytes.
-pub read_writes_back : (s : List ℕ) (r : Warning) → Bytes s → Reads s (Good r) → (u : List ℕ) (code : Refusal) (t : List ℕ) → length s ≤ length u → Writes warnings u code t (values_of r)
+pub read_writes_back : (s : List ℕ) (r : Warning) → Bytes s → Reads s (Good r) → (u : List ℕ) (code : Verdict) (t : List ℕ) → length s ≤ length u → Writes warnings u code t (values_of r)
     → (code ≡ bare 0) × (t ≡ s ++ drop (length s) u)
 read_writes_back s r fine a = read_written family s r fine (good s r a)
 
 -- Demand 3: every correction of a warning, by any number and any value.
-pub corrected : (s : List ℕ) (a : Answer) → Bytes s → Reads s a → (n v : ℕ) (code : Refusal) (t : List ℕ) → Corrects warnings s (field_of (field_at s 56 4) n) v code t
+pub corrected : (s : List ℕ) (a : Answer) → Bytes s → Reads s a → (n v : ℕ) (code : Verdict) (t : List ℕ) → Corrects warnings s (field_of (field_at s 56 4) n) v code t
     → Settled warnings spot_by values_of changed_by s (out_of a) n v code t
 corrected s a fine reads n v code t c =
     settled_named family (λ r. spot_of (body_kind r.body)) spotted s fine (field_of (field_at s 56 4) n) v code t c named_by n (λ r e. ap (λ k. field_of k n) (type_number s r fine e))

@@ -8,7 +8,7 @@ use Rattle.format.specs.Fmt.{refused, Fmt, choice, read}
 use Rattle.format.specs.Words.{only, ◌‥◌, num, code, fill}
 use Rattle.walk.specs.Laws.Step.{Reading}
 use Rattle.walk.specs.Laws.Stopped.{halted}
-use Rattle.walk.specs.declared.walk.Walk.{Walk}
+use Rattle.walk.specs.Walk.{Walk}
 use Rattle.walk.specs.Laws.Reading.{start, step_code, step_num, step_decide, step_fill}
 use Rattle.area.specs.Area.{tail, area}
 use Rattle.area.specs.Shapes.{kind_of, shape}

@@ -5,12 +5,12 @@ use mathlib.Core.List.{List}
 use Prim.Native.Nat.{ℕ}
 use lib.Dec.{eqb}
 use Rattle.format.specs.Correcting.{Finishes}
-use Rattle.format.specs.declared.Refusal.{Refusal}
+use Rattle.format.specs.Refusals.{Verdict}
 use Rattle.format.specs.Sealing.{resealed}
 use borrow.Author.Tests.{eqb-true, eqb-false}
 use Rattle.change.proofs.correcting.finish_sealed.Goals as goal
 
-closes : {code : Refusal} {at width old : ℕ} {d last : Refusal} {t y x : List ℕ} → Finishes false code at width old d t last y → (last.code ≡ 0 → x ≡ resealed y) → ((last.code ≡ 0 → ⊥) → x ≡ y) → Finishes true code at width old d t last x
+closes : {code : Verdict} {at width old : ℕ} {d last : Verdict} {t y x : List ℕ} → Finishes false code at width old d t last y → (last.code ≡ 0 → x ≡ resealed y) → ((last.code ≡ 0 → ⊥) → x ≡ y) → Finishes true code at width old d t last x
 closes {code} {at} {width} {old} {d} {last} {t} {y} {x} f seals stays = go (eqb code.code 0) (eqb d.code 0) refl refl
   where
     go : (b e : Bool) → eqb code.code 0 ≡ b → eqb d.code 0 ≡ e → Finishes true code at width old d t last x

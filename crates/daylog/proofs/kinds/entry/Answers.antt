@@ -2,7 +2,7 @@
 use Rattle.std.proofs.Common.{◌≡◌, ℕ, ◌^◌, ◌<◌, ◌≤◌, List, length, refl, arith, lit≤, ne_eqb}
 use mir.Val.{Val}
 use denote.Laws.{Is}
-use Rattle.format.specs.declared.Refusal.{Refusal}
+use Rattle.format.specs.Refusals.{Verdict}
 use Rattle.format.specs.contracts.Refusal.{the_row}
 use Rattle.daylog.specs.Kinds.{word, refusal_of, entry_line}
 use Rattle.daylog.specs.Stores.{placed, Stores}
@@ -34,7 +34,7 @@ unfolding word
 other_word k a b c d = rw (ne_eqb k 1 a, ne_eqb k 2 b, ne_eqb k 3 c, ne_eqb k 4 d) refl
 
 -- ---- a line with the word w
-module _ (n k : ℕ) (body w : List ℕ) (refusal : Refusal) {vs : List Val} (small : n < 2 ^ 64) (short : length w ≤ 8) (is : Is the_row refusal vs) (few : length body < 2 ^ 64) where
+module _ (n k : ℕ) (body w : List ℕ) (refusal : Verdict) {vs : List Val} (small : n < 2 ^ 64) (short : length w ≤ 8) (is : Is the_row refusal vs) (few : length body < 2 ^ 64) where
   pub stored : word k ≡ w → refusal ≡ refusal_of k body → {at r : ℕ} {out left : List ℕ} → Stores out at (placed out at (line n w refusal (length body))) r left
       → Stores out at (placed out at (entry_line n (record { kind = k; body = body }))) r left × (length (entry_line n (record { kind = k; body = body })) ≤ 76)
   unfolding entry_line

@@ -8,7 +8,7 @@ use Rattle.bits.specs.Answers.{spanned}
 use Rattle.bits.specs.Bits.{bytes_at}
 use Rattle.walk.specs.Reading.{ended}
 use Rattle.walk.specs.Walk.{onward}
-use Rattle.walk.specs.declared.walk.Walk.{Walk}
+use Rattle.walk.specs.Walk.{Walk}
 use Rattle.text.specs.Text.{in_language}
 use Rattle.notice.specs.Laws.Closing.{ending_good, ending_refused}
 use Rattle.notice.proofs.reading.close.Goals as goal

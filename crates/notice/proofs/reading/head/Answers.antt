@@ -2,7 +2,7 @@
 use mathlib.Core.Path.{ap, ap₂, ◌∙◌}
 use mathlib.Core.Bool.{true, false}
 use Rattle.walk.specs.Reading.{ranged}
-use Rattle.walk.specs.declared.walk.Walk.{Walk}
+use Rattle.walk.specs.Walk.{Walk}
 use Rattle.notice_fields.specs.PartsSteps.{least_subtype, most_subtype, expiry_read}
 use Rattle.notice.specs.Steps.{opening_of}
 use Rattle.notice.proofs.reading.head.Goals as goal

@@ -1,7 +1,7 @@
 -- `unread` begins a walk by the refusal, and has nothing else.
 use mathlib.Core.Path.{ap}
 use Rattle.notice.specs.Steps.{unread_by}
-use Rattle.walk.specs.declared.walk.Walk.{Walk}
+use Rattle.walk.specs.Walk.{Walk}
 use Rattle.notice.proofs.reading.unread.Goals as goal
 
 pub returns : goal.returns

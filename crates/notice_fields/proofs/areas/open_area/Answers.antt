@@ -2,7 +2,7 @@
 use mathlib.Core.Path.{◌≡◌, sym, ap, ◌∙◌}
 use mathlib.Core.Bool.{false}
 use Rattle.walk.specs.Reading.{ranged}
-use Rattle.walk.specs.declared.walk.Walk.{Walk}
+use Rattle.walk.specs.Walk.{Walk}
 use Rattle.notice_fields.specs.Areas.{least_of}
 use Rattle.notice_fields.specs.Steps.{opened_as}
 use Rattle.notice_fields.specs.Laws.Kinds.{kind_sea, kind_circle, kind_several}

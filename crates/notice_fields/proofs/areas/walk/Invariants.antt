@@ -2,7 +2,7 @@
 use Prim.Native.Nat.{ℕ, ◌+◌, ◌-◌, ◌≤◌}
 use mathlib.Core.Path.{◌≡◌}
 use mathlib.Core.List.{List}
-use Rattle.walk.specs.declared.walk.Walk.{Walk}
+use Rattle.walk.specs.Walk.{Walk}
 use Rattle.notice_fields.specs.Areas.{kind_of}
 use Rattle.walk.specs.Groups.{repeat_walked}
 use Rattle.notice_fields.specs.Steps.{closed_as, point_step, areas_walked}

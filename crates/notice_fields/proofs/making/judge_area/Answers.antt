@@ -6,7 +6,7 @@ use native.Mathlib.Omega.{arith}
 use borrow.Author.Tests.{eq-eqb, ne_eqb}
 use Rattle.walk.specs.Judging.{valued}
 use Rattle.walk.specs.Laws.Judging.{valued_between}
-use Rattle.walk.specs.declared.walk.Walk.{Walk}
+use Rattle.walk.specs.Walk.{Walk}
 use Rattle.notice_fields.specs.Areas.{least_of}
 use Rattle.notice_fields.specs.Laws.Kinds.{kind_sea, kind_circle, kind_several}
 use Rattle.notice_fields.specs.Making.{points_judged}

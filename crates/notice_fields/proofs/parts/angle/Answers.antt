@@ -4,7 +4,7 @@ use mathlib.Core.Path.{◌≡◌, sym, ap, ◌∙◌}
 use Rattle.format.specs.Words.{◌‥◌}
 use Rattle.walk.specs.Pieces.{pieced, piecewise}
 use Rattle.walk.specs.Laws.Pieces.{piece_stuck}
-use Rattle.walk.specs.declared.pieces.Pieces.{Pieces}
+use Rattle.walk.specs.Pieces.{Pieces}
 use Rattle.notice_fields.proofs.parts.angle.Goals.{After-piece-degrees}
 use Rattle.notice_fields.proofs.parts.angle.Goals as goal
 

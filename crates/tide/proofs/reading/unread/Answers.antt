@@ -1,6 +1,6 @@
 -- `unread` begins a walk by the refusal, and has nothing else.
 use mathlib.Core.Path.{ap}
-use Rattle.walk.specs.declared.walk.Walk.{Walk}
+use Rattle.walk.specs.Walk.{Walk}
 use Rattle.tide.proofs.reading.unread.Goals as goal
 
 pub returns : goal.returns

@@ -4,7 +4,7 @@ use mathlib.Core.Bool.{true, false, cond}
 use lib.Dec.{eqb}
 use borrow.Author.Tests.{eq-eqb, ne_eqb}
 use Rattle.walk.specs.Reading.{ranged}
-use Rattle.walk.specs.declared.walk.Walk.{Walk}
+use Rattle.walk.specs.Walk.{Walk}
 use Rattle.tide.specs.Steps.{count_read}
 use Rattle.tide.proofs.records.open_record.Goals as goal
 

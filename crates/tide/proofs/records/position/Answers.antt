@@ -1,7 +1,7 @@
 -- `position` meets its contract: by the position type.
 use mathlib.Core.Path.{refl, ap, ◌∙◌}
 use borrow.Author.Tests.{eq-eqb, ne_eqb}
-use Rattle.walk.specs.declared.walk.Walk.{Walk}
+use Rattle.walk.specs.Walk.{Walk}
 use Rattle.notice_fields.specs.PartsSteps.{longitude_read}
 use Rattle.tide.proofs.records.position.Goals as goal
 

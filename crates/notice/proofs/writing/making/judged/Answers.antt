@@ -7,10 +7,10 @@ use native.Mathlib.Omega.{arith}
 use lib.ListN.{length}
 use Rattle.bits.specs.Bits.{Bytes}
 use Rattle.walk.specs.Walk.{onward}
-use Rattle.walk.specs.declared.walk.Walk.{Walk}
+use Rattle.walk.specs.Walk.{Walk}
 use Rattle.walk.specs.Laws.Loops.{JudgesAlong, going}
 use Rattle.walk.specs.Laws.Step.{clean}
-use Rattle.walk.specs.declared.making.Stepped.{Stepped}
+use Rattle.walk.specs.Walk.{Stepped}
 use Rattle.notice_fields.specs.Areas.{areas}
 use Rattle.notice_fields.specs.Terms.{our_point}
 use Rattle.notice_fields.specs.Making.{fresh, areas_judged}

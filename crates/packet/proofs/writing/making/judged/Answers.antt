@@ -8,7 +8,7 @@ use Rattle.format.specs.Laws.Extent.{opens_field}
 use Rattle.format.specs.Laws.Tells.{only_tells, wrong_tells}
 use Rattle.walk.specs.Judging.{valued, beyond}
 use Rattle.walk.specs.Laws.Judging.{Judging, Judged, judge_start, judge_fixed, judge_num, judge_late, valued_between, judge_bytes, judge_beyond, judge_refused, judge_end}
-use Rattle.walk.specs.declared.walk.Walk.{Walk}
+use Rattle.walk.specs.Walk.{Walk}
 use Rattle.packet.specs.Packet.{version, most_packets, content, packet, values_of}
 use Rattle.packet.proofs.writing.making.judged.Goals.{After-value-w-3}
 use Rattle.packet.proofs.writing.making.judged.Goals as goal

@@ -3,7 +3,7 @@ use Prim.Native.Nat.{◌+◌}
 use mathlib.Core.Path.{ap, ap₂, ◌∙◌}
 use lib.ListN.{get_or}
 use Rattle.walk.specs.Judging.{valued}
-use Rattle.walk.specs.declared.walk.Walk.{Walk}
+use Rattle.walk.specs.Walk.{Walk}
 use Rattle.notice_fields.specs.PartsSteps.{time_judged}
 use Rattle.tide.specs.Row.{some_time}
 use Rattle.tide.specs.Making.{level_judged}

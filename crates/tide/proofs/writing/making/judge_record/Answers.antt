@@ -7,8 +7,8 @@ use borrow.Author.Tests.{eq-eqb, ne_eqb}
 use Rattle.walk.specs.Judging.{valued}
 use Rattle.walk.specs.Rows.{even_step}
 use Rattle.walk.specs.Laws.Judging.{valued_between}
-use Rattle.walk.specs.declared.making.Stepped.{Stepped}
-use Rattle.walk.specs.declared.walk.Walk.{Walk}
+use Rattle.walk.specs.Walk.{Stepped}
+use Rattle.walk.specs.Walk.{Walk}
 use Rattle.tide.specs.Making.{entry_judged}
 use Rattle.tide.specs.Laws.Judging.{record_turn, place_small}
 use Rattle.tide.proofs.writing.making.judge_record.Goals as goal

@@ -1,9 +1,9 @@
 -- `value` steps with the fault that `inside` finds.
 use Rattle.std.proofs.Common.{true, ap, ◌∙◌}
-use Rattle.walk.specs.Walk.{onward}
+use Rattle.walk.specs.Walk.{seen, onward}
 use Rattle.walk.proofs.walk.Walk.value.Goals as goal
 
 pub returns : goal.returns
 returns c =
     let a = c.args in
-    c.on.ensures ∙ ap (λ x. onward a.w true a.v x 0 a.self) c.inside.ensures
+    c.on.ensures ∙ ap (λ x. onward a.w true a.v x 0 (seen a.self)) c.inside.ensures
