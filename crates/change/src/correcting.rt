@@ -1,83 +1,78 @@
 // Correcting a field in the message itself.
-ghost use Rattle.std.specs.Prelude.{true, false, ◌≡◌};
-ghost use Rattle.format.specs.Correcting.{admitted, Begins, Finishes};
+ghost use Rattle.std.specs.Prelude.{◌≡◌, cond, eqb, IfOk, OnOk, Ok};
+ghost use Rattle.bits.specs.Answers.{got};
+ghost use Rattle.format.specs.Correcting.{admitted, put_in, Finishes, InPlace};
+ghost use Rattle.format.specs.Message.{body};
+ghost use Rattle.format.specs.Refusals.{bare, told_of};
+ghost use Rattle.walk.specs.Walk.{at_of, width_of};
+ghost use Rattle.std.specs.Fn.{FnOnceReturnsAt};
 
-use format::Refusal;
+use crate::sealing::{inner, seal};
+use format::{Reason, Refusal};
+use walk::walk::Spot;
 
-// Where a field stands, and its width: 0 for none that may be corrected.
-#[derive(Clone, Copy)]
-pub struct Spot {
-    pub at: usize,
-    pub width: usize,
-}
-
-// What a correction to v answers before a bit is changed: the message's own refusal, 10, too wide; none to go on.
-fn admits(refusal: Refusal, at: usize, width: usize, v: u64) -> Refusal
-    ensures { result ≡ admitted refusal at width v }
+// Makes the field at `spot` be v in a message that was read, `sealed` where its last byte is a seal, and reads its fields anew: where
+// these are refused, every byte is put back; else the seal is made anew.
+pub fn in_place<T: Drop, F: FnOnce(&[u8]) -> Result<T, Refusal>>(
+    buf: &mut [u8],
+    sealed: bool,
+    spot: Option<Spot>,
+    v: u64,
+    fields: F,
+) -> Result<(), Refusal>
+    requires { F.IsAlwaysCallable fields }
+    ensures { InPlace sealed (FnOnceReturnsAt F.FnOnce fields) told_of buf.old (at_of spot) (width_of spot) v (told_of result) buf.new }
 {
-    if refusal.code != 0 {
-        return refusal;
-    }
-    if width == 0 {
-        return Refusal::FIELD;
-    }
-    if width < 64 {
-        if v >> width != 0 {
-            return Refusal::shown(format::RANGE, at);
-        }
-    }
-    Refusal::NONE
+    let spot = admits(spot, v)?;
+    let old = bits::get(buf, spot.at, spot.width);
+    bits::put(buf, spot.at, spot.width, v);
+    let again = fields(laid_out(buf, sealed));
+    finish(buf, sealed, spot, old, again)
 }
 
-// A correction that was begun: no refusal, where the field was changed; where the field stands, and what it was.
-#[derive(Clone, Copy)]
-pub struct Begun {
-    pub refusal: Refusal,
-    pub at: usize,
-    pub width: usize,
-    pub old: u64,
-}
-
-// Makes the field at `spot` be v, in a message whose reading answered `refusal`, or leaves every byte.
-pub fn begin(buf: &mut [u8], refusal: Refusal, spot: Spot, v: u64) -> Begun
-    ensures { Begins buf.old refusal spot.at spot.width v result.refusal result.at result.width result.old buf.new }
+// The field that is corrected to v, before a bit is changed: no field that may be corrected is 10, a value too wide 4.
+fn admits(spot: Option<Spot>, v: u64) -> Result<Spot, Refusal>
+    ensures answers { told_of result ≡ admitted (bare 0) (at_of spot) (width_of spot) v }
+    ensures field { IfOk result (λ x. (x.at ≡ at_of spot) × (x.width ≡ width_of spot)) }
 {
-    let at = spot.at;
-    let width = spot.width;
-    let refusal = admits(refusal, at, width, v);
-    let old = bits::get(buf, at, width);
-    if refusal.code == 0 {
-        bits::put(buf, at, width, v);
-    }
-    Begun {
-        refusal,
-        at,
-        width,
-        old,
+    match spot {
+        Some(spot) if spot.width > 0 => {
+            if spot.width < 64 && v >> spot.width != 0 {
+                return Err(Refusal::shown(Reason::Range, spot.at));
+            }
+            Ok(spot)
+        },
+        _ => Err(Reason::Field.into()),
     }
 }
 
-// Puts the old value back where the changed message was refused. What was not begun leaves every byte.
-pub fn finish(buf: &mut [u8], begun: Begun, refusal: Refusal) -> Refusal
-    ensures { Finishes false begun.refusal begun.at begun.width begun.old refusal buf.old result buf.new }
+// What the layout lays out of a message.
+fn laid_out(s: &[u8], sealed: bool) -> &[u8]
+    ensures { result.now ≡ body sealed s.now }
 {
-    let first = begun.refusal;
-    if first.code != 0 {
-        return first;
-    }
-    if refusal.code != 0 {
-        bits::put(buf, begun.at, begun.width, begun.old);
-    }
-    refusal
+    if sealed { inner(s) } else { s }
 }
 
-// The same, and makes the seal anew where the changed message was accepted.
-pub fn finish_sealed(buf: &mut [u8], begun: Begun, refusal: Refusal) -> Refusal
-    ensures { Finishes true begun.refusal begun.at begun.width begun.old refusal buf.old result buf.new }
+// Puts the old value back where the changed message was refused, and else makes its seal anew.
+fn finish<T: Drop>(
+    buf: &mut [u8],
+    sealed: bool,
+    spot: Spot,
+    old: u64,
+    again: Result<T, Refusal>,
+) -> Result<(), Refusal>
+    ensures { Finishes sealed (bare 0) spot.at spot.width old (told_of again) buf.old (told_of result) buf.new }
 {
-    let last = finish(buf, begun, refusal);
-    if last.code == 0 {
-        crate::sealing::seal(buf);
+    match again {
+        Ok(_) => {
+            if sealed {
+                seal(buf);
+            }
+            Ok(())
+        },
+        Err(refusal) => {
+            bits::put(buf, spot.at, spot.width, old);
+            Err(refusal)
+        },
     }
-    last
 }

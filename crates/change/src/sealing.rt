@@ -1,38 +1,41 @@
 // The seal of a message: its last byte is the XOR of all bytes before it.
 ghost use Rattle.std.specs.Prelude.{true, ◌≡◌};
 ghost use Rattle.format.specs.Message.{body, first_of, seal_fault};
+ghost use Rattle.format.specs.Refusals.{code_of};
 ghost use Rattle.format.specs.Sealing.{resealed, stamped};
 
-use walk::choosing::one_less;
+use format::Reason;
 
 // What the layout lays out: all bytes but the last.
 pub fn inner(s: &[u8]) -> &[u8]
     ensures { result.now ≡ body true s.now }
 {
-    let n = one_less(s.len());
+    let n = s.len().saturating_sub(1);
     &s[..n]
 }
 
-// The answer of the first tests, or 3 where the seal is another.
-pub fn tested(s: &[u8], code: u8) -> u8
-    ensures { result ≡ first_of (seal_fault true s.now) code }
+// The outcome of the first tests, or 3 where the seal is another.
+pub fn tested(s: &[u8], first: Result<(), Reason>) -> Result<(), Reason>
+    ensures { code_of result ≡ first_of (seal_fault true s.now) (code_of first) }
 {
-    if code != 0 {
-        return code;
-    }
-    if s.len() == 0 {
-        return 0;
+    first?;
+    if s.is_empty() {
+        return Ok(());
     }
     let n = s.len() - 1;
     let sum = bits::xor(&s[..n]);
-    if s[n] == sum { 0 } else { format::CHECKSUM }
+    if s[n] == sum {
+        Ok(())
+    } else {
+        Err(Reason::Checksum)
+    }
 }
 
 // Makes the seal anew.
 pub fn seal(buf: &mut [u8])
     ensures { buf.new ≡ resealed buf.old }
 {
-    let n = one_less(buf.len());
+    let n = buf.len().saturating_sub(1);
     stamp(buf, n);
 }
 

@@ -6,6 +6,7 @@ use Rattle.bits.specs.Bits.{put_at}
 use Rattle.format.specs.Refusals.{shown, bare}
 use Rattle.format.specs.Refusals.{Verdict}
 use Rattle.format.specs.Fmt.{Spot, none, found}
+use Rattle.format.specs.Message.{body}
 use Rattle.format.specs.Sealing.{reclosed}
 
 -- where a field that may be corrected stands, width 0 being none
@@ -48,3 +49,9 @@ pub record Begins (s : List ℕ) (own : Verdict) (p w v : ℕ) (refusal : Verdic
 pub record Finishes (seal : Bool) (refusal : Verdict) (at width old : ℕ) (again : Verdict) (t : List ℕ) (last : Verdict) (x : List ℕ) : Type 0 where
   pub answers : last ≡ cond (eqb refusal.code 0) again refusal
   pub leaves : x ≡ cond (eqb refusal.code 0) (cond (eqb again.code 0) (reclosed seal t) (put_in t at width old)) t
+
+-- The whole correction of a message that was read: refused before a bit is changed, or its fields are read anew, as `rereads` says of what
+-- the layout lays out of it and `tells` of what that gave, and it is finished.
+pub record InPlace {A : Type 0} (seal : Bool) (rereads : List ℕ → A → Type 0) (tells : A → Verdict) (s : List ℕ) (p w v : ℕ) (refusal : Verdict) (x : List ℕ) : Type 0 where
+  pub stays : ((admitted (bare 0) p w v).code ≡ 0 → ⊥) → (refusal ≡ admitted (bare 0) p w v) × (x ≡ s)
+  pub changes : (admitted (bare 0) p w v).code ≡ 0 → (d : A) × rereads (body seal (put_in s p w v)) d × Finishes seal (bare 0) p w (got s p w) (tells d) (put_in s p w v) refusal x

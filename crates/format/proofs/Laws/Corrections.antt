@@ -1,15 +1,19 @@
 -- A family's correction in place, from its own answers: laws/Correcting said of the record that was read and where its fields stand. Assumes nothing.
-use Rattle.std.specs.Prelude.{◌≡◌, Bool, true, false, List, [], ℕ, ◌-◌, ◌≤◌, length}
-use Rattle.std.proofs.Common.{ap, ◌∙◌, arith, length-take-le}
+use Rattle.std.specs.Prelude.{◌≡◌, Bool, true, false, List, [], ℕ, ◌-◌, ◌≤◌, length, eqb, Result, IsErrAnd}
+use Rattle.std.proofs.Common.{refl, sym, ap, ◌∙◌, subst, arith, length-take-le, eq-eqb, ne_eqb, eqb-true}
+use Rattle.std.proofs.lemmas.Bool.{eqb-false}
 use Rattle.bits.specs.Bits.{Bytes, bits_of}
-use Rattle.format.specs.Correcting.{standing, Begins, Finishes}
-use Rattle.format.specs.Fmt.{Out, accepted, also, read, spot}
+use Rattle.format.specs.declared.Refusal.{Refusal}
+use Rattle.format.specs.Correcting.{standing, admitted, put_in, Begins, Finishes, InPlace}
+use Rattle.format.specs.Fmt.{Out, accepted, refused, also, read, spot}
 use Rattle.format.specs.Message.{Layout, body, fields_of, told, read_message}
-use Rattle.format.specs.Refusals.{bare}
+use Rattle.format.specs.Refusals.{bare, seen_refusal, told_of}
 use Rattle.format.specs.Refusals.{Verdict}
-use Rattle.format.specs.Promises.{answered, read_record, Corrects}
+use Rattle.format.specs.Promises.{answered, read_record, out_of, plain, refused_by, verdict_of, Corrects}
 use Rattle.format.specs.Laws.Answers.{numbered, read_code}
-use Rattle.format.specs.Laws.Correcting.{accepted_by}
+use Rattle.bits.specs.Answers.{got}
+use Rattle.format.specs.Laws.Correcting.{accepted_by, own_refusal}
+use Rattle.format.specs.Laws.Outcomes.{number_some, told_exit, told_out}
 use Rattle.format.proofs.Laws.Correcting.{in_place}
 use Rattle.format.specs.Laws.Lead.{sized_fields}
 use Rattle.format.specs.Laws.Family.{Family}
@@ -61,3 +65,59 @@ module _ {l : Layout} {R A : Type 0} {Lent : R → Type 0} {values_of : R → Li
     family_sized =
         corrects (fields_of l.fmt (inside l.seal l.least) (inside l.seal l.most) inner)
         (λ least most. ap (fields_of l.fmt (inside l.seal l.least) (inside l.seal l.most)) laid ∙ good_size l t least most)
+
+-- ---- the same, as the code does it: what reading refuses is handed on, and the rest is `InPlace`
+
+-- what reading told of s, by its answer
+read_told : {R : Type 0} (l : Layout) (record_of : List ℕ → R) (s : List ℕ) {o : Out R} → o ≡ plain (read_record l record_of s) → verdict_of o ≡ told (read_message l s)
+read_told l record_of s e = ap verdict_of e ∙ numbered accepted refused_by record_of verdict_of (λ r. refl) (λ c. refl) (read_message l s)
+
+pub family_exit : {R : Type 0} (l : Layout) (record_of : List ℕ → R) (s : List ℕ) (i v : ℕ) {A : Type 0} (x : Result A Refusal) (f : Refusal) → IsErrAnd x (λ g. g ≡ f) → refused_by (seen_refusal f) ≡ plain (read_record l record_of s)
+    → Corrects l s i v (told_of x) s
+family_exit l record_of s i v x f h e = subst (λ c. Corrects l s i v c s) (sym (told_exit x f h)) (own_refusal l s i v (read_told l record_of s e) (number_some f.reason))
+
+-- The record r of s was read, and its field i stands at p; the fields anew tell what their reading tells.
+pub family_in_place : {l : Layout} {R : Type 0} {Lent : R → Type 0} {values_of : R → List ℕ} {record_of : List ℕ → R} {changed : ℕ → ℕ → R → R} (F : Family l R Lent values_of record_of changed)
+    (s : List ℕ) (fine : Bytes s) (i v p w : ℕ) (r : R) → accepted r ≡ plain (read_record l record_of s) → ((q : R) → read_record l record_of s ≡ accepted q → spot l.fmt [] (values_of q) i ≡ standing p w) → w ≤ 32
+    → {A : Type 0} {rereads : List ℕ → A → Type 0} {tells : A → Verdict} {refusal : Verdict} {x : List ℕ}
+    → ((t : List ℕ) (d : A) → l.least ≤ length t → length t ≤ l.most → rereads (body l.seal t) d → tells d ≡ told (read l.fmt [] 0 (bits_of (body l.seal t))))
+    → InPlace l.seal rereads tells s p w v refusal x → Corrects l s i v refusal x
+family_in_place {l} {R} {Lent} {values_of} {record_of} {changed} F s fine i v p w r good stands slim {A} {rereads} {tells} {refusal} {x} again z = go (eqb a.code 0) refl
+  where
+    a : Verdict
+    a = admitted (bare 0) p w v
+
+    reads : bare 0 ≡ told (read_message l s)
+    reads = read_told l record_of s good
+
+    found_so : (vs : List ℕ) → read_message l s ≡ accepted vs → spot l.fmt [] vs i ≡ standing p w
+    found_so vs e = rw (← record_values F s vs e) (stands (record_of vs) (ap (also record_of) e))
+
+    go : (b : Bool) → eqb a.code 0 ≡ b → Corrects l s i v refusal x
+    go true e =
+        let (d, is, done) = z.changes (eqb-true a.code 0 e) in
+        let t = put_in s p w v in
+        in_place l F.sound F.judged s i v p w reads found_so slim fine {code = a} {at = p} {width = w} {old = got s p w} {d = tells d} {last = refusal} {t = t} {x = x}
+        (record { admits = refl; offset = refl; wide = refl; was = refl; puts = rw e refl })
+        (λ q same.
+        let (vs, k) = accepted_by (read_message l s) reads (λ q. read_zero_message l s q F.judged) refl in
+        let (least, most) = within_sizes l F.sound s vs (was l s vs k) in
+        again t d (omega (arith, least, same)) (omega (arith, most, same)) is)
+        (record { answers = done.answers ∙ rw e refl; leaves = done.leaves ∙ rw e refl })
+    go false e =
+        let (same, left) = z.stays (eqb-false a.code 0 e) in
+        let d = told (read l.fmt [] 0 (bits_of (body l.seal s))) in
+        in_place l F.sound F.judged s i v p w reads found_so slim fine {code = a} {at = p} {width = w} {old = got s p w} {d = d} {last = refusal} {t = s} {x = x}
+        (record { admits = refl; offset = refl; wide = refl; was = refl; puts = rw e refl })
+        (λ q k. refl)
+        (record { answers = same ∙ rw e refl; leaves = left ∙ rw e refl })
+
+-- what the fields tell where their size is tested first
+pub fields_told : {R : Type 0} (l : Layout) (record_of : List ℕ → R) (t : List ℕ) (x : Result R Refusal) → l.least ≤ length t → length t ≤ l.most
+    → out_of x ≡ plain (also record_of (fields_of l.fmt (inside l.seal l.least) (inside l.seal l.most) (body l.seal t))) → told_of x ≡ told (read l.fmt [] 0 (bits_of (body l.seal t)))
+fields_told l record_of t x least most e =
+    told_out x ∙ ap verdict_of e ∙ numbered accepted refused_by record_of verdict_of (λ r. refl) (λ c. refl) (fields_of l.fmt (inside l.seal l.least) (inside l.seal l.most) (body l.seal t)) ∙ ap told (good_size l t least most)
+
+-- and where they are read whatever it is
+pub fields_told_at_once : {R : Type 0} (l : Layout) (record_of : List ℕ → R) (t : List ℕ) (x : Result R Refusal) → out_of x ≡ plain (also record_of (read l.fmt [] 0 (bits_of t))) → told_of x ≡ told (read l.fmt [] 0 (bits_of t))
+fields_told_at_once l record_of t x e = told_out x ∙ ap verdict_of e ∙ numbered accepted refused_by record_of verdict_of (λ r. refl) (λ c. refl) (read l.fmt [] 0 (bits_of t))

@@ -1,30 +1,16 @@
--- `admits` goes by its tests: an earlier refusal, no field that may be corrected, a value too wide.
-use mathlib.Core.Path.{refl, ◌∙◌}
-use Prim.Native.Nat.{◌^◌, ◌<◌}
-use native.Mathlib.Nat.{lt_of_lt_of_le}
-use lib.Pow.{pow_mono}
-use borrow.Author.Tests.{eq-eqb, ne_eqb, lt-ltb, le-ltb}
-use Rattle.bits.specs.Laws.Digits.{small, large}
+-- `admits`: a field that may be corrected takes a value that its bits hold; one of 64 bits holds each.
+use Rattle.std.proofs.Common.{◌^◌, ◌<◌, refl, ap, arith, lt_of_lt_of_le, pow_mono, ne_eqb}
+use borrow.Author.Tests.{lt-ltb}
+use Rattle.bits.specs.Laws.Digits.{small}
+use Rattle.change.proofs.correcting.admits.Goals.{else-spot-lt64-via-then-spot-lt64+else-v-spot-ne0, else-spot-lt64-via-else-spot-lt64}
 use Rattle.change.proofs.correcting.admits.Goals as goal
 
-pub returns-then-refusal-ne0 : goal.returns-then-refusal-ne0
-returns-then-refusal-ne0 c = rw (ne_eqb _ 0 c.if-refusal-ne0.true)
-
-pub returns-then-width-eq0 : goal.returns-then-width-eq0
-returns-then-width-eq0 c = rw (eq-eqb _ 0 c.if-refusal-ne0.false, eq-eqb _ 0 c.if-width-eq0.true)
-
-pub returns-then-v-width-ne0 : goal.returns-then-v-width-ne0
-returns-then-v-width-ne0 c =
+pub returns-else-spot-lt64-clause-answers : goal.returns-else-spot-lt64-clause-answers
+returns-else-spot-lt64-clause-answers c =
     let a = c.args in
-    c.shown.ensures ∙ rw (eq-eqb _ 0 c.if-refusal-ne0.false, ne_eqb _ 0 c.if-width-eq0.false, le-ltb a.v (2 ^ a.width) (large a.v a.width c.if-v-width-ne0.true)) refl
-
-pub returns-else-v-width-ne0 : goal.returns-else-v-width-ne0
-returns-else-v-width-ne0 c =
-    let a = c.args in
-    rw (eq-eqb _ 0 c.if-refusal-ne0.false, ne_eqb _ 0 c.if-width-eq0.false, lt-ltb a.v (2 ^ a.width) (small a.v a.width c.if-v-width-ne0.false))
-
-pub returns-else-width-lt64 : goal.returns-else-width-lt64
-returns-else-width-lt64 c =
-    let a = c.args in
-    let l : a.v < 2 ^ a.width = lt_of_lt_of_le c.ranges.v.fits (pow_mono c.if-width-lt64.false) in
-    rw (eq-eqb _ 0 c.if-refusal-ne0.false, ne_eqb _ 0 c.if-width-eq0.false, lt-ltb a.v (2 ^ a.width) l)
+    let w = c.in-Some.spot.width in
+    let fits : a.v < 2 ^ w = elim c.else-spot-lt64.branch [
+      | else-spot-lt64-via-then-spot-lt64+else-v-spot-ne0 x ↦ small a.v w x.if-v-spot-ne0.false
+      | else-spot-lt64-via-else-spot-lt64 x ↦ lt_of_lt_of_le c.ranges.v.fits (pow_mono x.if-spot-lt64.false)
+    ] in
+    rw (c.in-Some.is, ne_eqb w 0 (λ z. omega (arith, z, c.if-spot-gt0.true)), lt-ltb a.v (2 ^ w) fits) refl

@@ -7,7 +7,7 @@ use lib.ListN.{take}
 use Rattle.change.proofs.sealing.inner.Goals as goal
 
 pub slice_bounds-result-end : goal.slice_bounds-result-end
-slice_bounds-result-end c = let s = c.args.s.now in sym (length-take-le c.one_less-n.result s (omega arith))
+slice_bounds-result-end c = let s = c.args.s.now in sym (length-take-le c.saturating_sub-n.result s (omega arith))
 
 pub returns : goal.returns
-returns c = let s = c.args.s.now in ap (λ n. take n s) c.one_less-n.ensures
+returns c = let s = c.args.s.now in ap (λ n. take n s) c.saturating_sub-n.ensures

@@ -2,11 +2,9 @@
 use mathlib.Core.Path.{ap, ◌∙◌}
 use Rattle.format.specs.Sealing.{stamped}
 use Rattle.format.specs.Laws.Sealing.{stamp_last}
-use Rattle.change.proofs.sealing.seal.Goals.{After-one_less-n}
 use Rattle.change.proofs.sealing.seal.Goals as goal
 
 pub returns : goal.returns
 returns c =
-    let n = (goal.at.returns c).After-one_less-n in
     let a = c.args in
-    c.stamp.ensures ∙ ap (λ n. stamped n a.buf.now) c.one_less-n.ensures ∙ stamp_last a.buf.now
+    c.stamp.ensures ∙ ap (λ n. stamped n a.buf.now) c.saturating_sub-n.ensures ∙ stamp_last a.buf.now
