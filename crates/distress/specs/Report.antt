@@ -2,18 +2,13 @@
 use Rattle.std.specs.Prelude.{ℕ, ◌^◌, ◌<◌, ◌≡◌, refl, false, List, [], ◌∷◌, eqb, length, get_or}
 use Rattle.std.proofs.Common.{lit≤}
 use Rattle.bits.specs.Bits.{field_at}
-use Rattle.format.specs.Fmt.{Out, accepted, Fmt, end}
+use Rattle.format.specs.Fmt.{Fmt, end}
 use Rattle.format.specs.Message.{Layout, led, between}
-use Rattle.format.specs.Promises.{answered, refused_by}
-use Rattle.format.specs.Refusals.{bare}
-use Rattle.format.specs.Refusals.{Verdict}
 use Rattle.walk.specs.Sign.{int_of, spell_of}
 use Rattle.format.specs.Words.{◌‥◌, signed, ◌▹◌, num, code, fill}
 use Rattle.format.specs.Laws.Extent.{Plain, span}
 use Rattle.walk.specs.Laws.Sign.{int_spell}
 use Rattle.distress.specs.declared.reading.Report.{Report}
-use Rattle.distress.specs.declared.reading.Answer.{Answer}
-use Rattle.distress.specs.declared.reading.Answer.TheVariants.{Good, Refused}
 
 unfoldable pub report : Fmt
 report =
@@ -69,19 +64,6 @@ report_of vs = record {
   course = get_or vs 8 0;
   kind = get_or vs 9 0;
 }
-
--- the paper's refusals and values
-abbrev pub answer_of : Out Report → Answer
-answer_of = answered Good Refused
-
--- an answer taken apart, and its refusal
-abbrev pub out_of : Answer → Out Report
-out_of (Good r) = accepted r
-out_of (Refused c) = refused_by c
-
-abbrev pub refusal_of : Answer → Verdict
-refusal_of (Good r) = bare 0
-refusal_of (Refused c) = c
 
 -- a record whose position fits its bits is that of its values
 pub again : (r : Report) → spell_of (2 ^ 25) r.longitude < 2 ^ 25 → spell_of (2 ^ 24) r.latitude < 2 ^ 24 → report_of (values_of r) ≡ r

@@ -3,10 +3,13 @@ ghost use Rattle.distress.specs.Changed.{spot_of};
 ghost use Rattle.distress.specs.Report.{reports};
 ghost use Rattle.format.specs.Correcting.{StandsAt};
 ghost use Rattle.format.specs.Promises.{Corrects};
+ghost use Rattle.format.specs.Refusals.{told_of};
+ghost use Rattle.walk.specs.Walk.{at_of, width_of};
 
 use crate::reading::{Report, fields, read};
-use change::correcting::Spot;
+use change::correcting::in_place;
 use format::Refusal;
+use walk::walk::Spot;
 
 impl Report {
     // The numbers that name the fields to be corrected: their positions among the paper's fields. The code before them and the fill
@@ -31,34 +34,28 @@ impl Report {
 }
 
 // Makes field number `field` of the message be `value`, or leaves every byte.
-pub fn correct(buf: &mut [u8], field: usize, value: u64) -> Refusal
-    ensures { Corrects reports buf.old field value result buf.new }
+pub fn correct(buf: &mut [u8], field: usize, value: u64) -> Result<(), Refusal>
+    ensures { Corrects reports buf.old field value (told_of result) buf.new }
 {
-    let was = read(buf);
-    let own = was.refusal();
-    if own.code != 0 {
-        return own;
-    }
+    read(buf)?;
     let spot = stands(field);
-    let begun = change::correcting::begin(buf, own, spot, value);
-    let again = fields(buf);
-    change::correcting::finish(buf, begun, again.refusal())
+    in_place(buf, false, spot, value, fields)
 }
 
 // Where each field that may be corrected stands in every report, and its width.
-fn stands(field: usize) -> Spot
-    ensures { StandsAt (spot_of field) result.at result.width }
+fn stands(field: usize) -> Option<Spot>
+    ensures { StandsAt (spot_of field) (at_of result) (width_of result) }
 {
     match field {
-        Report::MMSI => Spot { at: 16, width: 32 },
-        Report::LONGITUDE => Spot { at: 48, width: 25 },
-        Report::LATITUDE => Spot { at: 73, width: 24 },
-        Report::DAY => Spot { at: 97, width: 5 },
-        Report::HOUR => Spot { at: 102, width: 5 },
-        Report::MINUTE => Spot { at: 107, width: 6 },
-        Report::SPEED => Spot { at: 113, width: 7 },
-        Report::COURSE => Spot { at: 120, width: 9 },
-        Report::KIND => Spot { at: 129, width: 4 },
-        _ => Spot { at: 0, width: 0 },
+        Report::MMSI => Some(Spot { at: 16, width: 32 }),
+        Report::LONGITUDE => Some(Spot { at: 48, width: 25 }),
+        Report::LATITUDE => Some(Spot { at: 73, width: 24 }),
+        Report::DAY => Some(Spot { at: 97, width: 5 }),
+        Report::HOUR => Some(Spot { at: 102, width: 5 }),
+        Report::MINUTE => Some(Spot { at: 107, width: 6 }),
+        Report::SPEED => Some(Spot { at: 113, width: 7 }),
+        Report::COURSE => Some(Spot { at: 120, width: 9 }),
+        Report::KIND => Some(Spot { at: 129, width: 4 }),
+        _ => None,
     }
 }

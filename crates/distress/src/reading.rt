@@ -1,12 +1,13 @@
 // The distress report (paper 01, "Distress report"; 001, A.1).
-ghost use Rattle.std.specs.Prelude.{◌≡◌, cond, eqb};
-ghost use Rattle.distress.specs.declared.reading.Answer.TheVariants.{Good, Refused};
-ghost use Rattle.distress.specs.Report.{reports, report, report_of, answer_of, refusal_of};
+ghost use Rattle.std.specs.Prelude.{◌≡◌};
+ghost use Rattle.distress.specs.Report.{reports, report, report_of};
 ghost use Rattle.distress.specs.Promises.{Reads};
 ghost use Rattle.format.specs.Fmt.{also};
+ghost use Rattle.format.specs.Promises.{out_of, plain};
+ghost use Rattle.format.specs.Refusals.{code_of};
 ghost use Rattle.format.specs.Message.{fields_of};
 
-use format::Refusal;
+use format::{Reason, Refusal};
 
 #[derive(Clone, Copy)]
 pub struct Report {
@@ -25,34 +26,6 @@ pub struct Report {
     pub kind: u8,
 }
 
-#[derive(Clone, Copy)]
-pub enum Answer {
-    Good(Report),
-    Refused(Refusal),
-}
-
-impl Answer {
-    // The report, unless a walk over it ended with a refusal.
-    fn told(refusal: Refusal, report: Report) -> Answer
-        ensures { result ≡ cond (eqb refusal.code 0) (Good report) (Refused refusal) }
-    {
-        if refusal.code != 0 {
-            return Answer::Refused(refusal);
-        }
-        Answer::Good(report)
-    }
-
-    // Its refusal: none for a good one.
-    pub fn refusal(self) -> Refusal
-        ensures { result ≡ refusal_of self }
-    {
-        match self {
-            Answer::Good(_) => Refusal::NONE,
-            Answer::Refused(refusal) => refusal,
-        }
-    }
-}
-
 impl Report {
     pub const BITS: usize = 136;
 
@@ -63,52 +36,48 @@ impl Report {
 
 pub const CODE: u64 = 0xBDC1;
 
-pub fn read(s: &[u8]) -> Answer
+pub fn read(s: &[u8]) -> Result<Report, Refusal>
     ensures { Reads s.now result }
 {
-    let code = lead(s);
-    if code != 0 {
-        return Answer::Refused(Refusal::bare(code));
-    }
+    lead(s)?;
     fields(s)
 }
 
 // The first tests: smallest size, code, size.
-pub fn lead(s: &[u8]) -> u8
-    ensures { result ≡ reports.lead s.now }
+pub fn lead(s: &[u8]) -> Result<(), Reason>
+    ensures { code_of result ≡ reports.lead s.now }
 {
     if s.len() < Report::LEAST {
-        return format::SIZE;
+        return Err(Reason::Size);
     }
     if bits::get(s, 0, 16) != CODE {
-        return format::KIND;
+        return Err(Reason::Kind);
     }
     if s.len() > Report::GREATEST {
-        return format::SIZE;
+        return Err(Reason::Size);
     }
-    0
+    Ok(())
 }
 
 // The fields in bit order. A refused report is walked once more for its bit, so that a good one carries none.
-pub fn fields(s: &[u8]) -> Answer
-    ensures { result ≡ answer_of (also report_of (fields_of report 17 17 s.now)) }
+pub fn fields(s: &[u8]) -> Result<Report, Refusal>
+    ensures { out_of result ≡ plain (also report_of (fields_of report 17 17 s.now)) }
 {
     let answer = walked(s);
-    let refusal = answer.refusal();
-    if refusal.code != 0 {
+    if answer.is_err() {
         return walked(s);
     }
     answer
 }
 
 // Another size is refused at once: no field has then to be tested for it.
-fn walked(s: &[u8]) -> Answer
-    ensures { result ≡ answer_of (also report_of (fields_of report 17 17 s.now)) }
+fn walked(s: &[u8]) -> Result<Report, Refusal>
+    ensures { out_of result ≡ plain (also report_of (fields_of report 17 17 s.now)) }
 {
     if s.len() != Report::LEAST {
-        return Answer::Refused(Refusal::SIZE);
+        return Err(Reason::Size.into());
     }
-    let w = walk::walk::Walk::begin(0, 0).code(s, 16, CODE);
+    let w = walk::walk::Walk::begin(0).code(s, 16, CODE);
     let w = w.num(s, 32, 0, 999_999_999);
     let mmsi = w.v as u32;
     let w = w.signed(s, 25, 10_800_000, 22_754_432, 10_860_000);
@@ -128,7 +97,8 @@ fn walked(s: &[u8]) -> Answer
     let w = w.num(s, 4, 0, 9);
     let kind = w.v as u8;
     let w = w.fill(s, 3).end(s);
-    let r = Report {
+    w.passed()?;
+    Ok(Report {
         mmsi,
         longitude,
         latitude,
@@ -138,6 +108,5 @@ fn walked(s: &[u8]) -> Answer
         speed,
         course,
         kind,
-    };
-    Answer::told(w.refusal(), r)
+    })
 }

@@ -4,8 +4,7 @@ use Rattle.std.proofs.Common.{sym, ap, ◌∙◌, subst, lit≤}
 use Rattle.bits.specs.Bits.{Bytes}
 use Rattle.format.specs.Refusals.{bare}
 use Rattle.format.specs.Refusals.{Verdict}
-use Rattle.format.specs.Promises.{read_record, Writes, Corrects}
-use Rattle.format.specs.Laws.Answers.{answer_plain}
+use Rattle.format.specs.Promises.{read_record, out_of, plain, Writes, Corrects}
 use Rattle.format.specs.Laws.Entries.{entries, legal_entries}
 use Rattle.format.specs.Laws.Family.{Family}
 use Rattle.format.proofs.Laws.Family.{written_front, read_written}
@@ -16,12 +15,12 @@ use Rattle.walk.specs.Laws.Sign.{spell_int}
 use Rattle.format.specs.Laws.Zero.{Judged, only_numbered}
 use Rattle.distress.specs.Changed.{spot_of, changed}
 use Rattle.distress.specs.Promises.{Reads}
-use Rattle.distress.specs.Report.{report, reports, values_of, report_of, answer_of, out_of, again}
+use Rattle.distress.specs.Report.{report, reports, values_of, report_of, again}
 use Rattle.distress.specs.Laws.Correction.{spotted, changed_values}
 use Rattle.distress.specs.Laws.Sound.{sound}
 use Rattle.distress.specs.declared.reading.Report.{Report}
-use Rattle.distress.specs.declared.reading.Answer.{Answer}
-use Rattle.distress.specs.declared.reading.Answer.TheVariants.{Good, Refused}
+use Rattle.format.specs.declared.Refusal.{Refusal}
+use Rattle.std.specs.Prelude.{Result, Ok}
 use Rattle.distress.specs.Laws.Demands.{good, long}
 
 judged : Judged report
@@ -74,14 +73,14 @@ family = record {
 -- ---- said of the report's promises
 
 -- What is written is read back as the same record.
-pub written_reads : (s : List ℕ) (r : Report) (t : List ℕ) → Writes reports s (bare 0) t (values_of r) → Reads (take 17 t) (Good r)
-written_reads s r t w = sym (ap answer_of (written_front family s r t 17 tt w (long (values_of r))))
+pub written_reads : (s : List ℕ) (r : Report) (t : List ℕ) → Writes reports s (bare 0) t (values_of r) → Reads (take 17 t) (Ok r)
+written_reads s r t w = sym (ap plain (written_front family s r t 17 tt w (long (values_of r))))
 
 -- What is read is written back as the same bytes.
-pub read_writes_back : (s : List ℕ) (r : Report) → Bytes s → Reads s (Good r) → (u : List ℕ) (code : Verdict) (t : List ℕ) → length s ≤ length u → Writes reports u code t (values_of r)
+pub read_writes_back : (s : List ℕ) (r : Report) → Bytes s → Reads s (Ok r) → (u : List ℕ) (code : Verdict) (t : List ℕ) → length s ≤ length u → Writes reports u code t (values_of r)
     → (code ≡ bare 0) × (t ≡ s ++ drop (length s) u)
 read_writes_back s r fine a = read_written family s r fine (good s r a)
 
 -- Demand 3: every correction of a report, by any number and any value.
-pub corrected : (s : List ℕ) (a : Answer) → Bytes s → Reads s a → (i v : ℕ) (code : Verdict) (t : List ℕ) → Corrects reports s i v code t → Settled reports (λ r. spot_of) values_of changed s (out_of a) i v code t
-corrected s a fine reads i v code t c = settled family (λ r. spot_of) spotted s fine i v code t c (out_of a) (answer_plain Good Refused out_of (λ q. refl) (λ c. refl) (read_record reports report_of s) reads)
+pub corrected : (s : List ℕ) (a : Result Report Refusal) → Bytes s → Reads s a → (i v : ℕ) (code : Verdict) (t : List ℕ) → Corrects reports s i v code t → Settled reports (λ r. spot_of) values_of changed s (out_of a) i v code t
+corrected s a fine reads i v code t c = settled family (λ r. spot_of) spotted s fine i v code t c (out_of a) reads

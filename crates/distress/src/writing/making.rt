@@ -4,6 +4,7 @@ ghost use Rattle.distress.specs.Report.{report, values_of};
 ghost use Rattle.distress.specs.Values.{list_of};
 ghost use Rattle.format.specs.Fmt.{write};
 ghost use Rattle.walk.specs.Laws.Judging.{Judged};
+ghost use Rattle.walk.specs.Walk.{seen};
 ghost use Rattle.format.specs.Laws.Putting.{Puts};
 
 use crate::reading::{CODE, Report};
@@ -44,9 +45,9 @@ pub(crate) fn spelled(r: Report) -> Values
 
 // The values judged in bit order.
 pub(crate) fn judged(v: Values) -> walk::walk::Walk
-    ensures { Judged (write report [] 0 (list_of v)) result }
+    ensures { Judged (write report [] 0 (list_of v)) (seen result) }
 {
-    let w = walk::walk::Walk::begin(0, 0);
+    let w = walk::walk::Walk::begin(0);
     let w = w.fixed(16, CODE);
     let w = w.value(32, v.mmsi, 0, 999_999_999);
     let w = w.signed_value(

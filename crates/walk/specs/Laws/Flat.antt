@@ -1,12 +1,14 @@
 -- Writing a message of a flat layout, with no kind and no seal: the size that it makes is known. Assumes nothing.
-use Rattle.std.specs.Prelude.{◌≡◌, ℕ, ◌<◌, ◌≤◌, Bool, true, false, cond, List, [], length, ◌≢◌, refl}
+use Rattle.std.specs.Prelude.{◌≡◌, ℕ, ◌<◌, ◌≤◌, Bool, true, false, cond, List, [], length, ◌≢◌, refl, Result, IsErrAnd}
 use Rattle.std.proofs.Common.{sym, ap, ◌∙◌, arith, eq-eqb, ne_eqb, le-leb}
 use Rattle.std.proofs.Math.Path.{subst⁻¹}
 use Rattle.std.proofs.lemmas.Bool.{lt-leb}
 use Rattle.format.specs.Fmt.{accepted, check, write}
 use Rattle.walk.specs.Judging.{bytes_to}
 use Rattle.format.specs.Promises.{Writes}
-use Rattle.format.specs.Refusals.{shown, bare}
+use Rattle.format.specs.Refusals.{shown, bare, seen_refusal, told_of}
+use Rattle.format.specs.declared.Refusal.{Refusal}
+use Rattle.format.specs.Laws.Outcomes.{number_some, told_exit}
 use Rattle.format.specs.Refusals.{Verdict}
 use Rattle.format.specs.Message.{Layout, fault, between}
 use Rattle.format.specs.Laws.Extent.{Plain}
@@ -23,6 +25,10 @@ module _ (l : Layout) {n : ℕ} (x : Plain l n) (s vs : List ℕ) {w : Walk} (j 
 
   pub write_fails : {r : Verdict} → r ≡ shown w.code w.offset → (w.code ≢ 0) → Writes l s r s vs
   write_fails e h = write_refused l vs s whole (e ∙ rw (ne_eqb w.code 0 h) refl) (λ z. h (ap (λ r. r.code) (sym e) ∙ z))
+
+  -- the same where it is handed on
+  pub fails_exit : {A : Type 0} (x : Result A Refusal) (f : Refusal) → IsErrAnd x (λ g. g ≡ f) → seen_refusal f ≡ shown w.code w.offset → Writes l s (told_of x) s vs
+  fails_exit x f h e = subst⁻¹ (λ c. Writes l s c s vs) (told_exit x f h) (write_fails e (λ z. number_some f.reason (ap (λ v. v.code) e ∙ z)))
 
   module _ (h : w.code ≡ 0) where
     bytes_made : bytes_to w.at ≡ n

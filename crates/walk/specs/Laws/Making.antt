@@ -1,7 +1,7 @@
 -- Writing a message of any layout: what the code answers, and leaves in a lent buffer. Assumes nothing.
-use Rattle.std.specs.Prelude.{◌≡◌, ℕ, suc, ◌+◌, ◌*◌, ◌/◌, ◌<◌, ◌≤◌, Bool, true, false, cond, List, [], ◌∷◌, ◌++◌, length, take, drop, ◌==◌, ◌≢◌, nat_le}
+use Rattle.std.specs.Prelude.{◌≡◌, ℕ, suc, ◌+◌, ◌*◌, ◌/◌, ◌<◌, ◌≤◌, Bool, true, false, cond, List, [], ◌∷◌, ◌++◌, length, take, drop, ◌==◌, ◌≢◌, nat_le, Result, IsErrAnd}
 use Rattle.std.proofs.Math.Path.{refl, ap}
-use Rattle.std.proofs.Common.{sym, ap₂, ◌∙◌, length-append, take-append-drop, take_at, drop_at, drop-drop}
+use Rattle.std.proofs.Common.{sym, subst, ap₂, ◌∙◌, length-append, take-append-drop, take_at, drop_at, drop-drop}
 use native.Mathlib.Omega.{arith}
 use borrow.Author.Tests.{leb-true, lt-ltb, eqb-true, eqb-false}
 use Rattle.bits.specs.Bits.{bytes_of}
@@ -10,7 +10,9 @@ use Rattle.bits.specs.Xor.{xor_of}
 use Rattle.format.specs.Fmt.{Out, accepted, refused, Fault, good, bad, check, after, write}
 use Rattle.walk.specs.Judging.{beyond, bytes_to, made, verdict, closing}
 use Rattle.format.specs.Promises.{Writes}
-use Rattle.format.specs.Refusals.{shown, bare}
+use Rattle.format.specs.Refusals.{shown, bare, seen_refusal, told_of}
+use Rattle.format.specs.declared.Refusal.{Refusal}
+use Rattle.format.specs.Laws.Outcomes.{number_some, told_exit}
 use Rattle.format.specs.Refusals.{Verdict}
 use Rattle.format.specs.Sealing.{stamped}
 use Rattle.format.specs.Message.{Layout, fault, between, size, sealed, closed, told, into, refuses, accepts, write_message}
@@ -103,6 +105,10 @@ module _ (l : Layout) (vs s : List ℕ) {r : Walk} (j : Judged (check (fault (l.
           let a = refuses {s = s} m in
           (e ∙ rw (ex, ey, ez) a.0, a.1)
       go true true true ex ey ez = absurd (h (ap (λ c. c.code) e ∙ rw (ex, ey, ez) refl))
+
+  -- the same where it is handed on
+  pub closes_exit : {A : Type 0} (x : Result A Refusal) (f : Refusal) → IsErrAnd x (λ g. g ≡ f) → seen_refusal f ≡ closing l.seal l.least l.most (length s) r → Writes l s (told_of x) s vs
+  closes_exit x f h e = subst (λ c. Writes l s c s vs) (sym (told_exit x f h)) (write_refused e (number_some f.reason))
 
   -- t has the fields, and u the seal besides
   pub write_stands : {code : Verdict} {t u : List ℕ} → code ≡ closing l.seal l.least l.most (length s) r → code.code ≡ 0 → Puts l.fmt vs s t
