@@ -21,7 +21,8 @@ pub fn accept(places: &mut [Place], store: &mut [u8], packet: &[u8]) -> Reply
     if places.len() < PLACES {
         return crate::accepting::unplaced(packet);
     }
-    let accepted = crate::accepting::accept(front(places), store, packet);
+    let four = front(places);
+    let accepted = crate::accepting::accept(four, store, packet);
     places[accepted.at] = accepted.place;
     accepted.reply
 }
@@ -39,7 +40,8 @@ pub fn ask(
     if places.len() < PLACES {
         return Reply::Refused(SHORT);
     }
-    let asked = crate::asking::ask(front(places), store, number, notice, missing);
+    let four = front(places);
+    let asked = crate::asking::ask(four, store, number, notice, missing);
     places[asked.at] = asked.place;
     asked.reply
 }
@@ -51,7 +53,8 @@ pub fn drop(places: &mut [Place], store: &[u8], number: u8) -> Reply
     if places.len() < PLACES {
         return Reply::Refused(SHORT);
     }
-    let dropped = crate::asking::drop(front(places), store, number);
+    let four = front(places);
+    let dropped = crate::asking::drop(four, store, number);
     places[dropped.at] = dropped.place;
     dropped.reply
 }

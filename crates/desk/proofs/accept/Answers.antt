@@ -13,4 +13,4 @@ returns c =
     let a = c.args in
     let r = c.accept-accepted in
     accepts_row a.places.now a.store.now a.packet.now r.result r.new.store c.if-places-lt-PLACES.false
-    (subst (λ ps. AcceptTurn ps a.store.now a.packet.now r.result r.new.store) c.front.ensures r.ensures)
+    (subst (λ ps. AcceptTurn ps a.store.now a.packet.now r.result r.new.store) c.front-four.ensures r.ensures)

@@ -12,4 +12,4 @@ returns c =
     let a = c.args in
     let r = c.ask-asked in
     asks_row a.places.now a.store.now a.number a.notice.now a.missing.now r.result r.new.notice r.new.missing c.if-places-lt-PLACES.false
-    (subst (λ ps. AskTurn ps a.store.now a.number a.notice.now a.missing.now r.result r.new.notice r.new.missing) c.front.ensures r.ensures)
+    (subst (λ ps. AskTurn ps a.store.now a.number a.notice.now a.missing.now r.result r.new.notice r.new.missing) c.front-four.ensures r.ensures)

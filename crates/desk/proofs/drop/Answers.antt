@@ -11,4 +11,4 @@ pub returns : goal.returns
 returns c =
     let a = c.args in
     let r = c.drop-dropped in
-    drops_row a.places.now a.store.now a.number r.result c.if-places-lt-PLACES.false (subst (λ ps. DropTurn ps a.store.now a.number r.result) c.front.ensures r.ensures)
+    drops_row a.places.now a.store.now a.number r.result c.if-places-lt-PLACES.false (subst (λ ps. DropTurn ps a.store.now a.number r.result) c.front-four.ensures r.ensures)

@@ -49,10 +49,6 @@ slice_bounds-content-count c = omega (arith, (good (goal.at.slice_bounds-content
 pub slice_bounds-content-start : goal.slice_bounds-content-start
 slice_bounds-content-start c = omega (arith, (good (goal.at.slice_bounds-content-start c).In-Good).0)
 
--- the first tests passed
-passed : (k : After-content-1) → first_tests k.args.places k.args.store.now ≡ 0
-passed k = sym k.first_tests-code.ensures ∙ k.if-code-ne0.false
-
 -- the open place of the packet's number, and which it is
 here : (k : After-place_at-p) → let a = k.args in let n = open_at a.places k.in-Good.r.number in (k.in-Some.i ≡ n) × (n < four_places) × (k.place_at-p.result ≡ place_at a.places n)
 here k =
@@ -65,7 +61,7 @@ join-requires c =
     let a = c.args in
     let r = c.in-Good.r in
     let fit = (good (goal.at.join-requires c).In-Good).2 in
-    let zero = passed (goal.at.join-requires c).After-content-1 in
+    let zero = let k = (goal.at.join-requires c).After-content-1 in sym k.first_tests-code.ensures ∙ k.if-code-ne0.false in
     let (deep, good) = tests_passed a.places a.store.now zero in
     let (there, low, is) = here k in
     let sized = open_sized a.places r.number good low in
@@ -80,7 +76,7 @@ returns-in-Some c =
     let a = c.args in
     let r = c.in-Good.r in
     let (long, reads, fit) = good m in
-    let zero = passed (goal.at.returns-in-Some c).After-content-1 in
+    let zero = let k = (goal.at.returns-in-Some c).After-content-1 in sym k.first_tests-code.ensures ∙ k.if-code-ne0.false in
     let (there, low, is) = here k in
     of_four a.places a.store.now a.packet.now _ _ _ (joins_open a.places a.store.now a.packet.now r (content m) reads (search rules) zero low)
     (subst₂ (λ i p. Gives (place_at a.places 0) (joins a.store.now i p r (content m)) c.join.result c.join.new.store) there is c.join.ensures)
@@ -90,7 +86,7 @@ begin-requires c =
     let m = (goal.at.begin-requires c).In-Good in
     let a = c.args in
     let fit = (good m).2 in
-    let zero = passed (goal.at.begin-requires c).After-content-1 in
+    let zero = let k = (goal.at.begin-requires c).After-content-1 in sym k.first_tests-code.ensures ∙ k.if-code-ne0.false in
     let (deep, _) = tests_passed a.places a.store.now zero in
     let own = fit.own in
     let total = fit.total in
@@ -102,7 +98,7 @@ returns-in-None c =
     let a = c.args in
     let r = c.in-Good.r in
     let (long, reads, fit) = good m in
-    let zero = passed (goal.at.returns-in-None c).After-content-1 in
+    let zero = let k = (goal.at.returns-in-None c).After-content-1 in sym k.first_tests-code.ensures ∙ k.if-code-ne0.false in
     let none = one_none (open_at a.places r.number) (sym c.in-None.is ∙ c.open_at.ensures) in
     of_four a.places a.store.now a.packet.now _ _ _ (opens_free a.places a.store.now a.packet.now r (content m) reads (search rules) zero none) c.begin.ensures
 
