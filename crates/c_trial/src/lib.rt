@@ -65,12 +65,9 @@ fn tell(said: &mut [usize], reply: Reply) -> u32
     if said.len() < SAID {
         return reply.refusal().packed();
     }
-    let again = again_of(reply, said[0]);
-    let count = count_of(reply, said[1]);
-    let language = language_of(reply, said[2]);
-    said[0] = again;
-    said[1] = count;
-    said[2] = language;
+    said[0] = again_of(reply, said[0]);
+    said[1] = count_of(reply, said[1]);
+    said[2] = language_of(reply, said[2]);
     reply.refusal().packed()
 }
 
@@ -80,9 +77,7 @@ fn again_of(reply: Reply, before: usize) -> usize
     match reply {
         Reply::Done => 0,
         Reply::Again => 1,
-        Reply::Joined(_, _) => before,
-        Reply::Missing(_) => before,
-        Reply::Refused(_) => before,
+        _ => before,
     }
 }
 
@@ -90,11 +85,8 @@ fn count_of(reply: Reply, before: usize) -> usize
     ensures { result ≡ count_of reply before }
 {
     match reply {
-        Reply::Done => before,
-        Reply::Again => before,
-        Reply::Joined(n, _) => n,
-        Reply::Missing(n) => n,
-        Reply::Refused(_) => before,
+        Reply::Joined(n, _) | Reply::Missing(n) => n,
+        _ => before,
     }
 }
 
@@ -102,11 +94,8 @@ fn language_of(reply: Reply, before: usize) -> usize
     ensures { result ≡ language_of reply before }
 {
     match reply {
-        Reply::Done => before,
-        Reply::Again => before,
-        Reply::Joined(_, language) => language as usize,
-        Reply::Missing(_) => before,
-        Reply::Refused(_) => before,
+        Reply::Joined(_, language) => usize::from(language),
+        _ => before,
     }
 }
 

@@ -1,10 +1,11 @@
 -- A packet's ways to its notice, where the four places are ps, and what is answered where the row of places is too short.
 use mathlib.Core.Path.{◌≡◌, refl, sym, ap, ◌∙◌}
 use mathlib.Core.Bool.{cond}
-use mathlib.Core.List.{List, [], ◌∷◌}
+use mathlib.Core.List.{List}
 use Prim.Native.Nat.{ℕ, ◌≤◌, ◌<◌}
 use native.Mathlib.Omega.{arith}
 use lib.Dec.{eqb}
+use lib.ListN.{length}
 use borrow.Author.Tests.{eq-eqb, ne_eqb, lt-ltb, le-ltb}
 use Rattle.format.specs.Fmt.{Out, accepted, refused}
 use Rattle.format.specs.Promises.{answered, read_record}
@@ -14,31 +15,28 @@ use Rattle.packet.specs.Packet.{packets, record_of, answer_of}
 use Rattle.packet.specs.Promises.{Reads}
 use Rattle.packet.specs.declared.reading.Packet.{Packet}
 use Rattle.packet.specs.declared.reading.Answer.TheVariants.{Good, Refused as Refused'}
-use Rattle.places.specs.Places.{four_places, place_at, open_at, free_at}
+use Rattle.places.specs.Places.{four_places, place_at, front, open_at, free_at}
 use Rattle.places.specs.Desk.{Accepting, turn_of, turned_away, joins, opens, first_tests, received, accepting, unplaced}
 use Rattle.places.specs.Promises.{Gives, AcceptTurn}
-use Rattle.places.specs.Laws.Four.{turn_first}
+use Rattle.places.specs.Laws.Four.{front_is, turn_first}
 use Rattle.places.specs.declared.Place.{Place}
 use Rattle.places.specs.declared.Reply.TheVariants.{Refused}
 use Rattle.places.specs.declared.Turn.{Turn}
 
 -- a turn of the first place alone is one of the four
-pub of_four : (a b c d : Place) (s m : List ℕ) (o : Accepting) (r : Turn) (t : List ℕ) → accepting (a ∷ b ∷ c ∷ d ∷ []) s m ≡ o → Gives a o r t → AcceptTurn (a ∷ b ∷ c ∷ d ∷ []) s m r t
-of_four a b c d s m o r t e (is, low, same) = (
-  is ∙ turn_first a b c d o.reply o.change ∙ ap (λ (x : Accepting). turn_of (a ∷ b ∷ c ∷ d ∷ []) x.reply x.change) (sym e),
+pub of_four : (ps : List Place) (s m : List ℕ) (o : Accepting) (r : Turn) (t : List ℕ) → accepting ps s m ≡ o → Gives (place_at ps 0) o r t → AcceptTurn ps s m r t
+of_four ps s m o r t e (is, low, same) = (
+  is ∙ turn_first ps o.reply o.change ∙ ap (λ (x : Accepting). turn_of ps x.reply x.change) (sym e),
   low,
   same ∙ ap (λ (x : Accepting). x.store) (sym e),
 )
 
-module _ (a b c d : Place) (s m : List ℕ) where
-  abbrev ps : List Place
-  ps = a ∷ b ∷ c ∷ d ∷ []
-
+module _ (ps : List Place) (s m : List ℕ) where
   pub refused_packet : (x : Verdict) → Reads m (Refused' x) → accepting ps s m ≡ turned_away s x
   unfolding accepting
   refused_packet x e = go (read_record packets record_of m) e
     where
-      go : (o : Out (Packet × List ℕ)) → Refused' x ≡ answer_of o → answered (λ y. let n = first_tests ps s in cond (eqb n 0) (received ps s y.0 y.1) (turned_away s (bare n))) (turned_away s) o ≡ turned_away s x
+      go : (o : Out (Packet × List ℕ)) → Refused' x ≡ answer_of o → answered (λ y. let n = first_tests ps s in cond (eqb n 0) (received (front ps) s y.0 y.1) (turned_away s (bare n))) (turned_away s) o ≡ turned_away s x
       go (accepted q) e = let z : ◌≡◌ {A = ℕ} 0 1 = cc in absurd (omega arith)
       go (refused n p) e = let k : shown n p ≡ x = cc in ap (turned_away s) k
 
@@ -47,13 +45,17 @@ module _ (a b c d : Place) (s m : List ℕ) where
     unfolding accepting
     refused_tests n = rw (reads, ne_eqb (first_tests ps s) 0 n) refl
 
-    pub joins_open : first_tests ps s ≡ 0 → open_at ps r.number < four_places → accepting ps s m ≡ joins s (open_at ps r.number) (place_at ps (open_at ps r.number)) r k
-    unfolding accepting received
-    joins_open z l = rw (reads, eq-eqb (first_tests ps s) 0 z, lt-ltb (open_at ps r.number) four_places l) refl
+    taken_in : length ps ≡ four_places → first_tests ps s ≡ 0 → accepting ps s m ≡ received ps s r k
+    unfolding accepting
+    taken_in four z = rw (reads, eq-eqb (first_tests ps s) 0 z) (ap (λ qs. received qs s r k) (front_is ps four))
 
-    pub opens_free : first_tests ps s ≡ 0 → four_places ≤ open_at ps r.number → accepting ps s m ≡ opens s (free_at ps) r k
-    unfolding accepting received
-    opens_free z l = rw (reads, eq-eqb (first_tests ps s) 0 z, le-ltb (open_at ps r.number) four_places l) refl
+    pub joins_open : length ps ≡ four_places → first_tests ps s ≡ 0 → open_at ps r.number < four_places → accepting ps s m ≡ joins s (open_at ps r.number) (place_at ps (open_at ps r.number)) r k
+    unfolding received
+    joins_open four z l = taken_in four z ∙ rw (lt-ltb (open_at ps r.number) four_places l) refl
+
+    pub opens_free : length ps ≡ four_places → first_tests ps s ≡ 0 → four_places ≤ open_at ps r.number → accepting ps s m ≡ opens s (free_at ps) r k
+    unfolding received
+    opens_free four z l = taken_in four z ∙ rw (le-ltb (open_at ps r.number) four_places l) refl
 
 -- where the row of places is too short
 

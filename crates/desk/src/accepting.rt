@@ -1,5 +1,5 @@
 // A packet comes in at the desk (paper 01, "The desk"): the four places by value, over the lent store.
-ghost use Rattle.std.specs.Prelude.{◌≡◌, [], ◌∷◌};
+ghost use Rattle.std.specs.Prelude.{◌≡◌};
 ghost use Rattle.places.specs.Desk.{unplaced};
 ghost use Rattle.places.specs.Promises.{AcceptTurn};
 ghost use Rattle.places.specs.declared.Reply.TheVariants.{Refused};
@@ -11,25 +11,26 @@ use places::{PLACES, Place, Reply, Turn};
 mod placing;
 
 // The packet's own refusals, the first tests, then its notice where it is open, or the lowest free place.
-pub fn accept(a: Place, b: Place, c: Place, d: Place, store: &mut [u8], packet: &[u8]) -> Turn
-    ensures { AcceptTurn (a ∷ b ∷ c ∷ d ∷ []) store.old packet.now result store.new }
+pub fn accept(places: [Place; PLACES], store: &mut [u8], packet: &[u8]) -> Turn
+    ensures { AcceptTurn places store.old packet.now result store.new }
 {
     let answer = packet::read(packet);
     match answer {
         Answer::Good(r) => {
-            let code = places::first_tests(a, b, c, d, store);
+            let code = places::first_tests(&places, store);
             if code != 0 {
-                return Turn::staying(a, Reply::Refused(Refusal::bare(code)));
+                return Turn::staying(places[0], Reply::Refused(Refusal::bare(code)));
             }
             let content = &packet[Packet::CONTENT..];
-            let i = places::open_at(a, b, c, d, r.number);
-            let free = places::free_at(a, b, c, d);
-            if i < PLACES {
-                return placing::join(a, i, places::place_at(a, b, c, d, i), store, r, content);
+            match places::open_at(&places, r.number) {
+                Some(i) => {
+                    let p = places::place_at(&places, i);
+                    placing::join(places[0], i, p, store, r, content)
+                },
+                None => placing::begin(&places, store, r, content),
             }
-            placing::begin(a, free, store, r, content)
         },
-        Answer::Refused(refusal) => Turn::staying(a, Reply::Refused(refusal)),
+        Answer::Refused(refusal) => Turn::staying(places[0], Reply::Refused(refusal)),
     }
 }
 

@@ -1,5 +1,4 @@
 // Asking for a notice at the desk, and dropping one (paper 01, "The desk"): the four places by value, over the lent store.
-ghost use Rattle.std.specs.Prelude.{[], ◌∷◌};
 ghost use Rattle.places.specs.Promises.{AskTurn, DropTurn};
 
 use format::Refusal;
@@ -10,42 +9,37 @@ mod joining;
 
 // The notice of that message number, joined in the buffer, and its place free; or, where packets are missing, their numbers in the row.
 pub fn ask(
-    a: Place,
-    b: Place,
-    c: Place,
-    d: Place,
+    places: [Place; PLACES],
     store: &[u8],
     number: u8,
     notice: &mut [u8],
     missing: &mut [u16],
 ) -> Turn
-    ensures { AskTurn (a ∷ b ∷ c ∷ d ∷ []) store.now number notice.old missing.old result notice.new missing.new }
+    ensures { AskTurn places store.now number notice.old missing.old result notice.new missing.new }
 {
-    let code = places::first_tests(a, b, c, d, store);
+    let code = places::first_tests(&places, store);
     if code != 0 {
-        return Turn::staying(a, Reply::Refused(Refusal::bare(code)));
+        return Turn::staying(places[0], Reply::Refused(Refusal::bare(code)));
     }
-    let at = places::open_at(a, b, c, d, number);
-    if at >= PLACES {
-        return Turn::staying(a, Reply::Refused(Refusal::UNKNOWN));
-    }
-    let p = places::place_at(a, b, c, d, at);
-    answering::answer(a, at, p, store, notice, missing)
+    let Some(at) = places::open_at(&places, number) else {
+        return Turn::staying(places[0], Reply::Refused(Refusal::UNKNOWN));
+    };
+    let p = places::place_at(&places, at);
+    answering::answer(places[0], at, p, store, notice, missing)
 }
 
 // The notice of that message number is given up, and its place free.
-pub fn drop(a: Place, b: Place, c: Place, d: Place, store: &[u8], number: u8) -> Turn
-    ensures { DropTurn (a ∷ b ∷ c ∷ d ∷ []) store.now number result }
+pub fn drop(places: [Place; PLACES], store: &[u8], number: u8) -> Turn
+    ensures { DropTurn places store.now number result }
 {
-    let code = places::first_tests(a, b, c, d, store);
+    let code = places::first_tests(&places, store);
     if code != 0 {
-        return Turn::staying(a, Reply::Refused(Refusal::bare(code)));
+        return Turn::staying(places[0], Reply::Refused(Refusal::bare(code)));
     }
-    let at = places::open_at(a, b, c, d, number);
-    if at >= PLACES {
-        return Turn::staying(a, Reply::Refused(Refusal::UNKNOWN));
-    }
-    let dropped = places::place_at(a, b, c, d, at);
+    let Some(at) = places::open_at(&places, number) else {
+        return Turn::staying(places[0], Reply::Refused(Refusal::UNKNOWN));
+    };
+    let dropped = places::place_at(&places, at);
     let place = dropped.freed();
     Turn {
         at,

@@ -1,6 +1,8 @@
 // The desk (paper 01, "The desk") over a lent row of places: a packet comes in, a notice is asked for, a notice is dropped. Each call takes the first four places, and one of them may become another.
 #![tactic(auto)]
 
+ghost use Rattle.std.specs.Prelude.{◌≡◌, ◌≤◌, length};
+ghost use Rattle.places.specs.Places.{four_places, front};
 ghost use Rattle.places.specs.Promises.{Accepts, Asks, Drops};
 
 use format::Refusal;
@@ -19,11 +21,9 @@ pub fn accept(places: &mut [Place], store: &mut [u8], packet: &[u8]) -> Reply
     if places.len() < PLACES {
         return crate::accepting::unplaced(packet);
     }
-    let accepted = crate::accepting::accept(
-        places[0], places[1], places[2], places[3], store, packet,
-    );
-    let at = accepted.at;
-    places[at] = accepted.place;
+    let four = front(places);
+    let accepted = crate::accepting::accept(four, store, packet);
+    places[accepted.at] = accepted.place;
     accepted.reply
 }
 
@@ -40,11 +40,9 @@ pub fn ask(
     if places.len() < PLACES {
         return Reply::Refused(SHORT);
     }
-    let asked = crate::asking::ask(
-        places[0], places[1], places[2], places[3], store, number, notice, missing,
-    );
-    let at = asked.at;
-    places[at] = asked.place;
+    let four = front(places);
+    let asked = crate::asking::ask(four, store, number, notice, missing);
+    places[asked.at] = asked.place;
     asked.reply
 }
 
@@ -55,8 +53,16 @@ pub fn drop(places: &mut [Place], store: &[u8], number: u8) -> Reply
     if places.len() < PLACES {
         return Reply::Refused(SHORT);
     }
-    let dropped = crate::asking::drop(places[0], places[1], places[2], places[3], store, number);
-    let at = dropped.at;
-    places[at] = dropped.place;
+    let four = front(places);
+    let dropped = crate::asking::drop(four, store, number);
+    places[dropped.at] = dropped.place;
     dropped.reply
+}
+
+// The first four places, by value.
+fn front(places: &[Place]) -> [Place; PLACES]
+    requires { four_places ≤ length places.now }
+    ensures { result ≡ front places.now }
+{
+    [places[0], places[1], places[2], places[3]]
 }

@@ -4,7 +4,7 @@
 ghost use Rattle.std.specs.Prelude.{◌≡◌, cond, ◌≤◌, ◌<◌, length};
 ghost use Rattle.places.specs.Desk.{laid};
 ghost use Rattle.places.specs.Places.{four_places};
-ghost use Rattle.desk_bytes.specs.Bytes.{begins, total_behind, place_in, bytes_of};
+ghost use Rattle.desk_bytes.specs.Bytes.{begins, total_behind, place_in, row_in, bytes_of};
 ghost use Rattle.desk_bytes.specs.Promises.{again_of, count_of, language_of, AcceptsIn, AsksIn, DropsIn};
 ghost use Rattle.desk_bytes.specs.Laws.Fits.{moves};
 
@@ -24,18 +24,11 @@ pub fn accept(places: &mut [u8], store: &mut [u8], packet: &[u8], again: &mut u8
     if places.len() < PLACES * PLACE {
         return desk::accepting::unplaced(packet).refusal();
     }
-    let turn = desk::accepting::accept(
-        place(places, 0),
-        place(places, 1),
-        place(places, 2),
-        place(places, 3),
-        store,
-        packet,
-    );
-    let reply = turn.reply;
-    *again = again_of(reply, *again);
+    let four = row(places);
+    let turn = desk::accepting::accept(four, store, packet);
+    *again = again_of(turn.reply, *again);
     settle(places, turn);
-    reply.refusal()
+    turn.reply.refusal()
 }
 
 // A notice is asked for: its bytes into the front of `notice`, or the missing numbers into the front of `missing`, and how many they are into `count`.
@@ -53,21 +46,12 @@ pub fn ask(
     if places.len() < PLACES * PLACE {
         return Refusal::ROOM;
     }
-    let turn = desk::asking::ask(
-        place(places, 0),
-        place(places, 1),
-        place(places, 2),
-        place(places, 3),
-        store,
-        number,
-        notice,
-        missing,
-    );
-    let reply = turn.reply;
-    *count = count_of(reply, *count);
-    *language = language_of(reply, *language);
+    let four = row(places);
+    let turn = desk::asking::ask(four, store, number, notice, missing);
+    *count = count_of(turn.reply, *count);
+    *language = language_of(turn.reply, *language);
     settle(places, turn);
-    reply.refusal()
+    turn.reply.refusal()
 }
 
 pub fn drop(places: &mut [u8], store: &[u8], number: u8) -> Refusal
@@ -76,20 +60,21 @@ pub fn drop(places: &mut [u8], store: &[u8], number: u8) -> Refusal
     if places.len() < PLACES * PLACE {
         return Refusal::ROOM;
     }
-    let turn = desk::asking::drop(
-        place(places, 0),
-        place(places, 1),
-        place(places, 2),
-        place(places, 3),
-        store,
-        number,
-    );
-    let reply = turn.reply;
+    let four = row(places);
+    let turn = desk::asking::drop(four, store, number);
     settle(places, turn);
-    reply.refusal()
+    turn.reply.refusal()
 }
 
 // ---- places from bytes, and back
+
+// The four places, where there are bytes enough.
+fn row(s: &[u8]) -> [Place; PLACES]
+    requires { begins four_places ≤ length s.now }
+    ensures { result ≡ row_in s.now }
+{
+    [place(s, 0), place(s, 1), place(s, 2), place(s, 3)]
+}
 
 fn place(s: &[u8], i: usize) -> Place
     requires { (i < four_places) × (begins four_places ≤ length s.now) }
@@ -112,10 +97,7 @@ fn place(s: &[u8], i: usize) -> Place
 fn total_behind(mark: u8, total: u8) -> u8
     ensures { result ≡ total_behind mark total }
 {
-    if mark <= 1 {
-        return total;
-    }
-    0
+    if mark <= 1 { total } else { 0 }
 }
 
 // Puts the place that changed back into its bytes.
@@ -123,11 +105,8 @@ fn settle(s: &mut [u8], turn: Turn)
     requires { (turn.at < four_places) × (begins four_places ≤ length s.old) }
     ensures { s.new ≡ cond (moves turn.reply) (laid s.old (begins turn.at) (bytes_of turn.place)) s.old }
 {
-    let reply = turn.reply;
-    let i = turn.at;
-    let p = turn.place;
-    if moves(reply) {
-        put(s, i, p);
+    if moves(turn.reply) {
+        put(s, turn.at, turn.place);
     }
 }
 
@@ -136,18 +115,11 @@ fn put(s: &mut [u8], i: usize, p: Place)
     ensures { s.new ≡ laid s.old (begins i) (bytes_of p) }
 {
     let at = i * PLACE;
-    let sizes = p.sizes;
-    s[at] = mark(p.open);
+    s[at] = u8::from(p.open);
     s[at + 1] = p.number;
     s[at + 2] = p.language;
     s[at + 3] = p.total;
-    places::lay(s, at + SIZES, &sizes);
-}
-
-fn mark(opened: bool) -> u8
-    ensures { result ≡ cond opened 1 0 }
-{
-    if opened { 1 } else { 0 }
+    places::lay(s, at + SIZES, &p.sizes);
 }
 
 // ---- what a reply says
@@ -156,13 +128,7 @@ fn mark(opened: bool) -> u8
 fn moves(reply: Reply) -> bool
     ensures { result ≡ moves reply }
 {
-    match reply {
-        Reply::Done => true,
-        Reply::Again => false,
-        Reply::Joined(_, _) => true,
-        Reply::Missing(_) => false,
-        Reply::Refused(_) => false,
-    }
+    matches!(reply, Reply::Done | Reply::Joined(_, _))
 }
 
 fn again_of(reply: Reply, before: u8) -> u8
@@ -171,9 +137,7 @@ fn again_of(reply: Reply, before: u8) -> u8
     match reply {
         Reply::Done => 0,
         Reply::Again => 1,
-        Reply::Joined(_, _) => before,
-        Reply::Missing(_) => before,
-        Reply::Refused(_) => before,
+        _ => before,
     }
 }
 
@@ -181,11 +145,8 @@ fn count_of(reply: Reply, before: usize) -> usize
     ensures { result ≡ count_of reply before }
 {
     match reply {
-        Reply::Done => before,
-        Reply::Again => before,
-        Reply::Joined(n, _) => n,
-        Reply::Missing(n) => n,
-        Reply::Refused(_) => before,
+        Reply::Joined(n, _) | Reply::Missing(n) => n,
+        _ => before,
     }
 }
 
@@ -193,10 +154,7 @@ fn language_of(reply: Reply, before: u8) -> u8
     ensures { result ≡ language_of reply before }
 {
     match reply {
-        Reply::Done => before,
-        Reply::Again => before,
         Reply::Joined(_, language) => language,
-        Reply::Missing(_) => before,
-        Reply::Refused(_) => before,
+        _ => before,
     }
 }

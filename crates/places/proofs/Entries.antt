@@ -1,11 +1,12 @@
 -- An entry is good where its size is within a limit, which is 0 from the total on; and no entry is held where the greatest is 0.
 -- Assumes nothing.
-use mathlib.Core.Path.{◌≡◌, refl, sym, ◌∙◌}
+use mathlib.Core.Path.{◌≡◌, refl, sym, ap, ◌∙◌}
 use mathlib.Core.Bool.{Bool, true, false, cond, ◌&&◌, ◌||◌}
-use Prim.Native.Nat.{ℕ}
+use Prim.Native.Nat.{ℕ, max}
+use Rattle.std.proofs.Math.Nat.{le-max_left, zero-max}
 use native.Mathlib.Omega.{arith}
 use lib.Dec.{eqb, ltb, leb}
-use borrow.Author.Tests.{eqb-true, eqb-false, eq-eqb, ne_eqb, le-leb, lt-leb, ltb-true, ltb-false}
+use borrow.Author.Tests.{eqb-true, eqb-false, ne_eqb, le-leb, lt-leb}
 use Rattle.packet.specs.Packet.{part_bytes_of}
 use Rattle.places.specs.Places.{held, entry_good}
 use Rattle.places.specs.declared.Place.{Place}
@@ -18,11 +19,9 @@ entry_limit p k = go (eqb (held p k) 0) (ltb k p.total) refl
     go false true e = refl
     go false false e = let d = eqb-false (held p k) 0 e in sym (lt-leb (held p k) 0 (omega (arith, d)))
 
-pub none_greater : (x y : ℕ) → eqb (cond (ltb x y) y x) 0 ≡ (eqb x 0 && eqb y 0)
-none_greater x y = go (ltb x y) (eqb x 0) refl refl
+pub none_greater : (x y : ℕ) → eqb (max x y) 0 ≡ (eqb x 0 && eqb y 0)
+none_greater x y = go (eqb x 0) refl
   where
-    go : (t z : Bool) → ltb x y ≡ t → eqb x 0 ≡ z → eqb (cond t y x) 0 ≡ (z && eqb y 0)
-    go true true l e = refl
-    go true false l e = let d = ltb-true x y l in ne_eqb y 0 (λ q. omega (arith, q, d))
-    go false true l e = let d = ltb-false x y l in let z = eqb-true x 0 e in e ∙ sym (eq-eqb y 0 (omega (arith, d, z)))
-    go false false l e = e
+    go : (z : Bool) → eqb x 0 ≡ z → eqb (max x y) 0 ≡ (z && eqb y 0)
+    go true e = ap (λ n. eqb (max n y) 0) (eqb-true x 0 e) ∙ ap (λ n. eqb n 0) (zero-max y)
+    go false e = let d = eqb-false x 0 e in let l = le-max_left x y in ne_eqb (max x y) 0 (λ q. omega (arith, d, l, q))

@@ -1,5 +1,5 @@
 -- A place of the desk, and what is asked of the four (paper 01, "The desk"). Assumes nothing.
-use Rattle.std.specs.Prelude.{ℕ, zero, suc, Bool, true, false, not, cond, ◌&&◌, ◌||◌, List, [], ◌∷◌, leb, ltb, eqb, get_or, set, replicate}
+use Rattle.std.specs.Prelude.{ℕ, zero, suc, Bool, true, false, not, cond, ◌&&◌, ◌||◌, List, [], ◌∷◌, leb, ltb, eqb, get_or, set, replicate, Option, Some, None}
 use Rattle.format.specs.Message.{between}
 use Rattle.packet.specs.Packet.{most_packets, part_bytes_of}
 use Rattle.packet.specs.declared.reading.Packet.{Packet}
@@ -69,6 +69,10 @@ freed p = record { «open» = false; number = p.number; language = p.language; t
 
 abbrev pub four_places : ℕ
 four_places = 4
+
+-- the place number i, where it is one of the four
+abbrev pub one_of_four : ℕ → Option ℕ
+one_of_four i = cond (ltb i four_places) (Some i) None
 
 abbrev pub place_at : List Place → ℕ → Place
 place_at ps i = get_or ps i blank

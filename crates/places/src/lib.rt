@@ -1,7 +1,7 @@
 // A place of the desk (paper 01, "The desk"), by value; the tests of all four are in `four`.
 #![tactic(auto)]
 
-ghost use Rattle.std.specs.Prelude.{◌≡◌, not, cond, ◌&&◌, [], ◌∷◌, leb, ltb};
+ghost use Rattle.std.specs.Prelude.{◌≡◌, not, cond, ◌&&◌, [], ◌∷◌, ltb};
 ghost use Rattle.packet.specs.Packet.{most_packets, part_bytes_of};
 ghost use Rattle.places.specs.Places.{every_below, lacks, entry_good, good_place, passes, serves, clash, freed};
 ghost use Rattle.places.specs.Desk.{laid_within, refusal_of, stays, turn_of};
@@ -58,9 +58,7 @@ impl Reply {
         ensures { result ≡ refusal_of self }
     {
         match self {
-            Reply::Done => Refusal::NONE,
-            Reply::Again => Refusal::NONE,
-            Reply::Joined(_, _) => Refusal::NONE,
+            Reply::Done | Reply::Again | Reply::Joined(_, _) => Refusal::NONE,
             Reply::Missing(_) => Refusal::INCOMPLETE,
             Reply::Refused(refusal) => refusal,
         }
@@ -82,66 +80,44 @@ impl Turn {
 
 impl Place {
     // What an open place must show: its total within its range, a packet held, every entry good.
-    fn good(self) -> bool
-        ensures { result ≡ good_place self }
+    fn good(&self) -> bool
+        ensures { result ≡ good_place self.now }
     {
-        if self.total < 1 {
-            return false;
-        }
-        if self.total as usize > MOST {
-            return false;
-        }
-        self.entries_good()
+        1 <= self.total && self.total as usize <= MOST && self.entries_good()
     }
 
     // Whether a packet is held, every held number is below the total and every held size at most a packet's. Nothing leaves the
     // loop early, so that the compiler takes many entries at once.
-    fn entries_good(self) -> bool
-        ensures { result ≡ (not (every_below most_packets (lacks self)) && every_below most_packets (entry_good self)) }
+    fn entries_good(&self) -> bool
+        ensures { result ≡ (not (every_below most_packets (lacks self.now)) && every_below most_packets (entry_good self.now)) }
     {
-        let sizes = self.sizes;
         let mut good = true;
         let mut most: u8 = 0;
-        let mut k: usize = 0;
-        while k < MOST {
-            let n = sizes[k];
-            good = still_within(good, n, size_limit(k as u8, self.total));
-            most = greater(most, n);
-            k += 1;
+        for (k, n) in self.sizes.iter().enumerate() {
+            good &= *n <= size_limit(k as u8, self.total);
+            most = most.max(*n);
         }
-        if most == 0 {
-            return false;
-        }
-        good
+        most != 0 && good
     }
 
     // A closed place's other entries are not looked at.
-    pub(crate) fn passes(self) -> bool
-        ensures { result ≡ passes self }
+    pub(crate) fn passes(&self) -> bool
+        ensures { result ≡ passes self.now }
     {
-        if self.open {
-            return self.good();
-        }
-        true
+        !self.open || self.good()
     }
 
-    pub(crate) fn clashes(self, other: Place) -> bool
-        ensures { result ≡ clash self other }
+    pub(crate) fn clashes(&self, other: &Place) -> bool
+        ensures { result ≡ clash self.now other.now }
     {
-        if other.open {
-            return self.serves(other.number);
-        }
-        false
+        other.open && self.serves(other.number)
     }
 
     // Whether it is open, with that message number.
-    pub(crate) fn serves(self, number: u8) -> bool
-        ensures { result ≡ serves self number }
+    pub(crate) fn serves(&self, number: u8) -> bool
+        ensures { result ≡ serves self.now number }
     {
-        if self.open {
-            return self.number == number;
-        }
-        false
+        self.open && self.number == number
     }
 
     // Freed: only the open mark is cleared.
@@ -158,22 +134,6 @@ fn size_limit(k: u8, total: u8) -> u8
     ensures { result ≡ cond (ltb k total) part_bytes_of 0 }
 {
     if k < total { PART as u8 } else { 0 }
-}
-
-// Whether all sizes so far were within their limits and so is one more.
-fn still_within(good: bool, n: u8, limit: u8) -> bool
-    ensures { result ≡ (good && leb n limit) }
-{
-    if n > limit {
-        return false;
-    }
-    good
-}
-
-fn greater(x: u8, y: u8) -> u8
-    ensures { result ≡ cond (ltb x y) y x }
-{
-    if x < y { y } else { x }
 }
 
 // Puts the bytes `part` into `s` from byte `at` on, where they fit; else every byte stays.

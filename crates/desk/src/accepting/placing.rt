@@ -1,7 +1,7 @@
 // A packet into its place at the desk (paper 01, "The desk"): that of its open notice, or a free one; over the lent store.
 ghost use Rattle.std.specs.Prelude.{◌≡◌, ◌&&◌, ◌≤◌, ◌<◌, eqb, length};
 ghost use Rattle.packet.specs.Packet.{most_packets, part_bytes_of};
-ghost use Rattle.places.specs.Places.{held, opened, holding, four_places};
+ghost use Rattle.places.specs.Places.{held, opened, holding, four_places, place_at, free_at};
 ghost use Rattle.places.specs.Desk.{store_bytes, alike, joins, opens};
 ghost use Rattle.places.specs.Promises.{Gives};
 
@@ -25,8 +25,7 @@ pub(crate) fn join(
         return Turn::staying(first, Reply::Refused(Refusal::CONTRADICTS));
     }
     let own = r.own as usize;
-    let sizes = p.sizes;
-    let size = sizes[own] as usize;
+    let size = p.sizes[own] as usize;
     let at = i * JOINED + own * PART;
     if size == 0 {
         places::lay(store, at, content);
@@ -46,20 +45,17 @@ pub(crate) fn join(
 fn agrees(r: Packet, p: Place) -> bool
     ensures { result ≡ (eqb r.language p.language && eqb r.total p.total) }
 {
-    if r.language != p.language {
-        return false;
-    }
-    r.total == p.total
+    r.language == p.language && r.total == p.total
 }
 
-// It is not open, and the lowest free place is `i`.
-pub(crate) fn begin(first: Place, i: usize, store: &mut [u8], r: Packet, content: &[u8]) -> Turn
+// It is not open: it opens the lowest free place.
+pub(crate) fn begin(places: &[Place; PLACES], store: &mut [u8], r: Packet, content: &[u8]) -> Turn
     requires { (store_bytes ≤ length store.old) × (r.own < most_packets) × (length content.now ≤ part_bytes_of) }
-    ensures { Gives first (opens store.old i r content.now) result store.new }
+    ensures { Gives (place_at places.now 0) (opens store.old (free_at places.now) r content.now) result store.new }
 {
-    if i >= PLACES {
-        return Turn::staying(first, Reply::Refused(Refusal::TAKEN));
-    }
+    let Some(i) = places::free_at(places) else {
+        return Turn::staying(places[0], Reply::Refused(Refusal::TAKEN));
+    };
     places::lay(store, i * JOINED + r.own as usize * PART, content);
     Turn {
         at: i,
@@ -93,7 +89,7 @@ fn holding(mut p: Place, k: usize, n: u8) -> Place
     p
 }
 
-// Whether two runs of bytes are the same. A byte that differs sticks: the loop has one way, so that the compiler takes many bytes at once.
+// Whether two runs of bytes are the same. A byte that differs sticks, and nothing leaves the loop early, so that the compiler takes many bytes at once.
 fn same(s: &[u8], t: &[u8]) -> bool
     ensures { result ≡ alike s.now t.now }
 {
@@ -101,19 +97,8 @@ fn same(s: &[u8], t: &[u8]) -> bool
         return false;
     }
     let mut same = true;
-    let mut i = 0;
-    while i < s.len() {
-        same = still_same(same, s[i], t[i]);
-        i += 1;
-    }
-    same
-}
-
-fn still_same(same: bool, x: u8, y: u8) -> bool
-    ensures { result ≡ (same && eqb x y) }
-{
-    if x != y {
-        return false;
+    for (i, x) in s.iter().enumerate() {
+        same &= *x == t[i];
     }
     same
 }

@@ -13,16 +13,10 @@ pub(crate) fn count_missing(p: Place) -> usize
     requires { Sized p }
     ensures { result ≡ length (missing_below p.total p) }
 {
-    let sizes = p.sizes;
-    let mut n: usize = 0;
-    let mut k: usize = 0;
-    while k < p.total as usize {
-        if sizes[k] == 0 {
-            n += 1;
-        }
-        k += 1;
-    }
-    n
+    p.sizes[..p.total as usize]
+        .iter()
+        .map(|n| usize::from(*n == 0))
+        .sum()
 }
 
 // The missing numbers, rising, into the front of the row.
@@ -30,15 +24,12 @@ pub(crate) fn list_missing(p: Place, row: &mut [u16])
     requires { Sized p × (length (missing_below p.total p) ≤ length row.old) }
     ensures { row.new ≡ missing_below p.total p ++ drop (length (missing_below p.total p)) row.old }
 {
-    let sizes = p.sizes;
-    let mut at: usize = 0;
-    let mut k: usize = 0;
-    while k < p.total as usize {
-        if sizes[k] == 0 {
+    let mut at = 0;
+    for (k, n) in p.sizes[..p.total as usize].iter().enumerate() {
+        if *n == 0 {
             row[at] = k as u16;
             at += 1;
         }
-        k += 1;
     }
 }
 
@@ -47,14 +38,10 @@ pub(crate) fn count_bytes(p: Place) -> usize
     requires { Sized p }
     ensures { result ≡ held_below p.total p }
 {
-    let sizes = p.sizes;
-    let mut n: usize = 0;
-    let mut k: usize = 0;
-    while k < p.total as usize {
-        n += sizes[k] as usize;
-        k += 1;
-    }
-    n
+    p.sizes[..p.total as usize]
+        .iter()
+        .map(|n| usize::from(*n))
+        .sum()
 }
 
 // The packets of place `i`, in number order, into the front of the buffer.
@@ -63,15 +50,11 @@ pub(crate) fn join(p: Place, i: usize, store: &[u8], notice: &mut [u8])
     ensures { notice.new ≡ joined_below p.total store.now i p
         ++ drop (length (joined_below p.total store.now i p)) notice.old }
 {
-    let sizes = p.sizes;
-    let mut at: usize = 0;
-    let mut k: usize = 0;
-    while k < p.total as usize {
-        let n = sizes[k] as usize;
+    let mut at = 0;
+    for (k, n) in p.sizes[..p.total as usize].iter().enumerate() {
+        let size = usize::from(*n);
         let from = i * JOINED + k * PART;
-        let end = from + n;
-        places::lay(notice, at, &store[from..end]);
-        at += n;
-        k += 1;
+        places::lay(notice, at, &store[from..from + size]);
+        at += size;
     }
 }

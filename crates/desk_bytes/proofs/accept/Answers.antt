@@ -1,8 +1,7 @@
 -- `accept` meets its contract: by value, and the place that changed put back.
 use mathlib.Core.Path.{◌≡◌, ◌∙◌, subst}
-use mathlib.Core.List.{[], ◌∷◌}
 use Rattle.places.specs.Promises.{AcceptTurn}
-use Rattle.desk_bytes.specs.Laws.Changes.{four_in, row_long, accepts_in, accepts_few}
+use Rattle.desk_bytes.specs.Laws.Changes.{accepts_in, accepts_few}
 use Rattle.desk_bytes.proofs.accept.Goals as goal
 
 pub returns-then-places : goal.returns-then-places
@@ -17,7 +16,6 @@ settle-requires c = (c.accept-turn.ensures.1, c.if-places.false)
 pub returns : goal.returns
 returns c =
     let a = c.args in
-    let four : _ ≡ four_in a.places.now = λ i. c.place.ensures i ∷ c.place-2.ensures i ∷ c.place-3.ensures i ∷ c.place-4.ensures i ∷ [] in
     let (x, y, z, u) = accepts_in a.places.now c.if-places.false a.store.now a.packet.now a.again.now c.accept-turn.result c.accept-turn.new.store
-    (subst (λ ps. AcceptTurn ps a.store.now a.packet.now c.accept-turn.result c.accept-turn.new.store) (four ∙ row_long a.places.now c.if-places.false) c.accept-turn.ensures) in
+    (subst (λ ps. AcceptTurn ps a.store.now a.packet.now c.accept-turn.result c.accept-turn.new.store) c.row-four.ensures c.accept-turn.ensures) in
     (c.refusal-2.ensures ∙ x, c.settle.ensures ∙ y, z, c.again_of.ensures ∙ u)

@@ -1,8 +1,7 @@
 -- `ask` meets its contract: by value, and the place that changed put back.
 use mathlib.Core.Path.{◌≡◌, ◌∙◌, subst}
-use mathlib.Core.List.{[], ◌∷◌}
 use Rattle.places.specs.Promises.{AskTurn}
-use Rattle.desk_bytes.specs.Laws.Changes.{four_in, row_long, asks_in, asks_few}
+use Rattle.desk_bytes.specs.Laws.Changes.{asks_in, asks_few}
 use Rattle.desk_bytes.proofs.ask.Goals as goal
 
 pub returns-then-places : goal.returns-then-places
@@ -14,7 +13,6 @@ settle-requires c = (c.ask-turn.ensures.1, c.if-places.false)
 pub returns : goal.returns
 returns c =
     let a = c.args in
-    let four : _ ≡ four_in a.places.now = λ i. c.place.ensures i ∷ c.place-2.ensures i ∷ c.place-3.ensures i ∷ c.place-4.ensures i ∷ [] in
     let (x, y, z, u, v, w) = asks_in a.places.now c.if-places.false a.store.now a.number a.notice.now a.missing.now a.count.now a.language.now c.ask-turn.result c.ask-turn.new.notice c.ask-turn.new.missing
-    (subst (λ ps. AskTurn ps a.store.now a.number a.notice.now a.missing.now c.ask-turn.result c.ask-turn.new.notice c.ask-turn.new.missing) (four ∙ row_long a.places.now c.if-places.false) c.ask-turn.ensures) in
+    (subst (λ ps. AskTurn ps a.store.now a.number a.notice.now a.missing.now c.ask-turn.result c.ask-turn.new.notice c.ask-turn.new.missing) c.row-four.ensures c.ask-turn.ensures) in
     (c.refusal.ensures ∙ x, c.settle.ensures ∙ y, z, u, c.count_of.ensures ∙ v, c.language_of.ensures ∙ w)

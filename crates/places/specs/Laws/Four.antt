@@ -1,9 +1,9 @@
 -- The four places, one by one: what is asked of all of them is asked of each in turn, lowest first. Assumes nothing.
-use Rattle.std.specs.Prelude.{◌≡◌, Bool, true, false, not, cond, ◌&&◌, List, [], ◌∷◌, ℕ, ◌<◌, ltb}
+use Rattle.std.specs.Prelude.{◌≡◌, Bool, true, false, not, cond, ◌&&◌, List, [], ◌∷◌, ℕ, ◌≤◌, ◌<◌, ltb, length, Some, None}
 use Rattle.std.proofs.Math.Path.{refl}
-use Rattle.std.proofs.Common.{sym, ap, ◌∙◌, subst, arith, ltb-false}
+use Rattle.std.proofs.Common.{sym, ap, ◌∙◌, subst, arith, ltb-true, ltb-false}
 use Rattle.places.specs.Desk.{Accepting, Change, stays, turns, turn_of}
-use Rattle.places.specs.Places.{every_below, first_from, passes, serves, clash, four_places, all_apart, good_places, open_at, free_at}
+use Rattle.places.specs.Places.{every_below, first_from, passes, serves, clash, four_places, place_at, front, one_of_four, all_apart, good_places, open_at, free_at}
 use Rattle.places.specs.Promises.{Gives}
 use Rattle.places.specs.declared.Place.{Place}
 use Rattle.places.specs.declared.Reply.{Reply}
@@ -29,10 +29,34 @@ module _ (a b c d : Place) where
   unfolding free_at first_from
   free_four = refl
 
-  -- of a row that stays the turn has the first place, whatever follows
-  pub turn_first : (x : Reply) (y : Change) → turn_of (a ∷ []) x y ≡ turn_of four x y
-  turn_first x stays = refl
-  turn_first x (turns i p) = refl
+-- four places are their own front
+pub front_is : (ps : List Place) → length ps ≡ four_places → front ps ≡ ps
+front_is [] e = absurd (omega (arith, e))
+front_is (a ∷ []) e = absurd (omega (arith, e))
+front_is (a ∷ b ∷ []) e = absurd (omega (arith, e))
+front_is (a ∷ b ∷ c ∷ []) e = absurd (omega (arith, e))
+front_is (a ∷ b ∷ c ∷ d ∷ []) e = refl
+front_is (a ∷ b ∷ c ∷ d ∷ x ∷ ps) e = absurd (omega (arith, e))
+
+-- of a row that stays the turn has the first place, whatever follows
+pub turn_first : (ps : List Place) (x : Reply) (y : Change) → turn_of (place_at ps 0 ∷ []) x y ≡ turn_of ps x y
+turn_first ps x stays = refl
+turn_first ps x (turns i p) = refl
+
+-- a number that is one of the four, and one that is none
+pub one_some : (i j : ℕ) → Some i ≡ one_of_four j → (i ≡ j) × (j < four_places)
+one_some i j e = go (ltb j four_places) refl e
+  where
+    go : (b : Bool) → ltb j four_places ≡ b → Some i ≡ cond b (Some j) None → (i ≡ j) × (j < four_places)
+    go true l q = (cc, ltb-true j four_places l)
+    go false l q = let z : ◌≡◌ {A = ℕ} 0 1 = cc in absurd (omega (arith, z))
+
+pub one_none : (j : ℕ) → None ≡ one_of_four j → four_places ≤ j
+one_none j e = go (ltb j four_places) refl e
+  where
+    go : (b : Bool) → ltb j four_places ≡ b → None ≡ cond b (Some j) None → four_places ≤ j
+    go true l q = let z : ◌≡◌ {A = ℕ} 0 1 = cc in absurd (omega (arith, z))
+    go false l q = ltb-false j four_places l
 
 -- where no place changes, the turn has the first one
 pub first_again : (r : Turn) (p : Place) (x : Reply) → r ≡ turn_of (p ∷ []) x stays → r.at < four_places

@@ -1,7 +1,8 @@
 -- `accept` meets its contract: the packet, the first tests, then the way to its notice.
 use mathlib.Core.Path.{◌≡◌, refl, sym, ap, ◌∙◌, subst, subst₂}
-use mathlib.Core.List.{List, [], ◌∷◌}
+use mathlib.Core.List.{List}
 use Prim.Native.Nat.{ℕ, ◌-◌, ◌≤◌, ◌<◌}
+use borrow.Author.Rules.{rules}
 use native.Mathlib.Omega.{arith}
 use lib.Dec.{lit<}
 use lib.ListN.{length, take, drop}
@@ -9,14 +10,14 @@ use Rattle.format.specs.Fmt.{accepted}
 use Rattle.format.specs.Promises.{read_record}
 use Rattle.format.specs.Refusals.{bare}
 use Rattle.packet.specs.Packet.{part_bytes_of, packets, record_of}
-use Rattle.places.specs.Places.{place_at, held, four_places}
-use Rattle.places.specs.Desk.{first_tests, joins, opens, turned_away}
+use Rattle.places.specs.Places.{place_at, open_at, held, four_places}
+use Rattle.places.specs.Desk.{first_tests, joins, turned_away}
 use Rattle.places.specs.Promises.{Gives}
-use Rattle.places.specs.Laws.Four.{last_of_four, settled}
+use Rattle.places.specs.Laws.Four.{last_of_four, settled, one_some, one_none}
 use Rattle.packet.specs.Laws.Accepted.{Fit, read_good}
 use Rattle.places.specs.Laws.Good.{open_sized, tests_passed}
 use Rattle.desk.proofs.Ways.{of_four, refused_packet, refused_tests, joins_open, opens_free}
-use Rattle.desk.proofs.accepting.accept.Goals.{After-content-1, In-Good}
+use Rattle.desk.proofs.accepting.accept.Goals.{After-content-1, After-place_at-p, In-Good}
 use Rattle.desk.proofs.accepting.accept.Goals as goal
 
 -- ---- what is known of a packet that was read well
@@ -38,8 +39,8 @@ returns-then-code-ne0 c =
     let a = c.args in
     let r = c.in-Good.r in
     let (long, is, fit) = good m in
-    of_four a.a a.b a.c a.d a.store.now a.packet.now _ _ _ (refused_tests a.a a.b a.c a.d a.store.now a.packet.now r (content m) is (λ z. c.if-code-ne0.true (tests ∙ z)))
-    (settled a.a (turned_away a.store.now (bare (first_tests (a.a ∷ a.b ∷ a.c ∷ a.d ∷ []) a.store.now))) (turned_away a.store.now c.bare.result) _ _
+    of_four a.places a.store.now a.packet.now _ _ _ (refused_tests a.places a.store.now a.packet.now r (content m) is (λ z. c.if-code-ne0.true (tests ∙ z)))
+    (settled (place_at a.places 0) (turned_away a.store.now (bare (first_tests a.places a.store.now))) (turned_away a.store.now c.bare.result) _ _
     (ap (turned_away a.store.now) (sym (c.bare.ensures ∙ ap bare tests))) c.staying.ensures (lit< tt) refl)
 
 pub slice_bounds-content-count : goal.slice_bounds-content-count
@@ -48,34 +49,37 @@ slice_bounds-content-count c = omega (arith, (good (goal.at.slice_bounds-content
 pub slice_bounds-content-start : goal.slice_bounds-content-start
 slice_bounds-content-start c = omega (arith, (good (goal.at.slice_bounds-content-start c).In-Good).0)
 
+-- the open place of the packet's number, and which it is
+here : (k : After-place_at-p) → let a = k.args in let n = open_at a.places k.in-Good.r.number in (k.in-Some.i ≡ n) × (n < four_places) × (k.place_at-p.result ≡ place_at a.places n)
+here k =
+    let (there, low) = one_some k.in-Some.i (open_at k.args.places k.in-Good.r.number) (sym k.in-Some.is ∙ k.open_at.ensures) in
+    (there, low, k.place_at-p.ensures ∙ ap (place_at k.args.places) (last_of_four k.in-Some.i (omega (arith, there, low)) ∙ there))
+
 pub join-requires : goal.join-requires
 join-requires c =
-    let m = (goal.at.join-requires c).In-Good in
+    let k = (goal.at.join-requires c).After-place_at-p in
     let a = c.args in
     let r = c.in-Good.r in
-    let (long, is, fit) = good m in
+    let fit = (good (goal.at.join-requires c).In-Good).2 in
     let zero = let k = (goal.at.join-requires c).After-content-1 in sym k.first_tests-code.ensures ∙ k.if-code-ne0.false in
-    let number = c.open_at-i.ensures in
-    let (deep, good) = tests_passed (a.a ∷ a.b ∷ a.c ∷ a.d ∷ []) a.store.now zero in
-    let low : c.open_at-i.result < four_places = c.if-i-lt-PLACES.true in
-    let there = c.place_at.ensures ∙ ap (place_at (a.a ∷ a.b ∷ a.c ∷ a.d ∷ [])) (last_of_four c.open_at-i.result low ∙ number) in
-    let sized = open_sized (a.a ∷ a.b ∷ a.c ∷ a.d ∷ []) r.number good (subst (◌< four_places) number low) in
+    let (deep, good) = tests_passed a.places a.store.now zero in
+    let (there, low, is) = here k in
+    let sized = open_sized a.places r.number good low in
     let own = fit.own in
     let total = fit.total in
-    (low, deep, subst (λ p. held p r.own ≤ part_bytes_of) (sym there) (sized.small r.own (omega arith)), omega arith, fit.few)
+    (omega (arith, there, low), deep, subst (λ p. held p r.own ≤ part_bytes_of) (sym is) (sized.small r.own (omega arith)), omega arith, fit.few)
 
-pub returns-then-i-lt-PLACES : goal.returns-then-i-lt-PLACES
-returns-then-i-lt-PLACES c =
-    let m = (goal.at.returns-then-i-lt-PLACES c).In-Good in
+pub returns-in-Some : goal.returns-in-Some
+returns-in-Some c =
+    let k = (goal.at.returns-in-Some c).After-place_at-p in
+    let m = (goal.at.returns-in-Some c).In-Good in
     let a = c.args in
     let r = c.in-Good.r in
-    let (long, is, fit) = good m in
-    let zero = let k = (goal.at.returns-then-i-lt-PLACES c).After-content-1 in sym k.first_tests-code.ensures ∙ k.if-code-ne0.false in
-    let number = c.open_at-i.ensures in
-    let low : c.open_at-i.result < four_places = (c.if-i-lt-PLACES.true) in
-    let there = c.place_at.ensures ∙ ap (place_at (a.a ∷ a.b ∷ a.c ∷ a.d ∷ [])) (last_of_four c.open_at-i.result low ∙ number) in
-    let gives = subst₂ (λ i p. Gives a.a (joins a.store.now i p r (content m)) c.join.result c.join.new.store) number there c.join.ensures in
-    of_four a.a a.b a.c a.d a.store.now a.packet.now _ _ _ (joins_open a.a a.b a.c a.d a.store.now a.packet.now r (content m) is zero (subst (◌< four_places) number low)) gives
+    let (long, reads, fit) = good m in
+    let zero = let k = (goal.at.returns-in-Some c).After-content-1 in sym k.first_tests-code.ensures ∙ k.if-code-ne0.false in
+    let (there, low, is) = here k in
+    of_four a.places a.store.now a.packet.now _ _ _ (joins_open a.places a.store.now a.packet.now r (content m) reads (search rules) zero low)
+    (subst₂ (λ i p. Gives (place_at a.places 0) (joins a.store.now i p r (content m)) c.join.result c.join.new.store) there is c.join.ensures)
 
 pub begin-requires : goal.begin-requires
 begin-requires c =
@@ -83,23 +87,23 @@ begin-requires c =
     let a = c.args in
     let fit = (good m).2 in
     let zero = let k = (goal.at.begin-requires c).After-content-1 in sym k.first_tests-code.ensures ∙ k.if-code-ne0.false in
-    let (deep, _) = tests_passed (a.a ∷ a.b ∷ a.c ∷ a.d ∷ []) a.store.now zero in
+    let (deep, _) = tests_passed a.places a.store.now zero in
     let own = fit.own in
     let total = fit.total in
     (deep, omega arith, fit.few)
 
-pub returns-else-i-lt-PLACES : goal.returns-else-i-lt-PLACES
-returns-else-i-lt-PLACES c =
-    let m = (goal.at.returns-else-i-lt-PLACES c).In-Good in
+pub returns-in-None : goal.returns-in-None
+returns-in-None c =
+    let m = (goal.at.returns-in-None c).In-Good in
     let a = c.args in
     let r = c.in-Good.r in
-    let (long, is, fit) = good m in
-    let zero = let k = (goal.at.returns-else-i-lt-PLACES c).After-content-1 in sym k.first_tests-code.ensures ∙ k.if-code-ne0.false in
-    let number = c.open_at-i.ensures in
-    let gives = subst (λ i. Gives a.a (opens a.store.now i r (content m)) c.begin.result c.begin.new.store) c.free_at-free.ensures c.begin.ensures in
-    of_four a.a a.b a.c a.d a.store.now a.packet.now _ _ _ (opens_free a.a a.b a.c a.d a.store.now a.packet.now r (content m) is zero (subst (four_places ≤◌) number c.if-i-lt-PLACES.false)) gives
+    let (long, reads, fit) = good m in
+    let zero = let k = (goal.at.returns-in-None c).After-content-1 in sym k.first_tests-code.ensures ∙ k.if-code-ne0.false in
+    let none = one_none (open_at a.places r.number) (sym c.in-None.is ∙ c.open_at.ensures) in
+    of_four a.places a.store.now a.packet.now _ _ _ (opens_free a.places a.store.now a.packet.now r (content m) reads (search rules) zero none) c.begin.ensures
 
 pub returns-in-Refused : goal.returns-in-Refused
 returns-in-Refused c =
     let a = c.args in
-    of_four a.a a.b a.c a.d a.store.now a.packet.now _ _ _ (refused_packet a.a a.b a.c a.d a.store.now a.packet.now _ (sym c.in-Refused.is ∙ c.read-answer.ensures)) (settled a.a (turned_away a.store.now _) (turned_away a.store.now _) _ _ refl c.staying-in-Refused.ensures (lit< tt) refl)
+    of_four a.places a.store.now a.packet.now _ _ _ (refused_packet a.places a.store.now a.packet.now _ (sym c.in-Refused.is ∙ c.read-answer.ensures))
+    (settled (place_at a.places 0) (turned_away a.store.now _) (turned_away a.store.now _) _ _ refl c.staying-in-Refused.ensures (lit< tt) refl)

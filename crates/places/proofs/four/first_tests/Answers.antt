@@ -1,17 +1,26 @@
 -- `first_tests` meets its contract: four places are a row long enough.
-use mathlib.Core.Path.{refl, sym, ◌∙◌}
+use mathlib.Core.Path.{◌≡◌, refl, sym, ◌∙◌}
+use borrow.Author.Rules.{rules}
 use borrow.Author.Tests.{le-leb, lt-leb}
+use lib.ListN.{length}
 use Rattle.places.specs.Desk.{first_tests}
+use Rattle.places.specs.Places.{four_places}
 use Rattle.places.proofs.four.first_tests.Goals as goal
 
 pub returns-then-store-lt-STORE : goal.returns-then-store-lt-STORE
 unfolding first_tests
-returns-then-store-lt-STORE c = sym (rw (lt-leb _ _ c.if-store-lt-STORE.true) refl)
+returns-then-store-lt-STORE c =
+    let wide : length c.args.places.now ≡ four_places = search rules in
+    sym (rw (wide, lt-leb _ _ c.if-store-lt-STORE.true) refl)
 
 pub returns-then-sound : goal.returns-then-sound
 unfolding first_tests
-returns-then-sound c = sym (rw (le-leb _ _ c.if-store-lt-STORE.false, sym c.sound.ensures ∙ c.if-sound.true) refl)
+returns-then-sound c =
+    let wide : length c.args.places.now ≡ four_places = search rules in
+    sym (rw (wide, le-leb _ _ c.if-store-lt-STORE.false, sym c.sound.ensures ∙ c.if-sound.true) refl)
 
 pub returns : goal.returns
 unfolding first_tests
-returns c = sym (rw (le-leb _ _ c.if-store-lt-STORE.false, sym c.sound.ensures ∙ c.if-sound.false) refl)
+returns c =
+    let wide : length c.args.places.now ≡ four_places = search rules in
+    sym (rw (wide, le-leb _ _ c.if-store-lt-STORE.false, sym c.sound.ensures ∙ c.if-sound.false) refl)

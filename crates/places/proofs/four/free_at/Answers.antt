@@ -1,19 +1,16 @@
--- `free_at` meets its contract: each place is asked in turn.
-use mathlib.Core.Path.{refl, sym, ◌∙◌}
-use Rattle.places.specs.Laws.Four.{free_four}
+-- `free_at` meets its contract: the first place that is not open.
+use mathlib.Core.Path.{◌∙◌}
+use mathlib.Core.Bool.{not}
+use borrow.Author.Rules.{rules}
+use borrow.Author.Tests.{tests}
+use Rattle.std.proofs.lemmas.Iterator.{YieldsList-from_slice}
+use Rattle.std.proofs.lemmas.Iterator.Search.{position_from_yields_List}
+use Rattle.places.specs.declared.Place.{Place}
+use Rattle.places.proofs.Listed.{free_listed}
 use Rattle.places.proofs.four.free_at.Goals as goal
 
-pub returns-then-not-a : goal.returns-then-not-a
-returns-then-not-a c = let s = c.args in let a = s.a in let b = s.b in let d = s.c in let e = s.d in sym (free_four a b d e ∙ rw c.if-not-a.true refl)
-
-pub returns-then-not-b : goal.returns-then-not-b
-returns-then-not-b c = let s = c.args in let a = s.a in let b = s.b in let d = s.c in let e = s.d in sym (free_four a b d e ∙ rw (c.if-not-a.false, c.if-not-b.true) refl)
-
-pub returns-then-not-c : goal.returns-then-not-c
-returns-then-not-c c = let s = c.args in let a = s.a in let b = s.b in let d = s.c in let e = s.d in sym (free_four a b d e ∙ rw (c.if-not-a.false, c.if-not-b.false, c.if-not-c.true) refl)
-
-pub returns-then-not-d : goal.returns-then-not-d
-returns-then-not-d c = let s = c.args in let a = s.a in let b = s.b in let d = s.c in let e = s.d in sym (free_four a b d e ∙ rw (c.if-not-a.false, c.if-not-b.false, c.if-not-c.false, c.if-not-d.true) refl)
-
 pub returns : goal.returns
-returns c = let s = c.args in let a = s.a in let b = s.b in let d = s.c in let e = s.d in sym (free_four a b d e ∙ rw (c.if-not-a.false, c.if-not-b.false, c.if-not-c.false, c.if-not-d.false) refl)
+returns c =
+    let ps = c.args.places.now in
+    position_from_yields_List (λ (p : Place). not p.«open») _ _ c.position.result c.position.ensures.ran (YieldsList-from_slice ps cc) (λ x b q k. search (rules, tests))
+    ∙ free_listed ps (search rules)

@@ -1,19 +1,15 @@
--- `open_at` meets its contract: each place is asked in turn.
-use mathlib.Core.Path.{refl, sym, ◌∙◌}
-use Rattle.places.specs.Laws.Four.{open_four}
+-- `open_at` meets its contract: the first place that serves the number.
+use mathlib.Core.Path.{◌∙◌}
+use borrow.Author.Rules.{rules}
+use borrow.Author.Tests.{tests}
+use Rattle.std.proofs.lemmas.Iterator.{YieldsList-from_slice}
+use Rattle.std.proofs.lemmas.Iterator.Search.{position_from_yields_List}
+use Rattle.places.specs.Places.{serves}
+use Rattle.places.proofs.Listed.{open_listed}
 use Rattle.places.proofs.four.open_at.Goals as goal
 
-pub returns-then-serves : goal.returns-then-serves
-returns-then-serves c = let s = c.args in let a = s.a in let b = s.b in let d = s.c in let e = s.d in sym (open_four a b d e s.number ∙ rw (sym c.serves.ensures ∙ c.if-serves.true) refl)
-
-pub returns-then-serves-2 : goal.returns-then-serves-2
-returns-then-serves-2 c = let s = c.args in let a = s.a in let b = s.b in let d = s.c in let e = s.d in sym (open_four a b d e s.number ∙ rw (sym c.serves.ensures ∙ c.if-serves.false, sym c.serves-2.ensures ∙ c.if-serves-2.true) refl)
-
-pub returns-then-serves-3 : goal.returns-then-serves-3
-returns-then-serves-3 c = let s = c.args in let a = s.a in let b = s.b in let d = s.c in let e = s.d in sym (open_four a b d e s.number ∙ rw (sym c.serves.ensures ∙ c.if-serves.false, sym c.serves-2.ensures ∙ c.if-serves-2.false, sym c.serves-3.ensures ∙ c.if-serves-3.true) refl)
-
-pub returns-then-serves-4 : goal.returns-then-serves-4
-returns-then-serves-4 c = let s = c.args in let a = s.a in let b = s.b in let d = s.c in let e = s.d in sym (open_four a b d e s.number ∙ rw (sym c.serves.ensures ∙ c.if-serves.false, sym c.serves-2.ensures ∙ c.if-serves-2.false, sym c.serves-3.ensures ∙ c.if-serves-3.false, sym c.serves-4.ensures ∙ c.if-serves-4.true) refl)
-
 pub returns : goal.returns
-returns c = let s = c.args in let a = s.a in let b = s.b in let d = s.c in let e = s.d in sym (open_four a b d e s.number ∙ rw (sym c.serves.ensures ∙ c.if-serves.false, sym c.serves-2.ensures ∙ c.if-serves-2.false, sym c.serves-3.ensures ∙ c.if-serves-3.false, sym c.serves-4.ensures ∙ c.if-serves-4.false) refl)
+returns c =
+    let a = c.args in
+    position_from_yields_List (λ p. serves p a.number) _ _ c.position.result c.position.ensures.ran (YieldsList-from_slice a.places.now cc) (λ x b q k. search (rules, tests))
+    ∙ open_listed a.places.now (search rules) a.number

@@ -1,38 +1,25 @@
 -- `list_missing` meets its contract: the missing numbers below k stand in front of the row.
 use Prim.Native.Nat.{ℕ}
 use mathlib.Core.List.{List, [], ◌∷◌, ◌++◌}
-use mathlib.Core.Path.{◌≡◌, refl, sym, ap, ap₂, ◌∙◌}
+use mathlib.Core.Path.{refl, sym, ap, ap₂, ◌∙◌}
 use native.Mathlib.Omega.{arith}
-use lib.ListN.{length, drop, set, length-append, length-set}
+use lib.Seq.{get_or-take}
+use lib.ListN.{length, drop, set, length-append}
 use Rattle.places.specs.Desk.{missing_below}
-use Rattle.places.specs.Laws.Listed.{missing_held, missing_lacking, missing_room, missing_few, front_more}
-use Rattle.desk.proofs.asking.joining.list_missing.Goals.{then-sizes-k-eq0, else-sizes-k-eq0}
+use Rattle.places.specs.Laws.Listed.{missing_held, missing_lacking, missing_room, front_more}
+use Rattle.desk.proofs.asking.joining.list_missing.Goals.{then-n-eq0, else-n-eq0}
 use Rattle.desk.proofs.asking.joining.list_missing.Goals as goal
 
 pub loop-k-init : goal.loop-k-init
 unfolding missing_below
-loop-k-init c = (omega arith, refl, refl, refl)
-
-pub bounds-sizes-k : goal.bounds-sizes-k
-bounds-sizes-k c = omega (arith, c.requires.0.few)
-
-pub overflow_cast-row : goal.overflow_cast-row
-overflow_cast-row c = omega (arith, c.requires.0.few)
-
-pub offset_bounds-row-at : goal.offset_bounds-row-at
-offset_bounds-row-at c = omega (arith, c.requires.0.few, missing_few c.loop-k.k c.args.p)
+loop-k-init c = (refl, refl)
 
 pub bounds-row-at : goal.bounds-row-at
-bounds-row-at c = let p = c.args.p in omega (arith, missing_room c.loop-k.k p.total p (omega arith) c.if-sizes-k-eq0.true)
-
-pub overflow_add-at : goal.overflow_add-at
-overflow_add-at c = omega (arith, c.requires.0.few, missing_few c.loop-k.k c.args.p)
-
-pub overflow_add-k : goal.overflow_add-k
-overflow_add-k c = omega arith
-
-pub loop-k-smaller : goal.loop-k-smaller
-loop-k-smaller c = omega arith
+bounds-row-at c =
+    let p = c.args.p in
+    let k = c.loop-k.k in
+    let there = get_or-take p.total p.sizes k 0 (omega arith) in
+    omega (arith, missing_room k p.total p (omega arith) (sym there ∙ c.if-n-eq0.true))
 
 pub loop-k-preserved : goal.loop-k-preserved
 loop-k-preserved c =
@@ -40,27 +27,17 @@ loop-k-preserved c =
     let k = c.loop-k.k in
     let w = c.args.row.now in
     let v = c.loop-k.invariant in
+    let there = get_or-take p.total p.sizes k 0 (omega arith) in
     let ns = missing_below k p in
     let listed : List ℕ → List ℕ = λ ns. ns ++ drop (length ns) w in
-    elim c.if-sizes-k-eq0.branch [
-      | then-sizes-k-eq0 x ↦
-          let e = missing_lacking k p x.if-sizes-k-eq0.true in
-          let room = missing_room k p.total p (omega arith) x.if-sizes-k-eq0.true in (
-            omega arith,
-            omega (arith, x.at-is, v.1, ap length e, length-append ns (k ∷ [])),
-            ap length x.row-is ∙ length-set c.loop-k.row c.loop-k.at k ∙ v.2,
-            x.row-is ∙ ap₂ (λ (r : List ℕ) (n : ℕ). set r n k) v.3 v.1 ∙ front_more ns w k (omega (arith, room, c.requires.1)) ∙ ap listed (sym e),
+    elim c.if-n-eq0.branch [
+      | then-n-eq0 x ↦
+          let e = missing_lacking k p (sym there ∙ x.if-n-eq0.true) in
+          let room = missing_room k p.total p (omega arith) (sym there ∙ x.if-n-eq0.true) in (
+            omega (arith, x.at-is, v.0, ap length e, length-append ns (k ∷ [])),
+            x.row-is ∙ ap₂ (λ (r : List ℕ) (n : ℕ). set r n k) v.1 v.0 ∙ front_more ns w k (omega (arith, room, c.requires.1)) ∙ ap listed (sym e),
           )
-      | else-sizes-k-eq0 x ↦
-          let e = sym (missing_held k p x.if-sizes-k-eq0.false) in
-          (omega arith, x.at-is ∙ v.1 ∙ ap length e, ap length x.row-is ∙ v.2, x.row-is ∙ v.3 ∙ ap listed e)
+      | else-n-eq0 x ↦
+          let e = sym (missing_held k p (λ z. x.if-n-eq0.false (there ∙ z))) in
+          (x.at-is ∙ v.0 ∙ ap length e, x.row-is ∙ v.1 ∙ ap listed e)
     ]
-
-pub shape_of-row : goal.shape_of-row
-shape_of-row c = c.loop-k.invariant.2
-
-pub returns : goal.returns
-returns c =
-    let a = c.args in
-    let e : c.loop-k.k ≡ a.p.total = omega arith in
-    c.loop-k.invariant.3 ∙ ap (λ n. missing_below n a.p ++ drop (length (missing_below n a.p)) a.row.now) e
