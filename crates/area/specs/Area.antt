@@ -11,8 +11,8 @@ use Rattle.format.specs.Words.{◌‥◌, only, ◌▹◌, num, code, fill}
 use Rattle.ais_common.specs.Time.{time, short_time, spell_time, time_of, spell_short, short_of}
 use Rattle.area.specs.Shapes.{kind_of, type_of, shape, shape_kind, shape_values, shape_of}
 use Rattle.area.specs.declared.reading.Area.{Area}
-use Rattle.area.specs.declared.reading.Answer.{Answer}
-use Rattle.area.specs.declared.reading.Answer.TheVariants.{Good, Refused}
+use Rattle.format.specs.declared.Refusal.{Refusal}
+use Rattle.std.specs.Prelude.{Result, Ok, Err}
 
 -- what follows the shape
 abbrev pub tail : Fmt
@@ -77,14 +77,14 @@ record_of vs = record {
 }
 
 -- the paper's refusals and values
-abbrev pub answer_of : Out Area → Answer
+abbrev pub answer_of : Out Area → Result Area Refusal
 answer_of = answered Good Refused
 
 -- an answer taken apart, and its refusal
-abbrev pub out_of : Answer → Out Area
+abbrev pub out_of : Result Area Refusal → Out Area
 out_of (Good r) = accepted r
 out_of (Refused c) = refused_by c
 
-abbrev pub refusal_of : Answer → Verdict
+abbrev pub refusal_of : Result Area Refusal → Verdict
 refusal_of (Good r) = bare 0
 refusal_of (Refused c) = c

@@ -2,7 +2,7 @@
 use Rattle.std.specs.Prelude.{◌≡◌, List, ℕ}
 use Rattle.format.specs.Promises.{read_record}
 use Rattle.area.specs.Area.{areas, record_of, answer_of}
-use Rattle.area.specs.declared.reading.Answer.{Answer}
+use Rattle.format.specs.declared.Refusal.{Refusal}
 
-abbrev pub Reads : List ℕ → Answer → Type 0
+abbrev pub Reads : List ℕ → Result Area Refusal → Type 0
 Reads s a = a ≡ answer_of (read_record areas record_of s)

@@ -35,8 +35,8 @@ use Rattle.area.specs.Laws.Walking.{shape_numbered}
 use Rattle.area.specs.declared.reading.Area.{Area}
 use Rattle.area.specs.declared.reading.shapes.Shape.{Shape}
 use Rattle.area.specs.declared.reading.shapes.Shape.TheVariants.{Circle, Rectangle}
-use Rattle.area.specs.declared.reading.Answer.{Answer}
-use Rattle.area.specs.declared.reading.Answer.TheVariants.{Good, Refused}
+use Rattle.format.specs.declared.Refusal.{Refusal}
+use Rattle.std.specs.Prelude.{Result, Ok, Err}
 
 -- ---- the values of a record
 
@@ -162,16 +162,16 @@ family = record {
 -- ---- said of its promises
 
 -- an answer that is good is an accepted reading
-pub good : (s : List ℕ) (r : Area) → Reads s (Good r) → read_record areas record_of s ≡ accepted r
+pub good : (s : List ℕ) (r : Area) → Reads s (Ok r) → read_record areas record_of s ≡ accepted r
 good s r = good_read Good Refused out_of (λ q. refl) (λ c. refl) (read_record areas record_of s)
 
 -- What is written is read back as the same record.
-pub written_reads : (s : List ℕ) (r : Area) (t : List ℕ) → Writes areas s (bare 0) t (values_of r) → Reads (take 31 t) (Good r)
+pub written_reads : (s : List ℕ) (r : Area) (t : List ℕ) → Writes areas s (bare 0) t (values_of r) → Reads (take 31 t) (Ok r)
 unfolding areas
 written_reads s r t w = sym (ap answer_of (written_front family s r t 31 tt w (one_size areas 31 refl refl (values_of r))))
 
 -- What is read is written back as the same bytes.
-pub read_writes_back : (s : List ℕ) (r : Area) → Bytes s → Reads s (Good r) → (u : List ℕ) (code : Verdict) (t : List ℕ) → length s ≤ length u → Writes areas u code t (values_of r)
+pub read_writes_back : (s : List ℕ) (r : Area) → Bytes s → Reads s (Ok r) → (u : List ℕ) (code : Verdict) (t : List ℕ) → length s ≤ length u → Writes areas u code t (values_of r)
     → (code ≡ bare 0) × (t ≡ s ++ drop (length s) u)
 read_writes_back s r fine a = read_written family s r fine (good s r a)
 
@@ -191,7 +191,7 @@ looked_stands s n k fine is there r e =
     ap (λ t. spot areas.fmt [] (values_of r) (field_of t n)) (sym shape) ∙ spotted r (field_of k n) ∙ ap (λ t. spot_of t (field_of k n)) (sym kind) ∙ there
 
 -- Demand 3: every correction of an area, by any number and any value.
-pub corrected : (s : List ℕ) (a : Answer) → Bytes s → Reads s a → (n v : ℕ) (code : Verdict) (t : List ℕ) → Corrects areas s (field_of (field_at s 92 2) n) v code t
+pub corrected : (s : List ℕ) (a : Result Area Refusal) → Bytes s → Reads s a → (n v : ℕ) (code : Verdict) (t : List ℕ) → Corrects areas s (field_of (field_at s 92 2) n) v code t
     → Settled areas spot_by values_of changed_by s (out_of a) n v code t
 corrected s a fine reads n v code t c =
     settled_named family (λ r. spot_of (shape_kind r.shape)) spotted s fine (field_of (field_at s 92 2) n) v code t c named_by n (λ r e. ap (λ k. field_of k n) (shape_number s r fine e))

@@ -6,7 +6,7 @@ use Rattle.format.proofs.Laws.Corrections.{family_sized}
 use Rattle.area.specs.Area.{areas, record_of, refusal_of}
 use Rattle.area.specs.Changed.{field_of}
 use Rattle.area.specs.Laws.Demands.{family, looked_stands}
-use Rattle.area.specs.declared.reading.Answer.TheVariants.{Good, Refused}
+use Rattle.std.specs.Prelude.{Result, Ok, Err}
 use Rattle.area.proofs.correcting.correct.Goals as goal
 
 -- the message was refused

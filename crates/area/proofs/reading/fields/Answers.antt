@@ -16,8 +16,8 @@ use Rattle.ais_common.specs.Laws.Walking.{time_read_lem, short_read_lem}
 use Rattle.area.specs.Area.{area, record_of, answer_of}
 use Rattle.area.specs.Laws.Told.{recorded}
 use Rattle.area.specs.declared.reading.Area.{Area}
-use Rattle.area.specs.declared.reading.Answer.{Answer}
-use Rattle.area.specs.declared.reading.Answer.TheVariants.{Good, Refused}
+use Rattle.format.specs.declared.Refusal.{Refusal}
+use Rattle.std.specs.Prelude.{Result, Ok, Err}
 use Rattle.area.proofs.reading.fields.Goals.{Else-s-ne-LEAST}
 use Rattle.area.proofs.reading.fields.Goals as goal
 

@@ -5,7 +5,7 @@ use Rattle.format.specs.Laws.Answers.{led_so}
 use Rattle.format.specs.Laws.Lead.{read_first, exact_fields}
 use Rattle.area.specs.Area.{area, areas, record_of, answer_of}
 use Rattle.area.specs.Laws.Sound.{sized}
-use Rattle.area.specs.declared.reading.Answer.TheVariants.{Good, Refused}
+use Rattle.std.specs.Prelude.{Result, Ok, Err}
 use Rattle.area.proofs.reading.read.Goals as goal
 
 pub returns-then-code-ne0 : goal.returns-then-code-ne0
