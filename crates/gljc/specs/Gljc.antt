@@ -8,8 +8,8 @@ use Rattle.format.specs.Refusals.{bare}
 use Rattle.format.specs.Refusals.{Verdict}
 use Rattle.format.specs.Words.{◌‥◌, ◌▹◌, num}
 use Rattle.gljc.specs.declared.reading.Gljc.{Gljc}
-use Rattle.gljc.specs.declared.reading.Answer.{Answer}
-use Rattle.gljc.specs.declared.reading.Answer.TheVariants.{Good, Refused}
+use Rattle.format.specs.declared.Refusal.{Refusal}
+use Rattle.std.specs.Prelude.{Result, Ok, Err}
 
 -- `GLJC`
 abbrev pub letters : ℕ
@@ -35,14 +35,14 @@ unfoldable pub record_of : List ℕ → Gljc
 record_of vs = record { address = get_or vs 3 0; minutes = get_or vs 4 0 }
 
 -- the paper's refusals and values
-abbrev pub answer_of : Out Gljc → Answer
+abbrev pub answer_of : Out Gljc → Result Gljc Refusal
 answer_of = answered Good Refused
 
 -- an answer taken apart, and its refusal
-abbrev pub out_of : Answer → Out Gljc
+abbrev pub out_of : Result Gljc Refusal → Out Gljc
 out_of (Good r) = accepted r
 out_of (Refused c) = refused_by c
 
-abbrev pub refusal_of : Answer → Verdict
+abbrev pub refusal_of : Result Gljc Refusal → Verdict
 refusal_of (Good r) = bare 0
 refusal_of (Refused c) = c

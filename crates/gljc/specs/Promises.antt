@@ -2,7 +2,7 @@
 use Rattle.std.specs.Prelude.{◌≡◌, List, ℕ}
 use Rattle.format.specs.Promises.{read_record}
 use Rattle.gljc.specs.Gljc.{gljcs, record_of, answer_of}
-use Rattle.gljc.specs.declared.reading.Answer.{Answer}
+use Rattle.format.specs.declared.Refusal.{Refusal}
 
-abbrev pub Reads : List ℕ → Answer → Type 0
+abbrev pub Reads : List ℕ → Result Gljc Refusal → Type 0
 Reads s a = a ≡ answer_of (read_record gljcs record_of s)

@@ -5,7 +5,7 @@ use Rattle.format.proofs.Laws.Corrections.{family_sized}
 use Rattle.gljc.specs.Gljc.{gljcs, record_of, refusal_of}
 use Rattle.gljc.specs.Laws.Correction.{spotted}
 use Rattle.gljc.specs.Laws.Demands.{family}
-use Rattle.gljc.specs.declared.reading.Answer.TheVariants.{Good, Refused}
+use Rattle.std.specs.Prelude.{Result, Ok, Err}
 use Rattle.gljc.proofs.correcting.correct.Goals as goal
 
 -- the frame was refused

@@ -9,7 +9,7 @@ use Rattle.walk.specs.Laws.Walked.{finish}
 use native.Mathlib.Omega.{arith}
 use Rattle.format.specs.Laws.Lead.{exact_fields, other_size}
 use Rattle.gljc.specs.Gljc.{letters, gljc, record_of, answer_of}
-use Rattle.gljc.specs.declared.reading.Answer.TheVariants.{Good, Refused}
+use Rattle.std.specs.Prelude.{Result, Ok, Err}
 use Rattle.gljc.proofs.reading.fields.Goals as goal
 
 pub returns-then-s-ne-SEALED : goal.returns-then-s-ne-SEALED

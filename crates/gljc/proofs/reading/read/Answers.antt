@@ -7,7 +7,7 @@ use Rattle.format.specs.Fmt.{also, read}
 use Rattle.format.specs.Laws.Answers.{led_so}
 use Rattle.format.specs.Laws.Lead.{read_first, exact_fields}
 use Rattle.gljc.specs.Gljc.{letters, gljc, gljcs, record_of, answer_of}
-use Rattle.gljc.specs.declared.reading.Answer.TheVariants.{Good, Refused}
+use Rattle.std.specs.Prelude.{Result, Ok, Err}
 use Rattle.gljc.proofs.reading.read.Goals as goal
 
 pub returns-then-code-ne0 : goal.returns-then-code-ne0
