@@ -1,8 +1,7 @@
 // The frame GLJC (paper 01, "Serial frames"): one byte, minutes.
-ghost use Rattle.std.specs.Prelude.{◌≡◌, cond, eqb};
+ghost use Rattle.std.specs.Prelude.{◌≡◌};
 ghost use Rattle.format.specs.Fmt.{also};
 ghost use Rattle.format.specs.Promises.{out_of, plain};
-ghost use Rattle.format.specs.Refusals.{code_of};
 ghost use Rattle.format.specs.Message.{fields_of};
 ghost use Rattle.gljc.specs.Gljc.{gljc, record_of};
 ghost use Rattle.gljc.specs.Promises.{Reads};
