@@ -4,12 +4,8 @@ use Rattle.bits.specs.Bits.{value_of, digits, bits_of, bytes_of, field_at}
 use Rattle.format.specs.Fmt.{Out, accepted, Fmt, end, field, bytes}
 use Rattle.format.specs.Message.{Layout, led, between}
 use Rattle.format.specs.Promises.{answered, refused_by}
-use Rattle.format.specs.Refusals.{bare}
-use Rattle.format.specs.Refusals.{Verdict}
 use Rattle.format.specs.Words.{any, ◌‥◌, ◌▹◌, only, kept, num, code, ago}
 use Rattle.packet.specs.declared.reading.Packet.{Packet}
-use Rattle.packet.specs.declared.reading.Answer.{Answer}
-use Rattle.packet.specs.declared.reading.Answer.TheVariants.{Good, Refused}
 
 -- the one version that is handled
 abbrev pub version : ℕ
@@ -73,15 +69,6 @@ record_of vs = (
   let n = slice_index_or vs 6 0 in bytes_of n (digits (n * 8) (slice_index vs 7)),
 )
 
--- the paper's refusals and values; the content is shown beside them
-abbrev pub answer_of : Out (Packet × List ℕ) → Answer
-answer_of = answered (λ r. Good r.0) Refused
-
--- an answer taken apart, and its refusal
-abbrev pub out_of : Answer → Out Packet
-out_of (Good r) = accepted r
-out_of (Refused c) = refused_by c
-
-abbrev pub refusal_of : Answer → Verdict
-refusal_of (Good r) = bare 0
-refusal_of (Refused c) = c
+-- the paper's refusals, and the record; the content is shown beside it
+abbrev pub answer_of : Out (Packet × List ℕ) → Out Packet
+answer_of = answered (λ r. accepted r.0) refused_by

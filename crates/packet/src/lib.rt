@@ -2,7 +2,7 @@
 #![tactic(auto)]
 
 pub use crate::correcting::correct;
-pub use crate::reading::{Answer, JOINED, MOST, PART, Packet, content, read};
+pub use crate::reading::{JOINED, MOST, PART, Packet, content, read};
 pub use crate::splitting::{next_number, split};
 pub use crate::writing::write;
 

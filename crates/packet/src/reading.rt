@@ -1,12 +1,13 @@
 // The packet (paper 01, "Notice and packet"; 000, 5.2.2.2): a part of a notice, with its head.
-ghost use Rattle.std.specs.Prelude.{◌≡◌, ◌-◌, if◌then◌else◌, nat_eq};
+ghost use Rattle.std.specs.Prelude.{◌≡◌, ◌-◌};
 ghost use Rattle.format.specs.Fmt.{also};
+ghost use Rattle.format.specs.Promises.{out_of};
+ghost use Rattle.format.specs.Refusals.{code_of};
 ghost use Rattle.format.specs.Message.{fields_of};
-ghost use Rattle.packet.specs.Packet.{greatest, packet, packets, record_of, answer_of, refusal_of};
+ghost use Rattle.packet.specs.Packet.{greatest, packet, packets, record_of, answer_of};
 ghost use Rattle.packet.specs.Promises.{Reads, Shows};
-ghost use Rattle.packet.specs.declared.reading.Answer.TheVariants.{Good, Refused};
 
-use format::Refusal;
+use format::{Reason, Refusal};
 
 // The content stands beside the record: in the packet that was read, or lent to be written.
 #[derive(Clone, Copy)]
@@ -19,34 +20,6 @@ pub struct Packet {
     pub total: u8,
     // This packet's number among them, from 0.
     pub own: u8,
-}
-
-#[derive(Clone, Copy)]
-pub enum Answer {
-    Good(Packet),
-    Refused(Refusal),
-}
-
-impl Answer {
-    // The record, unless a walk over its packet ended with a refusal.
-    fn told(refusal: Refusal, r: Packet) -> Answer
-        ensures { result ≡ (if nat_eq refusal.code 0 then Good r else Refused refusal) }
-    {
-        if refusal.code != 0 {
-            return Answer::Refused(refusal);
-        }
-        Answer::Good(r)
-    }
-
-    // Its refusal: none for a good one.
-    pub fn refusal(self) -> Refusal
-        ensures { result ≡ refusal_of self }
-    {
-        match self {
-            Answer::Good(_) => Refusal::NONE,
-            Answer::Refused(refusal) => refusal,
-        }
-    }
 }
 
 impl Packet {
@@ -72,13 +45,10 @@ pub const PART: usize = 206;
 
 pub const JOINED: usize = MOST * PART;
 
-pub fn read(s: &[u8]) -> Answer
+pub fn read(s: &[u8]) -> Result<Packet, Refusal>
     ensures { Reads s.now result }
 {
-    let code = lead(s);
-    if code != 0 {
-        return Answer::Refused(Refusal::bare(code));
-    }
+    lead(s)?;
     fields(s)
 }
 
@@ -86,45 +56,38 @@ pub fn read(s: &[u8]) -> Answer
 pub fn content(s: &[u8]) -> &[u8]
     ensures { Shows s.now result.now }
 {
-    let refusal = read(s).refusal();
-    if refusal.code != 0 {
-        return &s[..0];
+    match read(s) {
+        Ok(_) => &s[Packet::CONTENT..],
+        Err(_) => &s[..0],
     }
-    &s[Packet::CONTENT..]
 }
 
 // The first tests: smallest size, code and version, greatest size.
-pub fn lead(s: &[u8]) -> u8
-    ensures { result ≡ packets.lead s.now }
+pub fn lead(s: &[u8]) -> Result<(), Reason>
+    ensures { code_of result ≡ packets.lead s.now }
 {
     let size = s.len();
     if size < Packet::LEAST {
-        return format::SIZE;
+        return Err(Reason::Size);
     }
-    if bits::get(s, 0, 8) != CODE {
-        return format::KIND;
-    }
-    if bits::get(s, 8, 3) != VERSION {
-        return format::KIND;
+    if bits::get(s, 0, 8) != CODE || bits::get(s, 8, 3) != VERSION {
+        return Err(Reason::Kind);
     }
     if size > Packet::GREATEST {
-        return format::SIZE;
+        return Err(Reason::Size);
     }
-    0
+    Ok(())
 }
 
 // The fields in bit order. Another size is refused at once: no field has then to be tested for it.
-pub fn fields(s: &[u8]) -> Answer
-    ensures { result ≡ answer_of (also record_of (fields_of packet 5 greatest s.now)) }
+pub fn fields(s: &[u8]) -> Result<Packet, Refusal>
+    ensures { out_of result ≡ answer_of (also record_of (fields_of packet 5 greatest s.now)) }
 {
-    if s.len() < Packet::LEAST {
-        return Answer::Refused(Refusal::SIZE);
-    }
-    if s.len() > Packet::GREATEST {
-        return Answer::Refused(Refusal::SIZE);
+    if s.len() < Packet::LEAST || s.len() > Packet::GREATEST {
+        return Err(Reason::Size.into());
     }
     let content = (s.len() - Packet::CONTENT) as u32 * 8;
-    let w = walk::walk::Walk::begin(0, 0)
+    let w = walk::walk::Walk::begin(0)
         .code(s, 8, CODE)
         .code(s, 3, VERSION);
     let w = w.num(s, 1, 0, 1);
@@ -135,25 +98,20 @@ pub fn fields(s: &[u8]) -> Answer
     let total = w.v as u8;
     let w = w.num(s, 6, 0, last_number(total));
     let own = w.v as u8;
-    if w.code != 0 {
-        return Answer::Refused(w.refusal());
-    }
+    w.passed()?;
     let w = w.rest(s).content(s, content).end(s);
-    let r = Packet {
+    w.passed()?;
+    Ok(Packet {
         language,
         number,
         total,
         own,
-    };
-    Answer::told(w.refusal(), r)
+    })
 }
 
 // The greatest own number of so many packets.
 pub fn last_number(total: u8) -> u64
     ensures { result ≡ total - 1 }
 {
-    if total == 0 {
-        return 0;
-    }
-    total as u64 - 1
+    u64::from(total).saturating_sub(1)
 }

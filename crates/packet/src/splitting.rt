@@ -1,35 +1,36 @@
 // The splitter (paper 01, "Notice and packet"; 000, 5.1.2): a notice's bytes as packets, one packet a call.
-ghost use Rattle.std.specs.Prelude.{◌≡◌, ◌*◌, ◌<◌, ◌≤◌, length, if◌then◌else◌};
+ghost use Rattle.std.specs.Prelude.{◌≡◌, ◌*◌, ◌<◌, ◌≤◌, length};
+ghost use Rattle.format.specs.Refusals.{told_of};
 ghost use Rattle.packet.specs.Packet.{most_packets, part_bytes_of};
 ghost use Rattle.packet.specs.Splitter.{part_of, next_number};
 ghost use Rattle.packet.specs.SplittingPromises.{Splits};
 
 use crate::reading::{JOINED, PART, Packet};
-use format::Refusal;
+use format::{Reason, Refusal};
 
 // Writes packet number `packet` of the content into the front of a lent buffer: the content's size (1), a number past the last packet (4), room (6).
-pub fn split(buf: &mut [u8], content: &[u8], english: bool, number: u8, packet: usize) -> Refusal
-    ensures { Splits buf.old content.now english number packet result buf.new }
+pub fn split(
+    buf: &mut [u8],
+    content: &[u8],
+    english: bool,
+    number: u8,
+    packet: usize,
+) -> Result<(), Refusal>
+    ensures { Splits buf.old content.now english number packet (told_of result) buf.new }
 {
     let size = content.len();
-    if size == 0 {
-        return Refusal::SIZE;
+    if size == 0 || size > JOINED {
+        return Err(Reason::Size.into());
     }
-    if size > JOINED {
-        return Refusal::SIZE;
-    }
-    let count = (size - 1) / PART + 1;
+    let count = size.div_ceil(PART);
     if packet >= count {
-        return Refusal::RANGE;
+        return Err(Reason::Range.into());
     }
-    let language = language(english);
-    let total = count as u8;
-    let own = packet as u8;
     let r = Packet {
-        language,
+        language: u8::from(english),
         number,
-        total,
-        own,
+        total: count as u8,
+        own: packet as u8,
     };
     crate::writing::write(buf, r, part(content, packet))
 }
@@ -38,7 +39,7 @@ pub fn split(buf: &mut [u8], content: &[u8], english: bool, number: u8, packet: 
 pub fn next_number(number: u8) -> u8
     ensures { result ≡ next_number number }
 {
-    std::num::wrapping_add_u8(number, 1)
+    number.wrapping_add(1)
 }
 
 // The bytes of that packet: as many as a packet holds, or the rest.
@@ -47,14 +48,5 @@ fn part(content: &[u8], packet: usize) -> &[u8]
     ensures { result.now ≡ part_of content.now packet }
 {
     let rest = &content[packet * PART..];
-    if rest.len() < PART {
-        return rest;
-    }
-    &rest[..PART]
-}
-
-fn language(english: bool) -> u8
-    ensures { result ≡ (if english then 1 else 0) }
-{
-    if english { 1 } else { 0 }
+    &rest[..PART.min(rest.len())]
 }

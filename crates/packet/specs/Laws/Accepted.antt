@@ -21,7 +21,7 @@ use Rattle.packet.specs.Packet.{version, most_packets, part_bytes_of, greatest, 
 use Rattle.packet.specs.Laws.Demands.{counted, family, good as reads_good}
 use Rattle.packet.specs.Laws.Shown.{shown}
 use Rattle.packet.specs.Promises.{Reads}
-use Rattle.packet.specs.declared.reading.Answer.TheVariants.{Good}
+use Rattle.std.specs.Prelude.{Ok}
 use Rattle.packet.specs.Laws.Sound.{listed, read_sized}
 use Rattle.packet.specs.declared.reading.Packet.{Packet}
 
@@ -120,5 +120,5 @@ read_fit s x e = go (read_message packets s) refl e
     go (refused c p) o d = let z : ◌≡◌ {A = ℕ} 0 1 = cc in absurd (omega arith)
 
 -- So is one that is answered good, with what stands behind its head.
-pub read_good : (s : List ℕ) (r : Packet) → Bytes s → Reads s (Good r) → let c = take (length s - 4) (drop 4 s) in (4 ≤ length s) × (read_record packets record_of s ≡ accepted (r, c)) × Fit r c
-read_good s r fine a = let (n, shows) = shown s a refl fine refl in let e = reads_good s r _ a shows in (n, e, read_fit s _ e)
+pub read_good : (s : List ℕ) (r : Packet) → Bytes s → Reads s (Ok r) → let c = take (length s - 4) (drop 4 s) in (4 ≤ length s) × (read_record packets record_of s ≡ accepted (r, c)) × Fit r c
+read_good s r fine a = let (n, shows) = shown s (Ok r) a refl fine refl in let e = reads_good s r _ a shows in (n, e, read_fit s _ e)

@@ -17,7 +17,7 @@ use Rattle.packet.specs.Packet.{part_bytes_of, joined, packets, values_of, recor
 use Rattle.packet.specs.Promises.{Reads, Shows}
 use Rattle.packet.specs.Laws.Accepted.{Fit, fit_written, fit_read}
 use Rattle.packet.specs.Laws.Demands.{written_reads}
-use Rattle.packet.specs.declared.reading.Answer.TheVariants.{Good}
+use Rattle.std.specs.Prelude.{Ok}
 use Rattle.packet.specs.SplittingPromises.{splitting, Splits}
 use Rattle.packet.specs.Splitter.{packet_count, part_of, packet_of, packets_from, packets_of, joined_of}
 
@@ -104,7 +104,7 @@ module _ (english : Bool) (number : ℕ) (c : List ℕ) where
         go false y a b = absurd (omega (arith, ap (λ r. r.code) a))
 
     -- and stands in front of what is left: it is read as that packet's record, and shows that part of the content.
-    pub split_reads : Bytes c → code.code ≡ 0 → let p = packet_of english number c k in let m = take (4 + length p.1) t in Reads m (Good p.0) × Shows m p.1
+    pub split_reads : Bytes c → code.code ≡ 0 → let p = packet_of english number c k in let m = take (4 + length p.1) t in Reads m (Ok p.0) × Shows m p.1
     split_reads fine z = written_reads s (packet_of english number c k).0 (part_of c k) t (part_bytes k fine) (split_writes z)
 
     -- Two answers that the promise allows are equal.

@@ -1,5 +1,5 @@
 -- The content that is shown stands in the packet itself, from byte 4 to its end. Assumes nothing.
-use Rattle.std.specs.Prelude.{◌≡◌, ℕ, ◌+◌, ◌-◌, ◌*◌, ◌≤◌, List, [], length, take, drop, ◌≢◌, slice_index, slice_index_or}
+use Rattle.std.specs.Prelude.{◌≡◌, ℕ, ◌+◌, ◌-◌, ◌*◌, ◌≤◌, List, [], length, take, drop, ◌≢◌, slice_index, slice_index_or, Result}
 use Rattle.std.proofs.Math.Path.{refl, sym, ap}
 use Rattle.std.proofs.Common.{◌∙◌, arith}
 use Rattle.bits.specs.Bits.{Bytes, bits_of}
@@ -16,24 +16,26 @@ use Rattle.format.proofs.Laws.Round.{read_write}
 use Rattle.format.specs.Laws.Runs.{run_stands}
 use Rattle.format.proofs.Laws.Showing.{shows_none, shows_values}
 use Rattle.format.proofs.Laws.Whole.{was}
-use Rattle.format.specs.Refusals.{Verdict}
+use Rattle.format.specs.Refusals.{Verdict, told_of}
+use Rattle.format.specs.Promises.{refused_by, verdict_of}
+use Rattle.format.specs.Laws.Outcomes.{told_out}
 use Rattle.packet.specs.Promises.{Reads, Shows}
-use Rattle.packet.specs.Packet.{packet, packets, record_of, refusal_of}
-use Rattle.packet.specs.declared.reading.Answer.{Answer}
-use Rattle.packet.specs.declared.reading.Answer.TheVariants.{Good, Refused}
+use Rattle.packet.specs.Packet.{packet, packets, record_of}
+use Rattle.packet.specs.declared.reading.Packet.{Packet}
+use Rattle.format.specs.declared.Refusal.{Refusal}
 use Rattle.packet.specs.Laws.Demands.{family}
 use Rattle.packet.specs.Laws.Sound.{listed}
 
-module _ (s : List ℕ) {a : Answer} {n : Verdict} (reads : Reads s a) (number : n ≡ refusal_of a) where
+module _ (s : List ℕ) (a : Result Packet Refusal) {n : Verdict} (reads : Reads s a) (number : n ≡ told_of a) where
   -- a refused packet shows nothing
   pub hidden : (n.code ≢ 0) → Shows s []
-  hidden = shows_none packets family.judged (λ r. Good r.0) Refused record_of refusal_of (λ r. refl) (λ c. refl) (λ r. r.1) [] s reads number
+  hidden = shows_none packets family.judged (λ r. accepted r.0) refused_by record_of verdict_of (λ r. refl) (λ c. refl) (λ r. r.1) [] s reads (number ∙ told_out a)
 
   -- A good packet shows its content.
   pub shown : Bytes s → n.code ≡ 0 → (4 ≤ length s) × Shows s (take (length s - 4) (drop 4 s))
   unfolding packets packet record_of entries
   shown fine z =
-      let (vs, e, is-shown) = shows_values packets family.judged (λ r. Good r.0) Refused record_of refusal_of (λ r. refl) (λ c. refl) (λ r. r.1) [] s reads number z in
+      let (vs, e, is-shown) = shows_values packets family.judged (λ r. accepted r.0) refused_by record_of verdict_of (λ r. refl) (λ c. refl) (λ r. r.1) [] s reads (number ∙ told_out a) z in
       let b = bits_of s in
       let walked : read packet [] 0 b ≡ accepted vs = (was packets s vs e).walked in
       let w = read_write packet [] 0 vs b walked in

@@ -4,23 +4,21 @@ ghost use Rattle.format.specs.Fmt.{write};
 ghost use Rattle.format.specs.Laws.Putting.{Puts};
 ghost use Rattle.walk.specs.Judging.{beyond};
 ghost use Rattle.walk.specs.Laws.Judging.{Judged};
+ghost use Rattle.walk.specs.Walk.{seen};
 ghost use Rattle.packet.specs.Packet.{packet, values_of};
 
 use crate::reading::{CODE, MOST, Packet, VERSION, last_number};
 
 // The head's values judged in bit order, whatever content follows.
 pub(crate) fn judged(r: Packet) -> walk::walk::Walk
-    ensures { (c : List ℕ) → Judged (write packet [] 0 (values_of (r, c))) (beyond (length c * 8) 0 result) }
+    ensures { (c : List ℕ) → Judged (write packet [] 0 (values_of (r, c))) (beyond (length c * 8) 0 (seen result)) }
 {
-    let w = walk::walk::Walk::begin(0, 0);
+    let w = walk::walk::Walk::begin(0);
     let w = w.fixed(8, CODE);
     let w = w.fixed(3, VERSION);
     let w = w.value(1, r.language as u64, 0, 1);
     let w = w.value(8, r.number as u64, 0, 255);
     let w = w.value(6, r.total as u64, 1, MOST as u64);
-    if w.code != 0 {
-        return w;
-    }
     w.value(6, r.own as u64, 0, last_number(r.total))
 }
 

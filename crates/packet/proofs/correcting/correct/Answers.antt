@@ -1,25 +1,30 @@
 -- `correct` is the correction in place of every family, with the packet's fields read before and behind the change and where `stands` found the field.
-use Rattle.std.proofs.Common.{refl, ◌∙◌}
-use Rattle.format.specs.Laws.Corrections.{family_refused}
-use Rattle.format.proofs.Laws.Corrections.{family_sized}
-use Rattle.packet.specs.Packet.{packets, record_of, refusal_of}
+use Rattle.std.proofs.Common.{sym, refl, ap, ◌∙◌}
+use Rattle.format.specs.Fmt.{accepted, also}
+use Rattle.format.specs.Message.{read_message, fields_of}
+use Rattle.format.specs.Promises.{read_record, refused_by, plain}
+use Rattle.format.specs.Laws.Answers.{good_accepts}
+use Rattle.format.proofs.Laws.Corrections.{family_exit, family_in_place, fields_told}
+use Rattle.packet.specs.Packet.{greatest, packet, packets, record_of, answer_of}
 use Rattle.packet.specs.Laws.Correction.{spotted}
 use Rattle.packet.specs.Laws.Demands.{family}
-use Rattle.packet.specs.declared.reading.Answer.TheVariants.{Good, Refused}
+use Rattle.packet.specs.Laws.Heads.{head_of, heads}
 use Rattle.packet.proofs.correcting.correct.Goals as goal
 
 -- the message was refused
-pub returns-then-own-ne0 : goal.returns-then-own-ne0
+pub returns-in_err-read : goal.returns-in_err-read
 unfolding packets
-returns-then-own-ne0 c =
+returns-in_err-read c =
     let a = c.args in
-    family_refused packets record_of (λ r. Good r.0) Refused refusal_of (λ r. refl) (λ c. refl) a.buf.now _ a.value c.read-was.ensures c.refusal-own.ensures c.if-own-ne0.true
+    family_exit packets head_of a.buf.now a.field a.value c.from_residual.result _ c.from_residual.ensures.1 (c.in_err-read.ensures ∙ sym (heads (read_message packets a.buf.now)))
 
 pub returns : goal.returns
 unfolding packets
 returns c =
     let a = c.args in
+    let s = a.buf.now in
     let (there, slim) = c.stands-spot.ensures in
-    family_sized family (λ r. Good r.0) Refused refusal_of (λ r. refl) (λ c. refl) a.buf.now a.field a.value _ _ c.read-was.ensures c.refusal-own.ensures
+    let (r, is, same) = good_accepts accepted refused_by (λ o. o) (λ q. refl) (λ c. refl) (λ r. r.0) (read_record packets record_of s) c.in_ok-read.ensures in
+    family_in_place family s (λ i. (c.slice_known-1.given i).fits) a.field a.value _ _ r (ap plain (sym is))
     (λ r e. spotted r a.field ∙ there) slim
-    (λ i. (c.slice_known-1.given i).fits) c.begin-begun.ensures refl c.fields-again.ensures c.refusal.ensures c.finish.ensures
+    (λ t d least most z. fields_told packets head_of t d least most (z.1 ∙ ap (λ b. answer_of (also record_of (fields_of packet 5 greatest b))) z.2 ∙ sym (heads (fields_of packet 5 greatest t)))) c.in_place.ensures

@@ -7,8 +7,8 @@ use Rattle.format.specs.Words.{only, kept, any, ◌‥◌, ago, num}
 use Rattle.format.specs.Laws.Extent.{opens_field}
 use Rattle.format.specs.Laws.Tells.{only_tells, wrong_tells}
 use Rattle.walk.specs.Judging.{valued, beyond}
-use Rattle.walk.specs.Laws.Judging.{Judging, Judged, judge_start, judge_fixed, judge_num, judge_late, valued_between, judge_bytes, judge_beyond, judge_refused, judge_end}
-use Rattle.walk.specs.Walk.{Walk}
+use Rattle.walk.specs.Laws.Judging.{Judging, Judged, judge_start, judge_fixed, judge_num, judge_late, valued_between, judge_bytes, judge_beyond, judge_end}
+use Rattle.walk.specs.Walk.{Walk, seen}
 use Rattle.packet.specs.Packet.{version, most_packets, content, packet, values_of}
 use Rattle.packet.proofs.writing.making.judged.Goals.{After-value-w-3}
 use Rattle.packet.proofs.writing.making.judged.Goals as goal
@@ -19,7 +19,7 @@ carried x e = let w = length x * 8 in judge_end (judge_beyond 0 opens_field (wro
 
 -- up to the total
 counted : (c : After-value-w-3) (x : List ℕ) → let r = c.args.r in
-    Judging (write packet [] 0 (values_of (r, x))) (num 6 (λ h. (0 ‥ ago 0 h - 1) h) content) (r.total ∷ r.number ∷ r.language ∷ version ∷ 0xE1 ∷ []) 26 (r.own ∷ length x ∷ value_of (bits_of x) ∷ []) c.value-w-3.result
+    Judging (write packet [] 0 (values_of (r, x))) (num 6 (λ h. (0 ‥ ago 0 h - 1) h) content) (r.total ∷ r.number ∷ r.language ∷ version ∷ 0xE1 ∷ []) 26 (r.own ∷ length x ∷ value_of (bits_of x) ∷ []) (seen c.value-w-3.result)
 unfolding packet values_of
 counted total x =
     let r = total.args.r in
@@ -30,14 +30,11 @@ counted total x =
     let r4 = judge_num 8 (lit< tt) 0 255 (lit< tt) r3 total.value-w-2.ensures in
     judge_num 6 (lit< tt) 1 most_packets (lit< tt) r4 total.value-w-3.ensures
 
-pub returns-then-w-ne0 : goal.returns-then-w-ne0
-returns-then-w-ne0 c x = carried x (judge_refused [] 0 (value_of (bits_of x) ∷ []) c.if-w-ne0.true (counted (goal.at.returns-then-w-ne0 c).After-value-w-3 x))
-
 pub returns : goal.returns
 unfolding packet values_of
 returns c x =
     let total = (goal.at.returns c).After-value-w-3 in
     let r = c.args.r in
-    let r6 = judge_late 6 (λ h. (0 ‥ ago 0 h - 1) h) 0 (r.total - 1) (lit< tt) (λ z. let (some, few) = valued_between c.value-w-2.result 6 r.total 1 most_packets c.value-w-3.ensures z in (omega (arith, few), λ l. refl)) (counted total x)
-    (c.value.ensures ∙ ap (λ n. valued 6 r.own 0 n c.value-w-3.result) c.last_number.ensures) in
+    let r6 = judge_late 6 (λ h. (0 ‥ ago 0 h - 1) h) 0 (r.total - 1) (lit< tt) (λ z. let (some, few) = valued_between (seen c.value-w-2.result) 6 r.total 1 most_packets c.value-w-3.ensures z in (omega (arith, few), λ l. refl)) (counted total x)
+    (c.value.ensures ∙ ap (λ n. valued 6 r.own 0 n (seen c.value-w-3.result)) c.last_number.ensures) in
     carried x (judge_bytes (omega arith) r6)
