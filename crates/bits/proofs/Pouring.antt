@@ -93,8 +93,22 @@ module _ (s : List ℕ) (at : ℕ) (t : List ℕ) (some : 0 < length t) (fits : 
   abbrev whole : ℕ
   whole = length t - 1
 
+  abbrev begin : ℕ
+  begin = at / 8 + 1
+
   abbrev end : ℕ
-  end = at / 8 + length t
+  end = begin + whole
+
+  -- s, with the bytes x put in where the whole bytes stand
+  abbrev filled : List ℕ → List ℕ → List ℕ
+  filled s x = take begin s ++ (x ++ drop (end - begin) (drop begin s))
+
+  slid : (s1 x : List ℕ) → length s1 ≡ length s → x ≡ bytes_at t first (length (take (end - begin) (drop begin s1)))
+      → filled s1 x ≡ take begin s1 ++ (bytes_at t first whole ++ drop (begin + whole) s1)
+  slid s1 x here e =
+      let n : end - begin ≡ whole = omega arith in
+      let count : length (take whole (drop begin s1)) ≡ whole = simp (length-take, length-drop) (omega arith) in
+      rw (e, n, count, drop-drop whole begin s1)
 
   abbrev start : List Bool
   start = take first (bits_of t)
@@ -111,20 +125,23 @@ module _ (s : List ℕ) (at : ℕ) (t : List ℕ) (some : 0 < length t) (fits : 
       rw (e, ← take-add first (whole * 8) (bits_of t), ← take-add (first + whole * 8) (at % 8) (bits_of t))
       (take_all (first + whole * 8 + at % 8) (bits_of t) (omega (arith, length_bits t)))
 
-  pub poured : (u v : ℕ) (b1 b2 : Bool) (s1 s2 x : List ℕ)
+  pub poured : (u v : ℕ) (b1 b2 : Bool) (s1 x1 x : List ℕ)
       → u ≡ got t 0 first
       → Put s at first u b1 s1
-      → s2 ≡ take (at / 8 + 1) s1 ++ (bytes_at t first whole ++ drop (at / 8 + 1 + whole) s1)
+      → x1 ≡ bytes_at t first (length (take (end - begin) (drop begin s1)))
       → v ≡ got (take (length t - whole) (drop whole t)) first (at % 8)
-      → Put (take (length s2 - end) (drop end s2)) 0 (at % 8) v b2 x
+      → let s2 = filled s1 x1 in
+      Put (take (length s2 - end) (drop end s2)) 0 (at % 8) v b2 x
       → Bytes (take end s2 ++ (x ++ drop (length s2 - end) (drop end s2)))
       → take end s2 ++ (x ++ drop (length s2 - end) (drop end s2)) ≡ put_bytes_at s at t
-  poured u v b1 b2 s1 s2 x get1 put1 e2 get2 put2 bytes =
+  poured u v b1 b2 s1 x1 x get1 put1 slid1 get2 put2 bytes =
+      let s2 = filled s1 x1 in
       let last = take (length t - whole) (drop whole t) in
       let tail = take (length s2 - end) (drop end s2) in
       let read1 = get1 ∙ got_fits t 0 first (omega arith) (omega arith) in
       let e1 = (put_done s at first u b1 s1 put1 (omega arith) (omega arith) (omega (arith, read1, field_lt t 0 first))).1 in
       let here : length s1 ≡ length s = ap length e1 ∙ length_put s at first u in
+      let e2 = slid s1 x1 here slid1 in
       let long : length s2 ≡ length s = ap length e2 ∙ simp (length-append, length_run, length-take, length-drop) (omega arith) in
       let read2 = get2 ∙ got_fits last first (at % 8) (omega arith) (simp (length-take, length-drop) (omega arith)) in
       let e3 =
@@ -133,9 +150,9 @@ module _ (s : List ℕ) (at : ℕ) (t : List ℕ) (some : 0 < length t) (fits : 
       put_run_is s at t fits (take end s2 ++ (x ++ drop (length s2 - end) (drop end s2))) bytes
       (rw (e3, read2, bits_ended s2 end (at % 8) t whole first (omega arith) (omega arith) (omega arith) (omega arith))
       (rw (
-        ap bits_of e2 ∙ bits_slid s1 (at / 8 + 1) t first whole (omega arith) (omega arith),
+        ap bits_of e2 ∙ bits_slid s1 begin t first whole (omega arith) (omega arith),
         ap bits_of (e1 ∙ ap (put_at s at first) read1) ∙ bits_copied s at first t 0 (omega arith) (omega arith),
-        over_over at start middle (bits_of s) ((at / 8 + 1) * 8) (simp (length-take, length_bits) (omega arith)) (simp length_bits (omega arith)),
+        over_over at start middle (bits_of s) (begin * 8) (simp (length-take, length_bits) (omega arith)) (simp length_bits (omega arith)),
         over_over at (start ++ middle) rest (bits_of s) (end * 8) (simp (length-append, length-take, length-drop, length_bits) (omega arith)) (simp length_bits (omega arith)),
         parts,
         length_bits t,

@@ -10,13 +10,11 @@ pub fn get_bytes(s: &[u8], at: usize, n: usize, out: &mut [u8]) -> bool
     ensures { (result ≡ gettable s.now at n out.old)
         × (out.new ≡ cond result (bytes_at s.now at n ++ drop n out.old) out.old) }
 {
-    if spans(s.len(), at, n) {
-        if n <= out.len() {
-            slide(s, at, n, out, 0);
-            return true;
-        }
+    let fits = spans(s.len(), at, n) && n <= out.len();
+    if fits {
+        slide(s, at, &mut out[..n]);
     }
-    false
+    fits
 }
 
 // Makes the bytes that start at bit `at` of `buf`, which need be no byte's first, be `t`. Where they do not lie within `buf`,
@@ -25,37 +23,29 @@ pub fn put_bytes(buf: &mut [u8], at: usize, t: &[u8]) -> bool
     ensures { (result ≡ spanned (length buf.old) at (length t.now))
         × (buf.new ≡ cond result (put_bytes_at buf.old at t.now) buf.old) }
 {
-    if spans(buf.len(), at, t.len()) {
-        if t.len() > 0 {
-            pour(buf, at, t);
-        }
-        return true;
+    let fits = spans(buf.len(), at, t.len());
+    if fits && !t.is_empty() {
+        pour(buf, at, t);
     }
-    false
+    fits
 }
 
 // Whether the `n` bytes that start at bit `at` lie within a message of `len` bytes.
 pub fn spans(len: usize, at: usize, n: usize) -> bool
     ensures { result ≡ spanned len at n }
 {
-    if n > len {
-        return false;
-    }
-    bytes_to(at) <= len - n
+    n <= len && bytes_to(at) <= len - n
 }
 
-// The `n` bytes that start at bit `at` of `s`, into `out` from its byte `to` on.
-fn slide(s: &[u8], at: usize, n: usize, out: &mut [u8], to: usize)
-    requires { (at + n * 8 ≤ length s.now * 8) × (to + n ≤ length out.old) }
-    ensures { out.new
-        ≡ take to out.old ++ (bytes_at s.now at n ++ drop (to + n) out.old) }
+// Fills `out` with the bytes that start at bit `at` of `s`.
+fn slide(s: &[u8], at: usize, out: &mut [u8])
+    requires { at + length out.old * 8 ≤ length s.now * 8 }
+    ensures { out.new ≡ bytes_at s.now at (length out.old) }
 {
     let high = at / 8;
     let low = bytes_to(at);
-    let mut i = 0;
-    while i < n {
-        out[to + i] = across(s[high + i], s[low + i], at);
-        i += 1;
+    for (i, byte) in out.iter_mut().enumerate() {
+        *byte = across(s[high + i], s[low + i], at);
     }
 }
 
@@ -68,9 +58,10 @@ fn pour(buf: &mut [u8], at: usize, t: &[u8])
     let left = at % 8;
     let first = 8 - left;
     let whole = t.len() - 1;
-    let end = at / 8 + t.len();
+    let begin = at / 8 + 1;
+    let end = begin + whole;
     crate::put(buf, at, first, crate::get(t, 0, first));
-    slide(t, first, whole, buf, at / 8 + 1);
+    slide(t, first, &mut buf[begin..end]);
     crate::put(
         &mut buf[end..],
         0,
@@ -91,6 +82,6 @@ pub fn bytes_to(at: usize) -> usize
 pub fn across(high: u8, low: u8, at: usize) -> u8
     ensures { result ≡ across_of high low at }
 {
-    let pair = high as u16 * 256 + low as u16;
+    let pair = u16::from(high) * 256 + u16::from(low);
     ((pair >> (8 - at % 8)) % 256) as u8
 }

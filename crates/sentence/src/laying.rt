@@ -10,11 +10,7 @@ fn put(buf: &mut [u8], at: usize, part: &[u8])
     requires { at + length part.now ≤ length buf.old }
     ensures { buf.new ≡ paste buf.old at part.now (length part.now) }
 {
-    let mut i = 0;
-    while i < part.len() {
-        buf[at + i] = part[i];
-        i += 1;
-    }
+    buf[at..at + part.len()].copy_from_slice(part);
 }
 
 // All of a sentence but its address.
@@ -25,10 +21,7 @@ pub const AROUND: usize = Sentence::BITS / 8;
 pub fn lay(buf: &mut [u8], digits: &[u8], bytes: [u8; 17]) -> bool
     ensures { Laid (summed_up (opening digits.now bytes)) buf.old result buf.new }
 {
-    if buf.len() < AROUND {
-        return false;
-    }
-    if buf.len() - AROUND < digits.len() {
+    if buf.len() < AROUND || buf.len() - AROUND < digits.len() {
         return false;
     }
     let inside = crate::spelling::hex(bytes);

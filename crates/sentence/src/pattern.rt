@@ -32,17 +32,7 @@ impl Around {
 fn same(a: &[u8], b: &[u8]) -> bool
     ensures { result ≡ same_bytes a.now b.now }
 {
-    if a.len() != b.len() {
-        return false;
-    }
-    let mut i = 0;
-    while i < a.len() {
-        if a[i] != b[i] {
-            return false;
-        }
-        i += 1;
-    }
-    true
+    a == b
 }
 
 // The address that the digits are, with no leading zero: 0 where they are none.
@@ -50,27 +40,23 @@ fn address(part: &[u8]) -> u32
     requires { 0 < length part.now }
     ensures { result ≡ cond (address_like part.now) (spelt 0 part.now) 0 }
 {
-    if part[0] == b'0' {
-        return 0;
+    if part[0] != b'0' && crate::spelling::all_digits(part, 10) {
+        number(part)
+    } else {
+        0
     }
-    if crate::spelling::all_digits(part, 10) {
-        return number(part);
-    }
-    0
 }
 
 // The number that decimal digits spell: 0 where it is above every address.
 fn number(part: &[u8]) -> u32
     ensures { result ≡ cond (leb (spelt 0 part.now) 2_097_151) (spelt 0 part.now) 0 }
 {
-    let mut all: u32 = 0;
-    let mut i = 0;
-    while i < part.len() {
-        all = all * 10 + crate::spelling::digit_value(part[i]) as u32;
+    let mut all = 0;
+    for c in part {
+        all = all * 10 + u32::from(crate::spelling::digit_value(*c));
         if all > GREATEST_ADDRESS {
             return 0;
         }
-        i += 1;
     }
     all
 }

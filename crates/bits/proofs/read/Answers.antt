@@ -1,12 +1,7 @@
 -- `bits::read` meets its contract: the field is a part of the number that its bytes spell.
-use Prim.Native.Nat.{◌+◌, ◌/◌, ◌%◌}
-use native.Mathlib.Omega.{arith}
-use lib.Pow.{pow_pos}
-use Rattle.bits.specs.Laws.Window.{one_shifted, part_is_field}
+use Rattle.std.proofs.Common.{◌+◌, ◌/◌, ◌%◌, arith}
+use Rattle.bits.specs.Laws.Window.{part_is_field}
 use Rattle.bits.proofs.read.Goals as goal
-
-pub overflow_sub-mask : goal.overflow_sub-mask
-overflow_sub-mask c = rw (one_shifted c.args.width (omega arith)) (pow_pos c.args.width)
 
 pub returns : goal.returns
 returns c =

@@ -1,14 +1,12 @@
 -- `bits::scatter` meets its contract: the bytes from k on are stored, and `rest` is what they leave of `all`.
-use mathlib.Core.Path.{◌≡◌, refl}
-use native.Mathlib.Omega.{arith}
-use lib.ListN.{length-set}
+use Rattle.std.proofs.Common.{◌≡◌, arith}
 use Rattle.bits.specs.Laws.Loops.{filled_none, filled_next, filled_all, rest_none, rest_next}
 use Rattle.bits.proofs.scatter.Goals as goal
 
 pub loop-k-init : goal.loop-k-init
 loop-k-init c =
     let a = c.args in
-    (omega arith, refl, rest_none a.count a.all, filled_none a.s.now a.from a.count a.all)
+    record { rest = rest_none a.count a.all; stored = filled_none a.s.now a.from a.count a.all }
 
 pub loop-k-preserved : goal.loop-k-preserved
 loop-k-preserved c =
@@ -16,7 +14,7 @@ loop-k-preserved c =
     let k = c.loop-k.k in
     let rest = rest_next a.s.now a.from a.count k a.all (omega arith) (omega arith) in
     let next = filled_next a.s.now a.from a.count k a.all (omega arith) (omega arith) (omega arith) in
-    (omega arith, simp length-set c.loop-k.invariant.1, cc, cc)
+    record { rest = cc; stored = cc }
 
 pub returns : goal.returns
 returns c =

@@ -19,11 +19,6 @@ returns-then-buf-lt-AROUND c = let a = (goal.at.returns-then-buf-lt-AROUND c).St
     let n = summed_long c.args.digits.now c.args.bytes (size a) in
     (sym (lt-leb (length (summed_up (opening c.args.digits.now c.args.bytes))) (length c.args.buf.now) (omega arith)), refl)
 
-pub returns-then-buf-digits : goal.returns-then-buf-digits
-returns-then-buf-digits c = let a = (goal.at.returns-then-buf-digits c).Start in
-    let n = summed_long c.args.digits.now c.args.bytes (size a) in
-    (sym (lt-leb (length (summed_up (opening c.args.digits.now c.args.bytes))) (length c.args.buf.now) (omega arith)), refl)
-
 pub returns : goal.returns
 returns c = let a = (goal.at.returns c).Start in
     let ds = c.args.digits.now in

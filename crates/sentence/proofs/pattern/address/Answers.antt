@@ -1,15 +1,17 @@
 -- `address`: each way out is one test of the definition.
-use mathlib.Core.Path.{sym, ◌∙◌}
+use Rattle.std.proofs.Common.{sym, ◌∙◌}
 use Rattle.sentence.specs.Laws.Tests.{address_zero, address_other, address_digits}
 use Rattle.sentence.proofs.pattern.address.Goals as goal
-
-pub returns-then-part-eq48 : goal.returns-then-part-eq48
-returns-then-part-eq48 c = rw (address_zero c.args.part.now c.if-part-eq48.true)
+use Rattle.sentence.proofs.pattern.address.Goals.{else-part-ne48-via-then-part-ne48+else-all_digits, else-part-ne48-via-else-part-ne48}
 
 pub returns-then-all_digits : goal.returns-then-all_digits
 returns-then-all_digits c =
-    rw (address_digits c.args.part.now c.requires c.if-part-eq48.false (sym c.all_digits.ensures ∙ c.if-all_digits.true)) c.number.ensures
+    rw (address_digits c.args.part.now c.requires c.if-part-ne48.true (sym c.all_digits.ensures ∙ c.if-all_digits.true)) c.number.ensures
 
-pub returns : goal.returns
-returns c =
-    rw (address_other c.args.part.now (sym c.all_digits.ensures ∙ c.if-all_digits.false))
+pub returns-else-part-ne48 : goal.returns-else-part-ne48
+returns-else-part-ne48 c =
+    let part = c.args.part.now in
+    elim c.else-part-ne48.branch [
+      | else-part-ne48-via-then-part-ne48+else-all_digits w ↦ rw (address_other part (sym w.all_digits.ensures ∙ w.if-all_digits.false))
+      | else-part-ne48-via-else-part-ne48 w ↦ rw (address_zero part w.if-part-ne48.false)
+    ]

@@ -1,12 +1,10 @@
--- `number`: the digits from offset i on spell the rest of the number, which only grows.
-use mathlib.Core.Path.{◌≡◌}
-use Prim.Native.Nat.{◌≤◌, ◌-◌}
-use lib.ListN.{length, drop}
+-- `number`: the digits left spell the rest of the number, which only grows.
+use Rattle.std.proofs.Common.{◌≡◌, ◌≤◌, drop}
 use Rattle.sentence.specs.Spelling.{spelt}
 use Rattle.sentence.proofs.pattern.number.Given as goal
 
-abbrev pub invariant-loop-i : goal.invariant-loop-i
-invariant-loop-i l = (l.i ≤ length l.part) × (l.all ≤ 2_097_151) × (spelt 0 l.part ≡ spelt l.all (drop l.i l.part))
-
-abbrev pub decreases-loop-i : goal.decreases-loop-i
-decreases-loop-i l = length l.part - l.i
+abbrev pub invariant-loop-c : goal.invariant-loop-c
+invariant-loop-c l = record {
+  good : l.all ≤ 2_097_151;
+  rest : spelt 0 l.part ≡ spelt l.all (drop l.c-index l.part);
+}
