@@ -1,5 +1,6 @@
 -- What is proved of them.
 pub mod Kinds
+pub mod Verdicts
 pub mod Instances
 pub mod Walking
 pub mod Subtypes

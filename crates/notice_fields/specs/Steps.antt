@@ -2,10 +2,18 @@
 use Rattle.std.specs.Prelude.{ℕ, true, false, List}
 use Rattle.walk.specs.Groups.{Step, single, then_step, unless_refused, repeat_walked, decided_walked}
 use Rattle.walk.specs.Reading.{ranged}
-use Rattle.walk.specs.Walk.{Walk}
+use Rattle.walk.specs.Walk.{Walk, seen}
 use Rattle.notice_fields.specs.PartsSteps.{latitude_read, longitude_read}
 use Rattle.notice_fields.specs.Areas.{Kind, sea, circle, several, kind_of}
-use Rattle.notice_fields.specs.declared.areas.Opened.{Opened}
+use Rattle.notice_fields.specs.declared.areas.Opened.{Opened as Declared}
+
+-- the walk in front of an area's points, and how many they are
+pub record Opened : Type 0 where
+  pub walk : Walk
+  pub points : ℕ
+
+abbrev pub opened : Declared → Opened
+opened x = record { walk = seen x.walk; points = x.points }
 
 -- of a kind, up to its points, and how many they are
 unfoldable pub opened_as : Kind → List ℕ → Walk → Opened

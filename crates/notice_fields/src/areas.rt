@@ -1,7 +1,8 @@
 // The areas of a notice (paper 01, "Notice and packet"): walked in bit order, the first fault ends the walk.
 ghost use Rattle.std.specs.Prelude.{◌≡◌};
 ghost use Rattle.notice_fields.specs.Areas.{least_of, kind_of};
-ghost use Rattle.notice_fields.specs.Steps.{opened_as, closed_as, areas_walked};
+ghost use Rattle.notice_fields.specs.Steps.{opened, opened_as, closed_as, areas_walked};
+ghost use Rattle.walk.specs.Walk.{seen};
 
 use walk::walk::Walk;
 
@@ -22,34 +23,28 @@ pub struct Opened {
 
 // Over `count` areas: the first bad point leaves both loops.
 pub fn walk(s: &[u8], from: Walk, count: u8) -> Walk
-    ensures { result ≡ areas_walked s.now count from }
+    ensures { seen result ≡ areas_walked s.now count (seen from) }
 {
-    let most = count as u64;
     let mut w = from;
-    let mut i: u64 = 0;
-    'areas: while i < most {
+    'areas: for _ in 0..count {
         let kind = w.decide(s, 3, 0, 4);
         let area = open_area(s, kind);
         w = area.walk;
-        let n = area.points;
-        let mut j: u64 = 0;
-        'points: while j < n {
+        'points: for _ in 0..area.points {
             let latitude = crate::parts::latitude(s, w);
             w = crate::parts::longitude(s, latitude);
-            if w.code != 0 {
+            if w.verdict.is_err() {
                 break 'areas;
             }
-            j += 1;
         }
         w = close_area(s, w, kind.v);
-        i += 1;
     }
     w
 }
 
 // Behind an area's kind, up to its points: a sea area's code, a circle's one point, or how many points are counted.
 fn open_area(s: &[u8], kind: Walk) -> Opened
-    ensures { result ≡ opened_as (kind_of kind.v) s.now kind }
+    ensures { opened result ≡ opened_as (kind_of kind.v) s.now (seen kind) }
 {
     let k = kind.v;
     if k == SEA {
@@ -80,7 +75,7 @@ pub fn least(kind: u64) -> u64
 
 // Behind an area's points: a circle's radius and unit.
 fn close_area(s: &[u8], w: Walk, kind: u64) -> Walk
-    ensures { result ≡ closed_as (kind_of kind) s.now w }
+    ensures { seen result ≡ closed_as (kind_of kind) s.now (seen w) }
 {
     if kind == CIRCLE {
         return w.num(s, 10, 0, 1_023).num(s, 2, 0, 3);

@@ -3,6 +3,7 @@ ghost use Rattle.std.specs.Prelude.{◌≡◌, ◌+◌, ◌*◌, ◌≤◌};
 ghost use Rattle.notice_fields.specs.Making.{fresh, points_judged, area_judged, areas_judged, points_put, area_put, areas_put};
 ghost use Rattle.notice_fields.specs.Row.{long_most};
 ghost use Rattle.notice_fields.specs.Standing.{front, area_most};
+ghost use Rattle.walk.specs.Walk.{seen, stepped};
 
 use crate::areas::{CIRCLE, FRONT, SEA};
 use crate::parts::{LATITUDE, LONGITUDE, POINT};
@@ -16,36 +17,30 @@ const COUNTS: u64 = 16;
 
 // A walk at the first area: nothing is refused, and no field is sought.
 fn fresh() -> Walk
-    ensures { result ≡ fresh }
+    ensures { seen result ≡ fresh }
 {
     Walk {
         at: FRONT as usize,
-        code: 0,
-        offset: 0,
+        verdict: Ok(()),
         v: 0,
-        seek: false,
-        left: 0,
-        spot: 0,
-        width: 0,
+        sought: None,
+        spot: None,
     }
 }
 
 // The numbers of a notice's first `count` areas, where nothing was refused in front of them; a refused count of points is not walked.
 pub fn judge(row: &[u32], count: u8) -> Stepped
-    ensures { result ≡ areas_judged row.now count 0 fresh }
+    ensures { stepped result ≡ areas_judged row.now count 0 fresh }
 {
-    let most = count as usize;
     let mut w = fresh();
     let mut k: usize = 0;
-    let mut i: usize = 0;
-    while i < most {
+    for _ in 0..count {
         let area = judge_area(w, row, k);
         w = area.walk;
         k = area.next;
-        if w.code != 0 {
+        if w.verdict.is_err() {
             break;
         }
-        i += 1;
     }
     Stepped { walk: w, next: k }
 }
@@ -53,7 +48,7 @@ pub fn judge(row: &[u32], count: u8) -> Stepped
 // The area whose numbers begin with k.
 fn judge_area(from: Walk, row: &[u32], k: usize) -> Stepped
     requires { k ≤ 255 * long_most }
-    ensures { result ≡ area_judged row.now k from }
+    ensures { stepped result ≡ area_judged row.now k (seen from) }
 {
     let kind = entry(row, k, 0);
     let w = from.value(3, kind, 0, 4);
@@ -70,7 +65,7 @@ fn judge_area(from: Walk, row: &[u32], k: usize) -> Stepped
     let n = entry(row, k + 1, 0);
     let c = w.value(4, n, crate::areas::least(kind), 15);
     let points = k + 2;
-    if c.code != 0 {
+    if c.verdict.is_err() {
         return Stepped {
             walk: c,
             next: points,
@@ -86,14 +81,12 @@ fn judge_area(from: Walk, row: &[u32], k: usize) -> Stepped
 // Latitude and longitude of n points.
 fn judge_points(from: Walk, row: &[u32], k: usize, n: usize) -> Walk
     requires { (n ≤ 15) × (k ≤ 256 * long_most) }
-    ensures { result ≡ points_judged row.now n k from }
+    ensures { seen result ≡ points_judged row.now n k (seen from) }
 {
     let mut w = from;
-    let mut j: usize = 0;
-    while j < n {
+    for j in 0..n {
         let latitude = crate::parts::judged_latitude(w, entry(row, k + j * 2, 0));
         w = crate::parts::judged_longitude(latitude, entry(row, k + j * 2 + 1, 0));
-        j += 1;
     }
     w
 }
@@ -105,15 +98,12 @@ fn judge_points(from: Walk, row: &[u32], k: usize, n: usize) -> Walk
 pub fn put(buf: &mut [u8], row: &[u32], count: u8) -> usize
     ensures { (result ≡ (areas_put row.now count 0 front buf.old).0.at) × (buf.new ≡ (areas_put row.now count 0 front buf.old).1) }
 {
-    let most = count as usize;
     let mut at = FRONT as usize;
     let mut k: usize = 0;
-    let mut i: usize = 0;
-    while i < most {
+    for _ in 0..count {
         let area = put_area(buf, at, row, k);
         at = area.at;
         k = area.next;
-        i += 1;
     }
     at
 }
@@ -157,8 +147,7 @@ fn put_points(buf: &mut [u8], at: usize, row: &[u32], k: usize, n: usize)
     requires { (n ≤ 15) × (k ≤ 256 * long_most) × (at ≤ front + 256 * area_most) }
     ensures { buf.new ≡ points_put row.now n k at buf.old }
 {
-    let mut j: usize = 0;
-    while j < n {
+    for j in 0..n {
         bits::put(buf, at + j * POINT, LATITUDE, entry(row, k + j * 2, 0));
         bits::put(
             buf,
@@ -166,6 +155,5 @@ fn put_points(buf: &mut [u8], at: usize, row: &[u32], k: usize, n: usize)
             LONGITUDE,
             entry(row, k + j * 2 + 1, 0),
         );
-        j += 1;
     }
 }

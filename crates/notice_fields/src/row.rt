@@ -58,17 +58,14 @@ pub fn area_at(s: &[u8], at: u32) -> Shape
 pub fn measure(s: &[u8], count: u8) -> Extent
     ensures { result ≡ extent_at s.now count front }
 {
-    let most = count as usize;
     let mut numbers: usize = 0;
     let mut points: usize = 0;
     let mut at = FRONT;
-    let mut i: usize = 0;
-    while i < most {
+    for _ in 0..count {
         let area = area_at(s, at);
         numbers += area.numbers;
         points += area.points;
         at = area.next as u32;
-        i += 1;
     }
     Extent { numbers, points }
 }
@@ -91,16 +88,13 @@ fn store(s: &[u8], count: u8, row: &mut [u32])
     requires { length (areas_at s.now count front) ≤ length row.old }
     ensures { row.new ≡ sets row.old 0 (areas_at s.now count front) }
 {
-    let most = count as usize;
     let mut k: usize = 0;
     let mut at = FRONT;
-    let mut i: usize = 0;
-    while i < most {
+    for _ in 0..count {
         let area = area_at(s, at);
         fill_area(s, at as usize, row, k);
         k += area.numbers;
         at = area.next as u32;
-        i += 1;
     }
 }
 
@@ -131,10 +125,8 @@ fn fill_points(s: &[u8], at: usize, n: usize, row: &mut [u32], k: usize)
     requires { (at ≤ 2 ^ 33) × (n ≤ 15) × (k + n * 2 ≤ length row.old) }
     ensures { row.new ≡ sets row.old k (points_at s.now n at) }
 {
-    let mut j: usize = 0;
-    while j < n {
+    for j in 0..n {
         row[k + j * 2] = bits::get(s, at + j * POINT, LATITUDE) as u32;
         row[k + j * 2 + 1] = bits::get(s, at + j * POINT + LATITUDE, LONGITUDE) as u32;
-        j += 1;
     }
 }

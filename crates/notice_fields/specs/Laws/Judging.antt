@@ -7,8 +7,7 @@ use Rattle.walk.specs.Judging.{valued}
 use Rattle.walk.specs.Rows.{even_step}
 use Rattle.walk.specs.Laws.Judging.{valued_between}
 use Rattle.walk.specs.Laws.RowsJudged.{Judges, judges_number, judges_parted, judges_next, judges_decided, judges_counted, judges_most, judges_as, judges_evenly, judges_repeated, even_judged_turn}
-use Rattle.walk.specs.Walk.{Stepped}
-use Rattle.walk.specs.Walk.{Walk}
+use Rattle.walk.specs.Walk.{Walk, Stepped}
 use Rattle.notice_fields.specs.Areas.{Kind, sea, circle, several, kind_of, inside, area, areas}
 use Rattle.notice_fields.specs.Terms.{our_point, point}
 use Rattle.notice_fields.specs.Parts.{latitude_bits, longitude_bits, point_bits}

@@ -9,13 +9,12 @@ use Rattle.walk.specs.Laws.Along.{Along, stay}
 use Rattle.walk.specs.Laws.Groups.{Stretch, valued, number, parted as Groups·parted, guard, follows, decides, repeats, at_most, evenly, counts_evenly, walk_turn}
 use Rattle.walk.specs.Reading.{ranged}
 use Rattle.walk.specs.Walk.{Walk}
-use Rattle.notice_fields.specs.declared.areas.Opened.{Opened}
 use Rattle.notice_fields.specs.Areas.{Kind, sea, circle, several, kind_of, inside, area, areas}
 use Rattle.notice_fields.specs.Parts.{parted, angle, latitude_bits, longitude_bits, point_bits}
 use Rattle.notice_fields.specs.Terms.{our_point, point}
 use Rattle.notice_fields.specs.PartsSteps.{latitude_read, longitude_read}
 use Rattle.notice_fields.specs.Standing.{point_at, inside_at, inside_wide, inside_most, area_at, area_wide, area_most, areas_at}
-use Rattle.notice_fields.specs.Steps.{opened_as, closed_as, point_step, inside_step, area_step, areas_walked}
+use Rattle.notice_fields.specs.Steps.{Opened, opened_as, closed_as, point_step, inside_step, area_step, areas_walked}
 use Rattle.notice_fields.specs.Laws.PartsWalking.{latitude_parts, longitude_parts}
 
 module _ (s : List ℕ) where

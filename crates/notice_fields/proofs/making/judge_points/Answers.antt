@@ -2,6 +2,7 @@
 use Prim.Native.Nat.{◌+◌, ◌-◌, ◌*◌}
 use mathlib.Core.Path.{◌≡◌, sym, ap, ap₂, ◌∙◌}
 use native.Mathlib.Omega.{arith}
+use Rattle.walk.specs.Walk.{seen}
 use Rattle.walk.specs.Rows.{even_judged}
 use Rattle.notice_fields.specs.Making.{points_judged}
 use Rattle.notice_fields.specs.Laws.Judging.{point_turn}
@@ -12,38 +13,18 @@ loop-j-init c =
     let a = c.args in
     let m : a.n ≡ a.n - 0 = omega arith in
     let k : a.k ≡ a.k + 0 * 2 = omega arith in
-    (omega arith, ap₂ (λ m k. points_judged a.row.now m k a.from) m k)
-
-pub overflow_mul-j : goal.overflow_mul-j
-overflow_mul-j c = omega arith
-
-pub overflow_add-k : goal.overflow_add-k
-overflow_add-k c = omega arith
-
-pub overflow_mul-j-in-loop-j : goal.overflow_mul-j-in-loop-j
-overflow_mul-j-in-loop-j c = omega arith
-
-pub overflow_add-k-in-loop-j : goal.overflow_add-k-in-loop-j
-overflow_add-k-in-loop-j c = omega arith
-
-pub overflow_add-k-in-loop-j-2 : goal.overflow_add-k-in-loop-j-2
-overflow_add-k-in-loop-j-2 c = omega arith
-
-pub overflow_add-j : goal.overflow_add-j
-overflow_add-j c = omega arith
-
-pub loop-j-smaller : goal.loop-j-smaller
-loop-j-smaller c = omega arith
+    ap₂ (λ m k. points_judged a.row.now m k (seen a.from)) m k
 
 pub loop-j-preserved : goal.loop-j-preserved
 loop-j-preserved c =
     let a = c.args in
     let j = c.loop-j.j in
-    (omega arith, c.loop-j.invariant.1 ∙ point_turn a.row.now (a.n - (j + 1)) (a.k + j * 2) c.loop-j.w (omega arith) (omega arith) c.entry.ensures c.entry-in-loop-j.ensures c.judged_latitude-latitude.ensures c.judged_longitude-w.ensures)
+    c.loop-j.invariant
+    ∙ point_turn a.row.now (a.n - (j + 1)) (a.k + j * 2) (seen c.loop-j.w) (omega arith) (omega arith) c.entry.ensures c.entry-in-loop-j.ensures c.judged_latitude-latitude.ensures c.judged_longitude-w.ensures
 
 pub returns : goal.returns
 unfolding even_judged
 returns c =
     let a = c.args in
     let none : a.n - c.loop-j.j ≡ 0 = omega arith in
-    sym (c.loop-j.invariant.1 ∙ ap (λ m. points_judged a.row.now m (a.k + c.loop-j.j * 2) c.loop-j.w) none)
+    sym (c.loop-j.invariant ∙ ap (λ m. points_judged a.row.now m (a.k + c.loop-j.j * 2) (seen c.loop-j.w)) none)

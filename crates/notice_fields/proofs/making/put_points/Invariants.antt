@@ -1,13 +1,9 @@
 -- `put_points` meets its contract: what is left to put behind j points is what there was to put.
-use Prim.Native.Nat.{◌+◌, ◌-◌, ◌*◌, ◌≤◌}
+use Prim.Native.Nat.{◌+◌, ◌-◌, ◌*◌}
 use mathlib.Core.Path.{◌≡◌}
-use lib.ListN.{length}
 use Rattle.notice_fields.specs.Parts.{point_bits}
 use Rattle.notice_fields.specs.Making.{points_put}
 use Rattle.notice_fields.proofs.making.put_points.Given as goal
 
 abbrev pub invariant-loop-j : goal.invariant-loop-j
-invariant-loop-j l = (l.j ≤ l.n) × (length l.buf ≡ length l.initial.buf) × (points_put l.row l.n l.k l.at l.initial.buf ≡ points_put l.row (l.n - l.j) (l.k + l.j * 2) (l.at + l.j * point_bits) l.buf)
-
-abbrev pub decreases-loop-j : goal.decreases-loop-j
-decreases-loop-j l = l.n - l.j
+invariant-loop-j l = points_put l.row l.n l.k l.at l.initial.buf ≡ points_put l.row (l.n - l.j) (l.k + l.j * 2) (l.at + l.j * point_bits) l.buf

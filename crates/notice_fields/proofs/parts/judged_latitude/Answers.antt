@@ -3,10 +3,11 @@ use mathlib.Core.List.{[]}
 use mathlib.Core.Path.{ap, ◌∙◌}
 use Rattle.walk.specs.Pieces.{piecewise}
 use Rattle.walk.specs.Reading.{grouped}
+use Rattle.walk.specs.Walk.{seen}
 use Rattle.notice_fields.specs.Parts.{angle, latitude_bits}
 use Rattle.notice_fields.proofs.parts.judged_latitude.Goals as goal
 
 pub returns : goal.returns
 returns c =
     let a = c.args in
-    c.group.ensures ∙ ap (λ g. grouped latitude_bits a.v g a.w) (c.angle.ensures ∙ ap (piecewise (angle 7 90) []) c.of.ensures)
+    c.group.ensures ∙ ap (λ g. grouped latitude_bits a.v g (seen a.w)) (c.angle.ensures ∙ ap (piecewise (angle 7 90) []) c.of.ensures)

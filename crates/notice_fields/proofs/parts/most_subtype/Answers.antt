@@ -1,25 +1,27 @@
 -- `most_subtype` goes by the type.
-use mathlib.Core.Path.{refl}
-use borrow.Author.Tests.{eq-eqb, ne_eqb}
+use mathlib.Core.Path.{◌≡◌, refl}
+use mathlib.Core.Logic.{◌⊎◌, inl, inr}
+use native.Mathlib.Omega.{arith}
+use borrow.Author.Tests.{ne_eqb}
 use Rattle.notice_fields.specs.PartsSteps.{most_subtype}
 use Rattle.notice_fields.proofs.parts.most_subtype.Goals as goal
 
-pub returns-then-kind-eq1 : goal.returns-then-kind-eq1
+pub returns-in-1 : goal.returns-in-1
 unfolding most_subtype
-returns-then-kind-eq1 c = rw (eq-eqb _ 1 c.if-kind-eq1.true) refl
+returns-in-1 c = rw c.in-1.is refl
 
-pub returns-then-kind-eq4 : goal.returns-then-kind-eq4
+pub returns-in-4 : goal.returns-in-4
 unfolding most_subtype
-returns-then-kind-eq4 c = rw (ne_eqb _ 1 c.if-kind-eq1.false, eq-eqb _ 4 c.if-kind-eq4.true) refl
+returns-in-4 c = go c.in-4.is
+  where
+    go : (c.args.kind ≡ 4) ⊎ (c.args.kind ≡ 6) → 13 ≡ most_subtype c.args.kind
+    go (inl e) = rw e refl
+    go (inr e) = rw e refl
 
-pub returns-then-kind-eq6 : goal.returns-then-kind-eq6
+pub returns-in-5 : goal.returns-in-5
 unfolding most_subtype
-returns-then-kind-eq6 c = rw (ne_eqb _ 1 c.if-kind-eq1.false, ne_eqb _ 4 c.if-kind-eq4.false, eq-eqb _ 6 c.if-kind-eq6.true) refl
+returns-in-5 c = rw c.in-5.is refl
 
-pub returns-then-kind-eq5 : goal.returns-then-kind-eq5
+pub returns-in_default : goal.returns-in_default
 unfolding most_subtype
-returns-then-kind-eq5 c = rw (ne_eqb _ 1 c.if-kind-eq1.false, ne_eqb _ 4 c.if-kind-eq4.false, ne_eqb _ 6 c.if-kind-eq6.false, eq-eqb _ 5 c.if-kind-eq5.true) refl
-
-pub returns : goal.returns
-unfolding most_subtype
-returns c = rw (ne_eqb _ 1 c.if-kind-eq1.false, ne_eqb _ 4 c.if-kind-eq4.false, ne_eqb _ 6 c.if-kind-eq6.false, ne_eqb _ 5 c.if-kind-eq5.false) refl
+returns-in_default c = rw (ne_eqb c.args.kind 1 (λ e. omega (arith, e)), ne_eqb c.args.kind 4 (λ e. grind (arith, e)), ne_eqb c.args.kind 5 (λ e. omega (arith, e)), ne_eqb c.args.kind 6 (λ e. grind (arith, e))) refl

@@ -1,4 +1,4 @@
--- `measure` meets its contract: what the first i areas have, and where they end.
+-- `measure` meets its contract: what the areas so far have, and where they end.
 use Prim.Native.Nat.{◌+◌}
 use mathlib.Core.Path.{◌≡◌, refl, sym, ap, ap₂, ◌∙◌}
 use native.Mathlib.Omega.{arith}
@@ -11,9 +11,9 @@ use Rattle.walk.specs.Groups.{repeat_end, repeat_sum}
 use Rattle.walk.specs.Laws.Stored.{sum_more}
 use Rattle.notice_fields.proofs.row.measure.Goals as goal
 
-pub loop-i-init : goal.loop-i-init
+pub loop-init : goal.loop-init
 unfolding repeat_end repeat_sum
-loop-i-init c = (omega arith, refl, refl, refl, omega arith, omega arith, omega arith)
+loop-init c = (refl, refl, refl, omega arith, omega arith, omega arith)
 
 pub area_at-area-requires : goal.area_at-area-requires
 area_at-area-requires c = omega arith
@@ -22,43 +22,36 @@ pub overflow_add-numbers : goal.overflow_add-numbers
 overflow_add-numbers c =
     let a = c.args in
     let x = c.area_at-area.ensures in
-    let (n, m, p) = area_small a.s.now c.loop-i.at in
+    let (n, m, p) = area_small a.s.now c.loop.at in
     omega (arith, m, ap (λ (r : Shape). r.numbers) x)
 
 pub overflow_add-points : goal.overflow_add-points
 overflow_add-points c =
     let a = c.args in
     let x = c.area_at-area.ensures in
-    let (n, m, p) = area_small a.s.now c.loop-i.at in
+    let (n, m, p) = area_small a.s.now c.loop.at in
     omega (arith, p, ap (λ (r : Shape). r.points) x)
 
 pub overflow_cast-at : goal.overflow_cast-at
 overflow_cast-at c = let x = c.area_at-area.ensures in
-    let (n, m, p) = area_small c.args.s.now c.loop-i.at in
+    let (n, m, p) = area_small c.args.s.now c.loop.at in
     omega (arith, n, ap (λ (r : Shape). r.next) x)
 
-pub overflow_add-i : goal.overflow_add-i
-overflow_add-i c = omega arith
-
-pub loop-i-smaller : goal.loop-i-smaller
-loop-i-smaller c = omega arith
-
-pub loop-i-preserved : goal.loop-i-preserved
-loop-i-preserved c =
+pub loop-preserved : goal.loop-preserved
+loop-preserved c =
     let a = c.args in
     let x = c.area_at-area.ensures in
     let s = a.s.now in
-    let i = c.loop-i.i in
-    let v = c.loop-i.invariant in
-    let (n, m, p) = area_small s c.loop-i.at in
+    let i = c.loop.counter in
+    let v = c.loop.invariant in
+    let (n, m, p) = area_small s c.loop.at in
     let numbers = ap (λ (r : Shape). r.numbers) x in
     let points = ap (λ (r : Shape). r.points) x in
     let next = ap (λ (r : Shape). r.next) x in
     let one = add-one i in (
-      omega arith,
-      ap₂ ◌+◌ v.1 (numbers ∙ ap (λ p. (shape_at s p).numbers) v.3) ∙ sym (sum_more i (λ at. (shape_at s at).numbers) (area_wide s) front) ∙ ap (λ n. numbers_in s n front) (sym one),
-      ap₂ ◌+◌ v.2 (points ∙ ap (λ p. (shape_at s p).points) v.3) ∙ sym (sum_more i (λ at. (shape_at s at).points) (area_wide s) front) ∙ ap (λ n. points_in s n front) (sym one),
-      next ∙ ap (λ p. (shape_at s p).next) v.3 ∙ next_more s i front ∙ ap (λ n. areas_end s n front) (sym one),
+      ap₂ ◌+◌ v.0 (numbers ∙ ap (λ p. (shape_at s p).numbers) v.2) ∙ sym (sum_more i (λ at. (shape_at s at).numbers) (area_wide s) front) ∙ ap (λ n. numbers_in s n front) (sym one),
+      ap₂ ◌+◌ v.1 (points ∙ ap (λ p. (shape_at s p).points) v.2) ∙ sym (sum_more i (λ at. (shape_at s at).points) (area_wide s) front) ∙ ap (λ n. points_in s n front) (sym one),
+      next ∙ ap (λ p. (shape_at s p).next) v.2 ∙ next_more s i front ∙ ap (λ n. areas_end s n front) (sym one),
       omega (arith, n, next),
       omega (arith, m, numbers),
       omega (arith, p, points),
@@ -67,6 +60,6 @@ loop-i-preserved c =
 pub returns : goal.returns
 returns c =
     let a = c.args in
-    let e : c.loop-i.i ≡ a.count = omega arith in
-    let v = c.loop-i.invariant in
-    λ y. record { numbers = (v.1 ∙ ap (λ n. numbers_in a.s.now n front) e) y; points = (v.2 ∙ ap (λ n. points_in a.s.now n front) e) y }
+    let e : c.loop.counter ≡ a.count = omega arith in
+    let v = c.loop.invariant in
+    λ y. record { numbers = (v.0 ∙ ap (λ n. numbers_in a.s.now n front) e) y; points = (v.1 ∙ ap (λ n. points_in a.s.now n front) e) y }

@@ -1,11 +1,11 @@
--- `store` meets its contract: the numbers of the first i areas stand in the row.
+-- `store` meets its contract: the numbers of the areas so far stand in the row.
 use Prim.Native.Nat.{◌+◌}
 use mathlib.Core.Path.{◌≡◌, refl, sym, ap, ap₂, ◌∙◌}
 use native.Mathlib.Omega.{arith}
 use native.Mathlib.Numerals.{add-one}
 use native.Mathlib.Nat.{zero-add}
 use lib.ListN.{length}
-use lib.Seq.{sets, length-sets}
+use lib.Seq.{sets}
 use Rattle.notice_fields.specs.Standing.{front, area_wide, area_at, areas_at, areas_end}
 use Rattle.notice_fields.specs.Shapes.{shape_at, numbers_in}
 use Rattle.notice_fields.specs.declared.row.Shape.{Shape}
@@ -14,9 +14,9 @@ use Rattle.walk.specs.Groups.{repeat_at, repeat_end}
 use Rattle.walk.specs.Laws.Stored.{sum_more, item_within, stored_turn}
 use Rattle.notice_fields.proofs.row.store.Goals as goal
 
-pub loop-i-init : goal.loop-i-init
+pub loop-init : goal.loop-init
 unfolding repeat_end repeat_at
-loop-i-init c = (omega arith, refl, omega arith, refl, refl, refl)
+loop-init c = (refl, omega arith, refl, refl)
 
 pub area_at-area-requires : goal.area_at-area-requires
 area_at-area-requires c = omega arith
@@ -27,55 +27,44 @@ overflow_cast-at c = omega arith
 pub fill_area-requires : goal.fill_area-requires
 fill_area-requires c =
     let a = c.args in
-    let v = c.loop-i.invariant in
-    let w = item_within c.loop-i.i a.count (area_at a.s.now) (area_wide a.s.now) front (omega arith) in
-    let here = ap (λ p. length (area_at a.s.now p)) v.1 in
+    let v = c.loop.invariant in
+    let w = item_within c.loop.counter a.count (area_at a.s.now) (area_wide a.s.now) front (omega arith) in
+    let here = ap (λ p. length (area_at a.s.now p)) v.0 in
     (omega arith, omega (arith, w, here))
 
 pub overflow_add-k : goal.overflow_add-k
 overflow_add-k c =
     let a = c.args in
-    let w = item_within c.loop-i.i a.count (area_at a.s.now) (area_wide a.s.now) front (omega arith) in
-    let (_, m, _) = area_small a.s.now c.loop-i.at in
-    let k = c.loop-i.invariant.3 in
-    let all = numbers_in_lem a.s.now c.loop-i.i front in
+    let w = item_within c.loop.counter a.count (area_at a.s.now) (area_wide a.s.now) front (omega arith) in
+    let (_, m, _) = area_small a.s.now c.loop.at in
+    let k = c.loop.invariant.2 in
+    let all = numbers_in_lem a.s.now c.loop.counter front in
     omega (arith, m, ap (λ (r : Shape). r.numbers) c.area_at-area.ensures, w, k)
 
-pub overflow_cast-at-in-loop-i : goal.overflow_cast-at-in-loop-i
-overflow_cast-at-in-loop-i c = let (n, _, _) = area_small c.args.s.now c.loop-i.at in
+pub overflow_cast-at-in-loop : goal.overflow_cast-at-in-loop
+overflow_cast-at-in-loop c = let (n, _, _) = area_small c.args.s.now c.loop.at in
     omega (arith, n, ap (λ (r : Shape). r.next) c.area_at-area.ensures)
 
-pub overflow_add-i : goal.overflow_add-i
-overflow_add-i c = omega arith
-
-pub loop-i-smaller : goal.loop-i-smaller
-loop-i-smaller c = omega arith
-
-pub loop-i-preserved : goal.loop-i-preserved
-loop-i-preserved c =
+pub loop-preserved : goal.loop-preserved
+loop-preserved c =
     let a = c.args in
     let s = a.s.now in
-    let i = c.loop-i.i in
-    let v = c.loop-i.invariant in
+    let i = c.loop.counter in
+    let v = c.loop.invariant in
     let x = c.area_at-area.ensures in
     let next = ap (λ (r : Shape). r.next) x in
     let numbers = ap (λ (r : Shape). r.numbers) x in
-    let (n, _, _) = area_small s c.loop-i.at in
+    let (n, _, _) = area_small s c.loop.at in
     let one = add-one i in
-    let here : c.loop-i.k ≡ 0 + length (areas_at s i front) = v.3 ∙ sym (zero-add (length (areas_at s i front))) in (
-      omega arith,
-      next ∙ ap (λ p. (shape_at s p).next) v.1 ∙ next_more s i front ∙ ap (λ n. areas_end s n front) (sym one),
+    let here : c.loop.k ≡ 0 + length (areas_at s i front) = v.2 ∙ sym (zero-add (length (areas_at s i front))) in (
+      next ∙ ap (λ p. (shape_at s p).next) v.0 ∙ next_more s i front ∙ ap (λ n. areas_end s n front) (sym one),
       omega (arith, n, next),
-      ap₂ ◌+◌ (v.3 ∙ sym (numbers_in_lem s i front)) (numbers ∙ ap (λ p. (shape_at s p).numbers) v.1) ∙ sym (sum_more i (λ at. (shape_at s at).numbers) (area_wide s) front) ∙ ap (λ n. numbers_in s n front) (sym one) ∙ numbers_in_lem s (i + 1) front,
-      ap length c.fill_area.ensures ∙ length-sets c.loop-i.row c.loop-i.k (area_at s c.loop-i.at) ∙ v.4,
-      stored_turn a.row.now 0 (area_at s) (area_wide s) front i c.loop-i.k refl here v.5 (c.fill_area.ensures ∙ ap (λ p. sets c.loop-i.row c.loop-i.k (area_at s p)) v.1),
+      ap₂ ◌+◌ (v.2 ∙ sym (numbers_in_lem s i front)) (numbers ∙ ap (λ p. (shape_at s p).numbers) v.0) ∙ sym (sum_more i (λ at. (shape_at s at).numbers) (area_wide s) front) ∙ ap (λ n. numbers_in s n front) (sym one) ∙ numbers_in_lem s (i + 1) front,
+      stored_turn a.row.now 0 (area_at s) (area_wide s) front i c.loop.k refl here v.3 (c.fill_area.ensures ∙ ap (λ p. sets c.loop.row c.loop.k (area_at s p)) v.0),
     )
-
-pub shape_of-row : goal.shape_of-row
-shape_of-row c = c.loop-i.invariant.4
 
 pub returns : goal.returns
 returns c =
     let a = c.args in
-    let e : c.loop-i.i ≡ a.count = omega arith in
-    c.loop-i.invariant.5 ∙ ap (λ n. sets a.row.now 0 (areas_at a.s.now n front)) e
+    let e : c.loop.counter ≡ a.count = omega arith in
+    c.loop.invariant.3 ∙ ap (λ n. sets a.row.now 0 (areas_at a.s.now n front)) e
