@@ -90,15 +90,13 @@ fn good_from(s: &[u8], at: usize, n: usize) -> usize
 {
     let from = at / 8;
     let skip = at % 8;
-    let mut j: usize = 0;
-    while j < n {
+    for j in 0..n {
         let bits = word_of_five(s, from + j * BYTES, skip);
         if !good(bits) {
             return j;
         }
-        j += 1;
     }
-    j
+    n
 }
 
 // Time, sign and value of the entry that begins `skip` bits into byte `from`, as one number; what is not there is 0.
@@ -144,23 +142,11 @@ fn spelled(a: u8, b: u8, c: u8, d: u8, e: u8) -> u64
 pub(crate) fn good(v: u64) -> bool
     ensures { result ≡ true → Good v }
 {
-    let month = (v >> 27) % 16;
-    if month < 1 {
-        return false;
-    }
-    if month > 12 {
-        return false;
-    }
-    if (v >> 22) % 32 < 1 {
-        return false;
-    }
-    if (v >> 17) % 32 > 23 {
-        return false;
-    }
-    if (v >> 11) % 64 > 59 {
-        return false;
-    }
-    v % 2_048 >= 1
+    matches!((v >> 27) % 16, 1..=12)
+        && (v >> 22) % 32 >= 1
+        && (v >> 17) % 32 <= 23
+        && (v >> 11) % 64 <= 59
+        && v % 2_048 >= 1
 }
 
 // n less m, and 0 where m is more.

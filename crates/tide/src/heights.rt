@@ -41,16 +41,13 @@ fn show(s: &[u8], count: u16, row: &mut [i32])
     requires { length (heights_at s.now count front) ≤ length row.old }
     ensures { row.new ≡ sets row.old 0 (heights_at s.now count front) }
 {
-    let most = count as usize;
     let mut k: usize = 0;
     let mut at = Tide::BITS as u32;
-    let mut i: usize = 0;
-    while i < most {
+    for _ in 0..count {
         let shape = crate::row::record_at(s, at);
         show_entries(s, shape.first, shape.entries, row, k);
         k += shape.entries;
         at = shape.next as u32;
-        i += 1;
     }
 }
 
@@ -61,11 +58,9 @@ fn show_entries(s: &[u8], at: usize, n: usize, row: &mut [i32], k: usize)
 {
     let from = at / 8;
     let skip = at % 8;
-    let mut j: usize = 0;
-    while j < n {
+    for j in 0..n {
         let word = crate::entries::word(s, from + j * BYTES, skip);
         row[k + j] = height(word / 1_024 % 2, word % 1_024);
-        j += 1;
     }
 }
 

@@ -18,10 +18,8 @@ pub const HIGHEST: u64 = 1_023;
 pub(crate) fn walk(s: &[u8], from: Walk, count: u16) -> Walk
     ensures { result ≡ records_walked s.now count from }
 {
-    let most = count as u64;
     let mut w = from;
-    let mut i: u64 = 0;
-    'records: while i < most {
+    'records: for _ in 0..count {
         w = open_record(s, w);
         if w.code != 0 {
             break 'records;
@@ -36,7 +34,6 @@ pub(crate) fn walk(s: &[u8], from: Walk, count: u16) -> Walk
             }
             j += run.count;
         }
-        i += 1;
     }
     w
 }

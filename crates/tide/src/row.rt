@@ -76,17 +76,14 @@ pub(crate) fn record_at(s: &[u8], at: u32) -> Shape
 pub(crate) fn measure(s: &[u8], count: u16) -> Extent
     ensures { result ≡ extent_at s.now count front }
 {
-    let most = count as usize;
     let mut numbers: usize = 0;
     let mut entries: usize = 0;
     let mut at = Tide::BITS as u32;
-    let mut i: usize = 0;
-    while i < most {
+    for _ in 0..count {
         let shape = record_at(s, at);
         numbers += shape.numbers;
         entries += shape.entries;
         at = shape.next as u32;
-        i += 1;
     }
     Extent { numbers, entries }
 }
@@ -109,16 +106,13 @@ fn store(s: &[u8], count: u16, row: &mut [u32])
     requires { length (records_at s.now count front) ≤ length row.old }
     ensures { row.new ≡ sets row.old 0 (records_at s.now count front) }
 {
-    let most = count as usize;
     let mut k: usize = 0;
     let mut at = Tide::BITS as u32;
-    let mut i: usize = 0;
-    while i < most {
+    for _ in 0..count {
         let shape = record_at(s, at);
         fill_record(s, at as usize, row, k);
         k += shape.numbers;
         at = shape.next as u32;
-        i += 1;
     }
 }
 
@@ -159,13 +153,11 @@ fn fill_entries(s: &[u8], at: usize, n: usize, row: &mut [u32], k: usize)
 {
     let from = at / 8;
     let skip = at % 8;
-    let mut j: usize = 0;
-    while j < n {
+    for j in 0..n {
         let word = crate::entries::word(s, from + j * BYTES, skip);
         let to = k + j * 3;
         row[to] = (word / 2_048) as u32;
         row[to + 1] = (word / 1_024 % 2) as u32;
         row[to + 2] = (word % 1_024) as u32;
-        j += 1;
     }
 }

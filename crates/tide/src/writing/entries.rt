@@ -6,7 +6,6 @@ ghost use Rattle.tide.specs.RowEntries.{GoodEntry, GoodEntries, Passes};
 use crate::entries::good;
 use crate::row::{ENTRY, TIME};
 use crate::writing::making::SOME_TIME;
-use walk::choosing::both;
 use walk::making::entry;
 use walk::walk::Walk;
 
@@ -21,22 +20,7 @@ pub(crate) fn all_good(w: Walk, row: &[u32], k: usize, n: usize) -> bool
     requires { (n ≤ 511) × (k ≤ 2 ^ 41) }
     ensures { result ≡ true → Passes row.now n k w }
 {
-    if w.code != 0 {
-        return false;
-    }
-    if w.seek {
-        return false;
-    }
-    if w.left != 0 {
-        return false;
-    }
-    if w.at >= FAR {
-        return false;
-    }
-    if n == 0 {
-        return false;
-    }
-    good_entries(row, k, n)
+    w.code == 0 && !w.seek && w.left == 0 && w.at < FAR && n != 0 && good_entries(row, k, n)
 }
 
 // The walk behind n good entries.
@@ -65,13 +49,11 @@ fn good_entries(row: &[u32], k: usize, n: usize) -> bool
     if row.len() < k + n * 3 {
         return false;
     }
-    let mut j: usize = 0;
-    while j < n {
+    for j in 0..n {
         let i = k + j * 3;
         if !good_entry(row[i], row[i + 1], row[i + 2]) {
             return false;
         }
-        j += 1;
     }
     true
 }
@@ -80,13 +62,10 @@ fn good_entries(row: &[u32], k: usize, n: usize) -> bool
 fn good_entry(time: u32, sign: u32, value: u32) -> bool
     ensures { result ≡ true → GoodEntry time sign value }
 {
-    let time = time as u64;
-    let sign = sign as u64;
-    let value = value as u64;
-    if !fit(time, sign, value) {
-        return false;
-    }
-    good(packed(time, sign, value))
+    let time = u64::from(time);
+    let sign = u64::from(sign);
+    let value = u64::from(value);
+    fit(time, sign, value) && good(packed(time, sign, value))
 }
 
 // ---- putting
@@ -96,14 +75,12 @@ pub(crate) fn put_each(buf: &mut [u8], at: usize, row: &[u32], k: usize, n: usiz
     requires { (n ≤ 511) × (k ≤ 2 ^ 41) × (at ≤ 2 ^ 41) }
     ensures { buf.new ≡ entries_put row.now n k at buf.old }
 {
-    let mut j: usize = 0;
-    while j < n {
+    for j in 0..n {
         let i = k + j * 3;
         let time = entry(row, i, SOME_TIME);
         let sign = entry(row, i + 1, 1);
         let value = entry(row, i + 2, 1);
         put_entry(buf, at + j * ENTRY, time, sign, value);
-        j += 1;
     }
 }
 
@@ -112,7 +89,7 @@ pub(crate) fn put_entry(buf: &mut [u8], at: usize, time: u64, sign: u64, value: 
     requires { at ≤ 2 ^ 42 }
     ensures { buf.new ≡ three_put time sign value at buf.old }
 {
-    if both(fit(time, sign, value), bits::holds(buf.len(), at, ENTRY)) {
+    if fit(time, sign, value) && bits::holds(buf.len(), at, ENTRY) {
         let all = packed(time, sign, value);
         bits::put(buf, at, ENTRY, all);
         return;
@@ -126,13 +103,7 @@ pub(crate) fn put_entry(buf: &mut [u8], at: usize, time: u64, sign: u64, value: 
 fn fit(time: u64, sign: u64, value: u64) -> bool
     ensures { result ≡ true → (time < 2 ^ 21) × (sign < 2 ^ 1) × (value < 2 ^ 10) }
 {
-    if time >= 0x20_0000 {
-        return false;
-    }
-    if sign >= 2 {
-        return false;
-    }
-    value < 1_024
+    time < 0x20_0000 && sign < 2 && value < 1_024
 }
 
 // An entry's 32 bits, as one number.

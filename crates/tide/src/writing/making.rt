@@ -40,18 +40,15 @@ pub(crate) fn judged(r: Tide, row: &[u32]) -> Stepped
 fn judge_records(from: Walk, row: &[u32], count: u16) -> Stepped
     ensures { result ≡ records_judged row.now count 0 from }
 {
-    let most = count as usize;
     let mut w = from;
     let mut k: usize = 0;
-    let mut i: usize = 0;
-    while i < most {
+    for _ in 0..count {
         let record = judge_record(w, row, k);
         w = record.walk;
         k = record.next;
         if w.code != 0 {
             break;
         }
-        i += 1;
     }
     Stepped { walk: w, next: k }
 }
@@ -105,10 +102,8 @@ fn judge_entries(from: Walk, row: &[u32], k: usize, n: usize) -> Walk
         return pass(from, row, k, n);
     }
     let mut w = from;
-    let mut j: usize = 0;
-    while j < n {
+    for j in 0..n {
         w = judge_entry(w, row, k + j * 3);
-        j += 1;
     }
     w
 }
@@ -152,15 +147,12 @@ fn put_head(buf: &mut [u8], count: u16)
 fn put_records(buf: &mut [u8], row: &[u32], count: u16) -> Laid
     ensures { (result, buf.new) ≡ records_put row.now count 0 front buf.old }
 {
-    let most = count as usize;
     let mut at = Tide::BITS;
     let mut k: usize = 0;
-    let mut i: usize = 0;
-    while i < most {
+    for _ in 0..count {
         let record = put_record(buf, at, row, k);
         at = record.at;
         k = record.next;
-        i += 1;
     }
     Laid { at, next: k }
 }
@@ -217,13 +209,11 @@ fn put_entries(buf: &mut [u8], at: usize, row: &[u32], k: usize, n: usize)
         put_each(buf, at, row, k, n);
         return;
     }
-    let mut j: usize = 0;
-    while j < n {
+    for j in 0..n {
         let i = k + j * 3;
-        let time = row[i] as u64;
-        let sign = row[i + 1] as u64;
-        let value = row[i + 2] as u64;
+        let time = u64::from(row[i]);
+        let sign = u64::from(row[i + 1]);
+        let value = u64::from(row[i + 2]);
         put_entry(buf, at + j * ENTRY, time, sign, value);
-        j += 1;
     }
 }

@@ -1,7 +1,6 @@
 -- `show` meets its contract: the heights of the first i records stand in the row.
-use Prim.Native.Nat.{◌+◌, ◌-◌, ◌*◌, ◌≤◌}
+use Prim.Native.Nat.{◌+◌, ◌*◌, ◌≤◌}
 use mathlib.Core.Path.{◌≡◌}
-use lib.ListN.{length}
 use lib.Seq.{sets}
 use Rattle.tide.specs.Heights.{heights_at}
 use Rattle.tide.specs.Row.{record_most}
@@ -9,8 +8,5 @@ use Rattle.tide.specs.Shapes.{entries_in}
 use Rattle.tide.specs.Standing.{front, records_end}
 use Rattle.tide.proofs.heights.show.Given as goal
 
-abbrev pub invariant-loop-i : goal.invariant-loop-i
-invariant-loop-i l = (l.i ≤ l.most) × (l.at ≡ records_end l.s l.i front) × (l.at ≤ front + l.i * record_most) × (l.k ≡ entries_in l.s l.i front) × (l.k ≤ l.i * 511) × (length l.row ≡ length l.initial.row) × (l.row ≡ sets l.initial.row 0 (heights_at l.s l.i front))
-
-abbrev pub decreases-loop-i : goal.decreases-loop-i
-decreases-loop-i l = l.most - l.i
+abbrev pub invariant-loop : goal.invariant-loop
+invariant-loop l = (l.at ≡ records_end l.s l.counter front) × (l.at ≤ front + l.counter * record_most) × (l.k ≡ entries_in l.s l.counter front) × (l.k ≤ l.counter * 511) × (l.row ≡ sets l.initial.row 0 (heights_at l.s l.counter front))

@@ -11,20 +11,14 @@ use Rattle.tide.proofs.records.walk.Invariants.{next}
 use Rattle.tide.proofs.records.walk.Goals as goal
 
 pub records-init : goal.records-init
-records-init c = let a = c.args in let e : a.count ≡ a.count - 0 = omega arith in (omega arith, ap (λ n. records_walked a.s.now n a.from) e)
+records-init c = let a = c.args in let e : a.count ≡ a.count - 0 = omega arith in ap (λ n. records_walked a.s.now n a.from) e
 
 pub entries-init : goal.entries-init
 entries-init c =
     let a = c.args in
     let n = c.open_record-w.result.v in
     let e : n ≡ n - 0 = omega arith in
-    (omega arith, ap (λ m. repeat_walked m (entry_step a.s.now) (next a.s.now a.count c.records.i) c.open_record-w.result) e, c.if-w-ne0.false)
-
-pub overflow_sub-n : goal.overflow_sub-n
-overflow_sub-n c = omega arith
-
-pub pass-run-requires : goal.pass-run-requires
-pass-run-requires c = (omega arith, c.entries.invariant.2)
+    (omega arith, ap (λ m. repeat_walked m (entry_step a.s.now) (next a.s.now a.count c.records.counter) c.open_record-w.result) e, c.if-w-ne0.false)
 
 pub overflow_add-j : goal.overflow_add-j
 overflow_add-j c =
@@ -37,7 +31,7 @@ pub entries-preserved : goal.entries-preserved
 entries-preserved c =
     let a = c.args in
     let s = a.s.now in
-    let on = next s a.count c.records.i in
+    let on = next s a.count c.records.counter in
     let n = c.open_record-w.result.v - c.entries.j in
     let x = c.pass-run.result in
     let w = x.walk in
@@ -45,52 +39,44 @@ entries-preserved c =
     let left : n - x.count ≡ c.open_record-w.result.v - (c.entries.j + x.count) = omega (arith, few) in
     (omega (arith, few), c.entries.invariant.1 ∙ so on ∙ ap (λ b. cond b (repeat_walked (n - x.count) (entry_step s) on w) w) (eq-eqb w.code 0 c.if-w-ne0-2.false) ∙ ap (λ n. repeat_walked n (entry_step s) on w) left, c.if-w-ne0-2.false)
 
-pub overflow_add-i : goal.overflow_add-i
-overflow_add-i c = omega arith
-
-pub records-smaller : goal.records-smaller
-records-smaller c = omega arith
-
 pub records-preserved : goal.records-preserved
 unfolding repeat_walked
 records-preserved c =
     let a = c.args in
     let s = a.s.now in
-    let n = a.count - (c.records.i + 1) in
+    let n = a.count - (c.records.counter + 1) in
     let w = c.open_record-w.result in
-    let none : w.v - c.entries.j ≡ 0 = omega arith in (
-      omega arith,
-      c.records.invariant.1 ∙ record_turn s n {m = a.count - c.records.i} c.records.w (omega arith) c.open_record-w.ensures
-          ∙ ap (λ b. cond b (repeat_walked w.v (entry_step s) (records_walked s n) w) w) (eq-eqb w.code 0 c.if-w-ne0.false)
-          ∙ c.entries.invariant.1 ∙ ap (λ m. repeat_walked m (entry_step s) (records_walked s n) c.entries.w) none,
-    )
+    let none : w.v - c.entries.j ≡ 0 = omega arith in
+    c.records.invariant ∙ record_turn s n {m = a.count - c.records.counter} c.records.w (omega arith) c.open_record-w.ensures
+    ∙ ap (λ b. cond b (repeat_walked w.v (entry_step s) (records_walked s n) w) w) (eq-eqb w.code 0 c.if-w-ne0.false)
+    ∙ c.entries.invariant.1 ∙ ap (λ m. repeat_walked m (entry_step s) (records_walked s n) c.entries.w) none
 
 pub returns-after-records : goal.returns-after-records
 unfolding repeat_walked
 returns-after-records c =
     let a = c.args in
-    let none : a.count - c.records.i ≡ 0 = omega arith in
-    sym (c.records.invariant.1 ∙ ap (λ m. records_walked a.s.now m c.records.w) none)
+    let none : a.count - c.records.counter ≡ 0 = omega arith in
+    sym (c.records.invariant ∙ ap (λ m. records_walked a.s.now m c.records.w) none)
 
 pub returns-then-w-ne0 : goal.returns-then-w-ne0
 returns-then-w-ne0 c =
     let a = c.args in
     let s = a.s.now in
-    let n = a.count - (c.records.i + 1) in
+    let n = a.count - (c.records.counter + 1) in
     let w = c.open_record-w.result in
-    sym (c.records.invariant.1 ∙ record_turn s n c.records.w (omega arith) c.open_record-w.ensures
+    sym (c.records.invariant ∙ record_turn s n c.records.w (omega arith) c.open_record-w.ensures
     ∙ ap (λ b. cond b (repeat_walked w.v (entry_step s) (records_walked s n) w) w) (ne_eqb w.code 0 c.if-w-ne0.true))
 
 pub returns-then-w-ne0-2 : goal.returns-then-w-ne0-2
 returns-then-w-ne0-2 c =
     let a = c.args in
     let s = a.s.now in
-    let m = a.count - (c.records.i + 1) in
+    let m = a.count - (c.records.counter + 1) in
     let on = records_walked s m in
     let u = c.open_record-w.result in
     let n = u.v - c.entries.j in
     let x = c.pass-run.result in
     let w = x.walk in
-    sym (c.records.invariant.1 ∙ record_turn s m c.records.w (omega arith) c.open_record-w.ensures
+    sym (c.records.invariant ∙ record_turn s m c.records.w (omega arith) c.open_record-w.ensures
     ∙ ap (λ b. cond b (repeat_walked u.v (entry_step s) on u) u) (eq-eqb u.code 0 c.if-w-ne0.false)
     ∙ c.entries.invariant.1 ∙ c.pass-run.ensures.2 on ∙ ap (λ b. cond b (repeat_walked (n - x.count) (entry_step s) on w) w) (ne_eqb w.code 0 c.if-w-ne0-2.true))

@@ -12,13 +12,10 @@ abbrev pub next : List ℕ → ℕ → ℕ → Walk → Walk
 next s count i w = records_walked s (count - (i + 1)) w
 
 abbrev pub invariant-entries : goal.invariant-entries
-invariant-entries l = (l.j ≤ l.n) × (repeat_walked l.n (entry_step l.s) (next l.s l.count l.i) l.initial.w ≡ repeat_walked (l.n - l.j) (entry_step l.s) (next l.s l.count l.i) l.w) × (l.w.code ≡ 0)
+invariant-entries l = (l.j ≤ l.n) × (repeat_walked l.n (entry_step l.s) (next l.s l.count l.counter) l.initial.w ≡ repeat_walked (l.n - l.j) (entry_step l.s) (next l.s l.count l.counter) l.w) × (l.w.code ≡ 0)
 
 abbrev pub decreases-entries : goal.decreases-entries
 decreases-entries l = l.n - l.j
 
 abbrev pub invariant-records : goal.invariant-records
-invariant-records l = (l.i ≤ l.count) × (records_walked l.s l.count l.initial.w ≡ records_walked l.s (l.count - l.i) l.w)
-
-abbrev pub decreases-records : goal.decreases-records
-decreases-records l = l.count - l.i
+invariant-records l = (records_walked l.s l.count l.initial.w ≡ records_walked l.s (l.count - l.counter) l.w)

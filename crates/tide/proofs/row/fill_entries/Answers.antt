@@ -2,7 +2,6 @@
 use Prim.Native.Nat.{◌+◌, ◌*◌, ◌/◌, ◌%◌, ◌^◌, ◌<◌}
 use mathlib.Core.Path.{◌≡◌, refl, ap, ◌∙◌}
 use native.Mathlib.Omega.{arith}
-use lib.ListN.{length-set}
 use lib.Seq.{sets}
 use Rattle.walk.specs.Groups.{repeat_at}
 use Rattle.bits.specs.Answers.{got}
@@ -16,7 +15,7 @@ use Rattle.tide.proofs.row.fill_entries.Goals as goal
 
 pub loop-j-init : goal.loop-j-init
 unfolding repeat_at
-loop-j-init c = (omega arith, refl, refl)
+loop-j-init c = refl
 
 -- the fields of an entry
 fields : (c : After-word-word) → let a = c.args in let v = c.word-word.result in let here = a.at + c.loop-j.j * entry_bits in
@@ -26,71 +25,17 @@ fields c =
     let here : (a.at / 8 + c.loop-j.j * 4) * 8 + a.at % 8 ≡ a.at + c.loop-j.j * entry_bits = omega arith in
     word_fields a.s.now (a.at + c.loop-j.j * entry_bits) (c.word-word.ensures ∙ ap (word_at a.s.now) here)
 
-pub overflow_mul-j : goal.overflow_mul-j
-overflow_mul-j c = omega arith
-
-pub overflow_add-from : goal.overflow_add-from
-overflow_add-from c = omega arith
-
-pub word-word-requires : goal.word-word-requires
-word-word-requires c = (omega arith, omega arith)
-
-pub overflow_mul-to : goal.overflow_mul-to
-overflow_mul-to c = omega arith
-
-pub overflow_add-to : goal.overflow_add-to
-overflow_add-to c = omega arith
-
 pub overflow_cast-row : goal.overflow_cast-row
 overflow_cast-row c = omega (arith, (fields c).0)
-
-pub offset_bounds-row-to : goal.offset_bounds-row-to
-offset_bounds-row-to c = omega arith
-
-pub bounds-row-to : goal.bounds-row-to
-bounds-row-to c = omega arith
-
-pub overflow_cast-row-in-loop-j : goal.overflow_cast-row-in-loop-j
-overflow_cast-row-in-loop-j c = omega arith
-
-pub overflow_add-row : goal.overflow_add-row
-overflow_add-row c = omega arith
-
-pub offset_bounds-row-to-in-loop-j : goal.offset_bounds-row-to-in-loop-j
-offset_bounds-row-to-in-loop-j c = omega arith
-
-pub bounds-row-to-in-loop-j : goal.bounds-row-to-in-loop-j
-bounds-row-to-in-loop-j c = simp length-set (omega arith)
-
-pub overflow_cast-row-in-loop-j-2 : goal.overflow_cast-row-in-loop-j-2
-overflow_cast-row-in-loop-j-2 c = omega arith
-
-pub overflow_add-row-in-loop-j : goal.overflow_add-row-in-loop-j
-overflow_add-row-in-loop-j c = omega arith
-
-pub offset_bounds-row-to-in-loop-j-2 : goal.offset_bounds-row-to-in-loop-j-2
-offset_bounds-row-to-in-loop-j-2 c = omega arith
-
-pub bounds-row-to-in-loop-j-2 : goal.bounds-row-to-in-loop-j-2
-bounds-row-to-in-loop-j-2 c = simp length-set (omega arith)
-
-pub overflow_add-j : goal.overflow_add-j
-overflow_add-j c = omega arith
-
-pub loop-j-smaller : goal.loop-j-smaller
-loop-j-smaller c = omega arith
 
 pub loop-j-preserved : goal.loop-j-preserved
 loop-j-preserved c =
     let a = c.args in
     let (_, time, sign, value) = fields c in
-    (omega arith, simp length-set c.loop-j.invariant.1, entries_turn a.s.now a.row.now a.k a.at c.loop-j.j refl time sign value c.loop-j.invariant.2)
-
-pub shape_of-row : goal.shape_of-row
-shape_of-row c = c.loop-j.invariant.1
+    entries_turn a.s.now a.row.now a.k a.at c.loop-j.j refl time sign value c.loop-j.invariant
 
 pub returns : goal.returns
 returns c =
     let a = c.args in
     let e : c.loop-j.j ≡ a.n = omega arith in
-    c.loop-j.invariant.2 ∙ ap (λ n. sets a.row.now a.k (entries_at a.s.now n a.at)) e
+    c.loop-j.invariant ∙ ap (λ n. sets a.row.now a.k (entries_at a.s.now n a.at)) e

@@ -1,13 +1,8 @@
 -- `fill_entries` meets its contract: the first j entries stand in the row.
-use Prim.Native.Nat.{◌-◌, ◌≤◌}
 use mathlib.Core.Path.{◌≡◌}
-use lib.ListN.{length}
 use lib.Seq.{sets}
 use Rattle.tide.specs.Standing.{entries_at}
 use Rattle.tide.proofs.row.fill_entries.Given as goal
 
 abbrev pub invariant-loop-j : goal.invariant-loop-j
-invariant-loop-j l = (l.j ≤ l.n) × (length l.row ≡ length l.initial.row) × (l.row ≡ sets l.initial.row l.k (entries_at l.s l.j l.at))
-
-abbrev pub decreases-loop-j : goal.decreases-loop-j
-decreases-loop-j l = l.n - l.j
+invariant-loop-j l = l.row ≡ sets l.initial.row l.k (entries_at l.s l.j l.at)

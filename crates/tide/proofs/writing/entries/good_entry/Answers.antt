@@ -1,16 +1,13 @@
 -- `good_entry` tells what `fit` found, and what `good` found of the number that the three spell.
-use mathlib.Core.Bool.{false≢true}
-use mathlib.Core.Path.{subst}
+use Rattle.std.proofs.Common.{◌+◌, ◌*◌, ◌^◌, ◌∙◌, subst, arith}
 use Rattle.tide.specs.Entries.{Good}
 use Rattle.tide.proofs.writing.entries.good_entry.Goals as goal
 
-pub returns-then-not-fit : goal.returns-then-not-fit
-returns-then-not-fit c e = absurd (false≢true e)
-
 pub packed-requires : goal.packed-requires
-packed-requires c = c.fit.ensures c.if-not-fit.false
+packed-requires c = c.fit.ensures c.if-fit.true
 
-pub returns : goal.returns
-returns c e =
-    let f = c.fit.ensures c.if-not-fit.false in
-    (f.0, f.1, f.2, subst Good c.packed.ensures (c.good.ensures e))
+pub returns-then-fit : goal.returns-then-fit
+returns-then-fit c e =
+    let f = c.fit.ensures c.if-fit.true in
+    let same = c.packed.ensures ∙ (λ i. (c.from-time.ensures i * 2 ^ 1 + c.from-sign.ensures i) * 2 ^ 10 + c.from-value.ensures i) in
+    (omega arith, omega arith, omega arith, subst Good same (c.good.ensures e))

@@ -10,40 +10,22 @@ use Rattle.tide.proofs.writing.making.judge_entries.Goals as goal
 pub pass-requires : goal.pass-requires
 pass-requires c = (c.requires.0, c.requires.1, c.all_good.ensures c.if-all_good.true)
 
-pub returns-then-all_good : goal.returns-then-all_good
-returns-then-all_good c = c.pass.ensures
-
 pub loop-j-init : goal.loop-j-init
 loop-j-init c =
     let a = c.args in
     let m : a.n ≡ a.n - 0 = omega arith in
     let k : a.k ≡ a.k + 0 * 3 = omega arith in
-    (omega arith, ap₂ (λ m k. entries_judged a.row.now m k a.from) m k)
-
-pub overflow_mul-j : goal.overflow_mul-j
-overflow_mul-j c = omega arith
-
-pub overflow_add-k : goal.overflow_add-k
-overflow_add-k c = omega arith
-
-pub judge_entry-w-requires : goal.judge_entry-w-requires
-judge_entry-w-requires c = omega arith
-
-pub overflow_add-j : goal.overflow_add-j
-overflow_add-j c = omega arith
-
-pub loop-j-smaller : goal.loop-j-smaller
-loop-j-smaller c = omega arith
+    ap₂ (λ m k. entries_judged a.row.now m k a.from) m k
 
 pub loop-j-preserved : goal.loop-j-preserved
 loop-j-preserved c =
     let a = c.args in
     let j = c.loop-j.j in
-    (omega arith, c.loop-j.invariant.1 ∙ even_judged_turn 3 (a.n - (j + 1)) (entry_judged a.row.now) (a.k + j * 3) c.loop-j.w (omega arith) (omega arith) c.judge_entry-w.ensures)
+    c.loop-j.invariant ∙ even_judged_turn 3 (a.n - (j + 1)) (entry_judged a.row.now) (a.k + j * 3) c.loop-j.w (omega arith) (omega arith) c.judge_entry-w.ensures
 
 pub returns : goal.returns
 unfolding even_judged
 returns c =
     let a = c.args in
     let none : a.n - c.loop-j.j ≡ 0 = omega arith in
-    sym (c.loop-j.invariant.1 ∙ ap (λ m. entries_judged a.row.now m (a.k + c.loop-j.j * 3) c.loop-j.w) none)
+    sym (c.loop-j.invariant ∙ ap (λ m. entries_judged a.row.now m (a.k + c.loop-j.j * 3) c.loop-j.w) none)

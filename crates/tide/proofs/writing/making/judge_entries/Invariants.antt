@@ -1,11 +1,8 @@
 -- `judge_entries` meets its contract: good entries are passed at once; else what is left to judge behind j entries is what there was to judge.
-use Prim.Native.Nat.{◌+◌, ◌-◌, ◌*◌, ◌≤◌}
+use Prim.Native.Nat.{◌+◌, ◌-◌, ◌*◌}
 use mathlib.Core.Path.{◌≡◌}
 use Rattle.tide.specs.Making.{entries_judged}
 use Rattle.tide.proofs.writing.making.judge_entries.Given as goal
 
 abbrev pub invariant-loop-j : goal.invariant-loop-j
-invariant-loop-j l = (l.j ≤ l.n) × (entries_judged l.row l.n l.k l.initial.w ≡ entries_judged l.row (l.n - l.j) (l.k + l.j * 3) l.w)
-
-abbrev pub decreases-loop-j : goal.decreases-loop-j
-decreases-loop-j l = l.n - l.j
+invariant-loop-j l = entries_judged l.row l.n l.k l.initial.w ≡ entries_judged l.row (l.n - l.j) (l.k + l.j * 3) l.w
