@@ -36,24 +36,27 @@ fn is_english(s: &[u8], at: usize, n: usize) -> bool
     good
 }
 
-// Whether a run is Chinese. A byte that is not plain begins a pair, which the next byte ends.
+// Whether a run is Chinese. Each turn takes a plain character or a pair.
 fn is_chinese(s: &[u8], at: usize, n: usize) -> bool
     requires { at + n * 8 ≤ length s.now * 8 }
     ensures { result ≡ chinese (bytes_at s.now at n) }
 {
     let high = at / 8;
     let low = bits::whole_bytes::bytes_to(at);
-    let mut begun = None;
-    for i in 0..n {
+    let mut places = 0..n;
+    while let Some(i) = places.next() {
         let x = bits::whole_bytes::across(s[high + i], s[low + i], at);
-        begun = match begun {
-            None if is_plain(x) => None,
-            None => Some(x),
-            Some(first) if is_level_one(first, x) => None,
-            Some(_) => return false,
+        if is_plain(x) {
+            continue;
+        }
+        let Some(j) = places.next() else {
+            return false; // half a pair
         };
+        if !is_level_one(x, bits::whole_bytes::across(s[high + j], s[low + j], at)) {
+            return false;
+        }
     }
-    begun.is_none() // else half a pair
+    true
 }
 
 // A printing character of ASCII, or a space.

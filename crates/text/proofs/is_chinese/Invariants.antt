@@ -1,13 +1,16 @@
--- `text::is_chinese` meets its contract: the text is Chinese where the bytes left are, behind the first one of a pair that is begun.
-use Rattle.std.proofs.Common.{◌≡◌, false, IfSome}
-use Rattle.std.specs.List.{cons_option}
+-- `text::is_chinese` meets its contract: the text is Chinese where the bytes left are, after each plain character and each pair.
+use Rattle.std.proofs.Common.{◌≡◌, ◌≤◌, ◌-◌}
 use Rattle.bits.specs.Bits.{bytes_at}
-use Rattle.text.specs.Text.{plain, chinese}
+use Rattle.text.specs.Text.{chinese}
 use Rattle.text.proofs.Left.{left}
 use Rattle.text.proofs.is_chinese.Given as goal
 
 abbrev pub invariant-loop-i : goal.invariant-loop-i
 invariant-loop-i l = record {
-  same : chinese (bytes_at l.s l.at l.n) ≡ chinese (cons_option l.begun (left l.s l.at l.n l.i));
-  begins : IfSome l.begun (λ x. plain x ≡ false);
+  end : l.places.end ≡ l.n;
+  within : l.places.start ≤ l.n;
+  same : chinese (bytes_at l.s l.at l.n) ≡ chinese (left l.s l.at l.n l.places.start);
 }
+
+abbrev pub decreases-loop-i : goal.decreases-loop-i
+decreases-loop-i l = l.n - l.places.start
