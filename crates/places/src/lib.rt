@@ -41,6 +41,8 @@ pub enum Reply {
 }
 
 // What a call makes of the places: place `at` becomes `place`, and no other changes.
+// Where none changes it is the first one again, and no Option: `refused_accept_turn` and its like (`Laws/Ends`) speak of
+// `place` stored at `at` then too, and the wrong builds `second_place_stays` and `anothers_place_stays` of which place it is.
 #[derive(Clone, Copy)]
 pub struct Turn {
     pub at: usize,
