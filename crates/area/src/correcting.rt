@@ -10,8 +10,8 @@ ghost use Rattle.area.specs.Shapes.{circle, rectangle, kind_of};
 
 use crate::reading::{Area, fields, read};
 use change::correcting::in_place;
-use walk::walk::Spot;
 use format::Refusal;
+use walk::walk::Spot;
 
 impl Area {
     // The numbers of the fields that may be corrected. Those of a shape are fields of areas of that shape alone.

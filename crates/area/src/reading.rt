@@ -1,5 +1,5 @@
 // Message 6 with application 412/11, an area marked off (paper 01, "AIS"; 003, tables 4 and 38 to 40).
-ghost use Rattle.std.specs.Prelude.{◌≡◌, cond, eqb};
+ghost use Rattle.std.specs.Prelude.{◌≡◌};
 ghost use Rattle.format.specs.Fmt.{also};
 ghost use Rattle.format.specs.Promises.{out_of, plain};
 ghost use Rattle.format.specs.Refusals.{code_of};
@@ -81,17 +81,15 @@ pub struct Opened {
     pub walk: walk::walk::Walk,
 }
 
-// They are read in bit order. What is refused up to the source, or before the kind, is left there: its walk tells the refusal.
-fn opening(s: &[u8]) -> Opened
+// They are read in bit order. What is refused up to the source, before the kind or at the shape's number is answered there.
+fn opening(s: &[u8]) -> Result<Opened, Refusal>
     ensures { OpeningRead s.now result }
 {
     let w = walk::walk::Walk::begin(0).code(s, 6, MESSAGE);
     let w = w.num(s, 2, 0, 3);
     let repeat = w.v as u8;
     let w = w.num(s, 30, 0, 999_999_999);
-    if w.code != 0 {
-        return unopened(w);
-    }
+    w.passed()?;
     let source = w.v as u32;
     let w = w.num(s, 2, 0, 3);
     let sequence = w.v as u8;
@@ -100,35 +98,20 @@ fn opening(s: &[u8]) -> Opened
     let w = w.num(s, 1, 0, 1);
     let resent = w.v as u8;
     let w = w.fill(s, 1).code(s, 10, AUTHORITY).code(s, 6, APPLICATION);
-    if w.code != 0 {
-        return unopened(w);
-    }
+    w.passed()?;
     let w = w.num(s, 4, 1, 14);
     let kind = w.v as u8;
-    Opened {
+    let walk = w.number(s, 2, false, 1, 2, Reason::Kind);
+    walk.passed()?;
+    Ok(Opened {
         repeat,
         source,
         sequence,
         destination,
         resent,
         kind,
-        walk: w.number(s, 2, false, 1, 2, Reason::Kind),
-    }
-}
-
-// No fields, where the walk was refused.
-fn unopened(walk: walk::walk::Walk) -> Opened
-    ensures { result.walk ≡ walk }
-{
-    Opened {
-        repeat: 0,
-        source: 0,
-        sequence: 0,
-        destination: 0,
-        resent: 0,
-        kind: 0,
         walk,
-    }
+    })
 }
 
 // The fields in bit order. Another size is refused at once: no field has then to be tested for it. What is refused before the shape is
@@ -139,19 +122,17 @@ pub fn fields(s: &[u8]) -> Result<Area, Refusal>
     if s.len() != Area::LEAST {
         return Err(Reason::Size.into());
     }
-    let begun = opening(s);
-    let w = begun.walk;
-    w.passed()?;
-    let passed = shapes::read(s, w.v, w);
-    let shape = passed.shape;
-    let w = ais_common::time::read(s, passed.walk);
+    let begun = opening(s)?;
+    let (w, shape) = shapes::read(s, begun.walk.v, begun.walk);
+    let w = ais_common::time::read(s, w);
     let time = ais_common::time::Time::of(w.v);
     let w = ais_common::time::read_short(s, w);
     let second_time = ais_common::time::ShortTime::of(w.v);
     let w = w.num(s, 4, 1, 6);
     let advice = w.v as u8;
     let w = w.fill(s, 6).end(s);
-    let r = Area {
+    w.passed()?;
+    Ok(Area {
         repeat: begun.repeat,
         source: begun.source,
         sequence: begun.sequence,
@@ -162,7 +143,5 @@ pub fn fields(s: &[u8]) -> Result<Area, Refusal>
         time,
         second_time,
         advice,
-    };
-    w.passed()?;
-    Ok(r)
+    })
 }

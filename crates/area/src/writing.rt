@@ -14,13 +14,14 @@ pub fn write(buf: &mut [u8], r: Area) -> Result<(), Refusal>
 {
     let time = r.time.spelled();
     let second = r.second_time.spelled();
-    let w = making::judged(r, time, second);
-    let refusal = w.closes(false, Area::LEAST, Area::GREATEST, buf.len());
-    if refusal.code != 0 {
+    match making::judged(r, time, second).closes(false, Area::LEAST, Area::GREATEST, buf.len()) {
+        Ok(()) => {
+            making::put(buf, r, time, second);
+            Ok(())
+        },
         // It is judged once more for its bit, so that a good record carries none.
-        let again = making::judged(r, time, second);
-        return again.closes(false, Area::LEAST, Area::GREATEST, buf.len());
+        Err(_) => {
+            making::judged(r, time, second).closes(false, Area::LEAST, Area::GREATEST, buf.len())
+        },
     }
-    making::put(buf, r, time, second);
-    Ok(())
 }
