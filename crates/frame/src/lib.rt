@@ -1,7 +1,7 @@
 // What the serial frames share (paper 01, "Serial frames"; 004): `$`, four letters, length, own address, and the seal.
 #![tactic(auto)]
 
-ghost use Rattle.std.specs.Prelude.{◌≡◌, true, cond, ◌+◌, ◌<◌, ◌^◌};
+ghost use Rattle.std.specs.Prelude.{◌≡◌, true, cond, ◌+◌, ◌-◌, ◌<◌, ◌^◌, [], length, take, drop};
 ghost use Rattle.frame.specs.Frame.{leads, declared as Frame·declared, fits};
 ghost use Rattle.frame.specs.Steps.{headed, head_judged, head_put};
 ghost use Rattle.format.specs.Fmt.{pad};
@@ -111,6 +111,17 @@ pub fn sized(fixed: u8, length: u64, size: u64) -> Result<(), Reason>
     } else {
         Err(Reason::Size)
     }
+}
+
+// The content of a frame, from byte `from` on, with `tail` bytes behind it: none where the frame was refused.
+pub fn content(frame: &[u8], good: bool, from: usize, tail: usize) -> &[u8]
+    ensures { result.now ≡ cond good (take (length frame.now - tail - from) (drop from frame.now)) [] }
+{
+    let end = frame.len().saturating_sub(tail);
+    if !good || end < from {
+        return &frame[..0];
+    }
+    &frame[from..end]
 }
 
 // The fill bits behind content of `size` bits.

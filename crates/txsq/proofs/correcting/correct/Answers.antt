@@ -5,7 +5,7 @@ use Rattle.format.proofs.Laws.Corrections.{family_corrected}
 use Rattle.txsq.specs.Txsq.{txsqs, record_of, refusal_of}
 use Rattle.txsq.specs.Laws.Correction.{spotted}
 use Rattle.txsq.specs.Laws.Demands.{family}
-use Rattle.txsq.specs.declared.reading.Answer.TheVariants.{Good, Refused}
+use Rattle.std.specs.Prelude.{Result, Ok, Err}
 use Rattle.txsq.proofs.correcting.correct.Goals as goal
 
 -- the message was refused
