@@ -187,8 +187,6 @@ module _ (i : ℕ) (s : List ℕ) (f : Course) (d : f ≡ course_of i s) where
       let same = accepted_inj (sym (x.walked.so ∙ clear f.walk _ c) ∙ a) in
       ap (λ vs. spot tides.fmt [] vs i) (sym same) ∙ x.walked.spots c
 
-  -- of what was read, and of all that is as long, the fields' walk is the fields' answer
-  pub fields_again : f.walk.code ≡ 0 → (t : List ℕ) → length t ≡ length s → {g : Course} → g ≡ behind t (head_read 0 t) → shown g.walk.code g.walk.offset ≡ told (fields_read t)
-  fields_again z t e d =
-      let small : length s ≤ 210 = lead_small s (read_led tides s (ap (λ (r : Verdict). r.code) (sym walked_told) ∙ z)) in
-      ap (λ (g : Course). shown g.walk.code g.walk.offset) d ∙ walked_refusal (behind_walked 0 t (omega (arith, e, small)))
+-- of all that is no longer than a telegram, the fields' walk is the fields' answer
+pub fields_again : (t : List ℕ) → length t ≤ 210 → {g : Course} → g ≡ behind t (head_read 0 t) → shown g.walk.code g.walk.offset ≡ told (fields_read t)
+fields_again t small d = ap (λ (g : Course). shown g.walk.code g.walk.offset) d ∙ walked_refusal (behind_walked 0 t small)
