@@ -2,10 +2,10 @@
 use Rattle.std.specs.Prelude.{ℕ, zero, suc, ◌+◌, ◌-◌, ◌*◌, ◌/◌, ◌%◌, ◌^◌, ◌≤◌, ◌<◌, ◌≡◌, true, cond, List, eqb}
 use Rattle.bits.specs.Answers.{got}
 use Rattle.walk.specs.Groups.{repeat_walked}
-use Rattle.walk.specs.Walk.{Walk}
+use Rattle.walk.specs.Walk.{Walk, seen}
 use Rattle.tide.specs.Row.{entry_bits}
 use Rattle.tide.specs.Steps.{entry_step}
-use Rattle.tide.specs.declared.entries.Run.{Run}
+use Rattle.tide.specs.declared.entries.Run.{Run as Declared}
 
 -- month, day, hour and minute; and sign and value, which are not all zeros
 abbrev pub Good : ℕ → Type 0
@@ -29,13 +29,21 @@ passed s zero r = r
 passed s (suc m) r = record {
   at = r.at + suc m * entry_bits;
   code = 0;
-  offset = r.at + m * entry_bits + 22;
+  offset = 0;
   v = got s (r.at + m * entry_bits + 22) 10;
   seek = r.seek;
   left = r.left - suc m * 3;
   spot = r.spot;
   width = r.width;
 }
+
+-- the walk behind some entries, and how many they are
+pub record Run : Type 0 where
+  pub walk : Walk
+  pub count : ℕ
+
+abbrev pub run : Declared → Run
+run x = record { walk = seen x.walk; count = x.count }
 
 -- Some of n entries are passed: what is left to do behind them is what there was to do, and a refused one ends the walk. Both sides are whole walks, code and offset included: so `records::walk` promises the walk field by field (`records_walked`), and what is told of a refusal has the same number and bit by the quick way as by the slow one (`walked_told`).
 abbrev pub Passes : List ℕ → ℕ → Walk → Run → Type 0

@@ -2,23 +2,20 @@
 use Rattle.std.specs.Prelude.{ℕ, zero, suc, ◌+◌, ◌*◌, ◌^◌, ◌≡◌, refl, cond, List, [], ◌∷◌, ◌++◌, ℤ, pos, neg_ℤ, take, length, set}
 use Rattle.bits.specs.Bits.{bit, value_of, digits, bits_of, bytes_of, field_at}
 use Rattle.format.specs.Codes.{codes, there, headed}
-use Rattle.format.specs.Fmt.{accepted, refused, also, after, read_field, read, write_field, sized, write, spot}
+use Rattle.format.specs.Fmt.{Out, accepted, refused, also, after, read_field, read, write_field, sized, write, spot}
 use Rattle.format.specs.Groups.{repeat, repeat_of, repeat_told}
 use Rattle.format.specs.Message.{told, into, read_message, write_message, correct_message}
-use Rattle.format.specs.Promises.{read_record}
+use Rattle.format.specs.Promises.{refused_by, plain, read_record}
 use Rattle.format.specs.Words.{walk, wide}
 use Rattle.format.specs.Refusals.{Verdict}
 use Rattle.tide.specs.Heights.{heights_of}
-use Rattle.tide.specs.HeightsPromises.{counted, answer_of as heights_answer}
+use Rattle.tide.specs.HeightsPromises.{counted}
 use Rattle.tide.specs.Limits.{most_numbers, most_heights}
-use Rattle.tide.specs.Promises.{housed, answer_of}
+use Rattle.tide.specs.Promises.{housed, told_of}
 use Rattle.tide.specs.Record.{Whole, values_of, record_of}
 use Rattle.tide.specs.Tide.{placed, tides}
 use Rattle.tide.specs.WritingPromises.{enough}
-use Rattle.tide.specs.declared.heights.Answer.{Answer as HeightsAnswer}
-use Rattle.tide.specs.declared.heights.Answer.TheVariants.{Refused as HeightsRefused}
-use Rattle.tide.specs.declared.reading.Answer.{Answer}
-use Rattle.tide.specs.declared.reading.Answer.TheVariants.{Refused}
+use Rattle.tide.specs.declared.reading.Told.{Told}
 
 -- table 6: next year or this, month, day, hour, minute
 abbrev at : (year month day hour minute : ℕ) → ℕ
@@ -162,8 +159,8 @@ abbrev at_bit : (code bit : ℕ) → Verdict
 at_bit code bit = record { code = code; bit = bit }
 
 -- what the calls promise to answer: reading into a row of so many numbers, writing into so many zero bytes, correcting, heights
-abbrev read_into : ℕ → List ℕ → Answer
-read_into room s = answer_of (housed room (read_record tides record_of s))
+abbrev read_into : ℕ → List ℕ → Out Told
+read_into room s = plain (also told_of (housed room (read_record tides record_of s)))
 
 abbrev wrote_into : ℕ → Whole → Verdict
 wrote_into room x = told (into (cond (enough x.0 x.1) (times room (0 ∷ [])) []) (write_message tides (values_of x)))
@@ -171,27 +168,27 @@ wrote_into room x = told (into (cond (enough x.0 x.1) (times room (0 ∷ [])) []
 abbrev corrected_to : (i v : ℕ) → List ℕ → Verdict
 corrected_to i v s = told (correct_message tides s i v)
 
-abbrev heights_into : List ℤ → List ℕ → HeightsAnswer
-heights_into row s = heights_answer (counted s row)
+abbrev heights_into : List ℤ → List ℕ → Out ℕ
+heights_into row s = plain (counted s row)
 
 -- no records; no entries; a month 0 and 13; a day 0; an hour 24; a minute 60; minus nothing; a fill bit that is not its first; a byte left over
-fields_told : (read_into 7 (set observed_bytes 2 0x00) ≡ Refused (at_bit 4 12)) × (read_into 7 (set observed_bytes 4 0x01) ≡ Refused (at_bit 4 29))
-    × (read_into 7 (set (set observed_bytes 4 0x04) 5 0x10) ≡ Refused (at_bit 4 39)) × (read_into 7 (set observed_bytes 5 0xB0) ≡ Refused (at_bit 4 39))
-    × (read_into 7 (set observed_bytes 5 0x60) ≡ Refused (at_bit 4 43)) × (read_into 7 (set observed_bytes 6 0xC3) ≡ Refused (at_bit 4 48))
-    × (read_into 7 (set (set observed_bytes 6 0x77) 7 0x92) ≡ Refused (at_bit 4 53)) × (read_into 7 (set (set observed_bytes 7 0xC0) 8 0x00) ≡ Refused (at_bit 4 60))
-    × (read_into 7 (set observed_bytes 8 0xED) ≡ Refused (at_bit 5 70)) × (read_into 7 (observed_bytes ++ (0 ∷ [])) ≡ Refused (at_bit 1 72))
+fields_told : (read_into 7 (set observed_bytes 2 0x00) ≡ refused_by (at_bit 4 12)) × (read_into 7 (set observed_bytes 4 0x01) ≡ refused_by (at_bit 4 29))
+    × (read_into 7 (set (set observed_bytes 4 0x04) 5 0x10) ≡ refused_by (at_bit 4 39)) × (read_into 7 (set observed_bytes 5 0xB0) ≡ refused_by (at_bit 4 39))
+    × (read_into 7 (set observed_bytes 5 0x60) ≡ refused_by (at_bit 4 43)) × (read_into 7 (set observed_bytes 6 0xC3) ≡ refused_by (at_bit 4 48))
+    × (read_into 7 (set (set observed_bytes 6 0x77) 7 0x92) ≡ refused_by (at_bit 4 53)) × (read_into 7 (set (set observed_bytes 7 0xC0) 8 0x00) ≡ refused_by (at_bit 4 60))
+    × (read_into 7 (set observed_bytes 8 0xED) ≡ refused_by (at_bit 5 70)) × (read_into 7 (observed_bytes ++ (0 ∷ [])) ≡ refused_by (at_bit 1 72))
 unfolding read_message tides headed codes there placed read read_field walk wide repeat record_of value_of bit digits bits_of bytes_of field_at
 fields_told = (refl, refl, refl, refl, refl, refl, refl, refl, refl, refl)
 
 -- of the point: 91 degrees; a month 0 behind an entry that is good; cut in the second value, before its sign, and in the hour before that
-point_told_lem : (read_into 11 (set (set forecast_bytes 2 0x0D) 3 0x6C) ≡ Refused (at_bit 4 23)) × (read_into 11 (set forecast_bytes 13 0x90) ≡ Refused (at_bit 4 108))
-    × (read_into 11 (take 17 forecast_bytes) ≡ Refused (at_bit 1 129)) × (read_into 11 (take 16 forecast_bytes) ≡ Refused (at_bit 1 128)) × (read_into 11 (take 15 forecast_bytes) ≡ Refused (at_bit 1 117))
+point_told_lem : (read_into 11 (set (set forecast_bytes 2 0x0D) 3 0x6C) ≡ refused_by (at_bit 4 23)) × (read_into 11 (set forecast_bytes 13 0x90) ≡ refused_by (at_bit 4 108))
+    × (read_into 11 (take 17 forecast_bytes) ≡ refused_by (at_bit 1 129)) × (read_into 11 (take 16 forecast_bytes) ≡ refused_by (at_bit 1 128)) × (read_into 11 (take 15 forecast_bytes) ≡ refused_by (at_bit 1 117))
 unfolding read_message tides headed codes there placed read read_field walk wide repeat record_of value_of bit digits bits_of bytes_of field_at
 point_told_lem = (refl, refl, refl, refl, refl)
 
 -- no field gave these: version 2; class 1; 8 bytes; no room in the row. The heights have reading's, and their own want of room
-bare_told : (read_into 7 (set observed_bytes 1 0x40) ≡ Refused (at_bit 2 0)) × (read_into 7 (set observed_bytes 1 0x30) ≡ Refused (at_bit 2 0)) × (read_into 7 (take 8 observed_bytes) ≡ Refused (at_bit 1 0))
-    × (read_into 6 observed_bytes ≡ Refused (at_bit 6 0)) × (heights_into (pos 0 ∷ []) (set (set observed_bytes 7 0xC0) 8 0x00) ≡ HeightsRefused (at_bit 4 60)) × (heights_into [] observed_bytes ≡ HeightsRefused (at_bit 6 0))
+bare_told : (read_into 7 (set observed_bytes 1 0x40) ≡ refused_by (at_bit 2 0)) × (read_into 7 (set observed_bytes 1 0x30) ≡ refused_by (at_bit 2 0)) × (read_into 7 (take 8 observed_bytes) ≡ refused_by (at_bit 1 0))
+    × (read_into 6 observed_bytes ≡ refused_by (at_bit 6 0)) × (heights_into (pos 0 ∷ []) (set (set observed_bytes 7 0xC0) 8 0x00) ≡ refused_by (at_bit 4 60)) × (heights_into [] observed_bytes ≡ refused_by (at_bit 6 0))
 unfolding read_message tides headed codes there placed read read_field walk wide repeat record_of value_of bit digits bits_of bytes_of field_at repeat_of repeat_told
 bare_told = (refl, refl, refl, refl, refl, refl)
 

@@ -1,4 +1,5 @@
 -- What is proved of them.
+pub mod Outcomes
 pub mod Sound
 pub mod Walking
 pub mod Turns

@@ -1,15 +1,12 @@
 -- What reading a tide telegram promises of the bytes s and the row that it is lent; correcting promises what every layout's does (format/specs/Promises). Assumes nothing.
-use Rattle.std.specs.Prelude.{◌≡◌, List, ℕ, leb, length}
-use Rattle.format.specs.Fmt.{Out}
+use Rattle.std.specs.Prelude.{◌≡◌, List, ℕ, leb, length, Result}
+use Rattle.format.specs.Fmt.{Out, also}
 use Rattle.format.specs.Message.{ahead}
-use Rattle.format.specs.Promises.{answered, read_record, tested}
-use Rattle.format.specs.Refusals.{bare}
-use Rattle.format.specs.Refusals.{Verdict}
+use Rattle.format.specs.Promises.{answered, out_of, plain, read_record, tested}
+use Rattle.format.specs.declared.Refusal.{Refusal}
 use Rattle.tide.specs.Record.{Whole, record_of}
 use Rattle.tide.specs.Tide.{tides}
 use Rattle.tide.specs.declared.reading.Told.{Told}
-use Rattle.tide.specs.declared.reading.Answer.{Answer}
-use Rattle.tide.specs.declared.reading.Answer.TheVariants.{Good, Refused}
 
 -- a record that a row of `room` entries has room for (6, tested last)
 abbrev pub housed : (room : ℕ) → Out Whole → Out Whole
@@ -19,15 +16,7 @@ housed room = tested (λ x. leb (length x.1) room)
 abbrev pub told_of : Whole → Told
 told_of x = record { tide = x.0; numbers = length x.1 }
 
--- the paper's refusals and values
-abbrev pub answer_of : Out Whole → Answer
-answer_of = answered (λ x. Good (told_of x)) Refused
-
-abbrev pub refusal_of : Answer → Verdict
-refusal_of (Good r) = bare 0
-refusal_of (Refused c) = c
-
 -- the answer, and what is left of the row
-abbrev pub Reads : List ℕ → List ℕ → Answer → List ℕ → Type 0
+abbrev pub Reads : List ℕ → List ℕ → Result Told Refusal → List ℕ → Type 0
 Reads s row a row' = let o = housed (length row) (read_record tides record_of s) in
-    (a ≡ answer_of o) × (row' ≡ answered (λ x. ahead x.1 row) (λ c. row) o)
+    (out_of a ≡ plain (also told_of o)) × (row' ≡ answered (λ x. ahead x.1 row) (λ c. row) o)

@@ -4,11 +4,11 @@ use Rattle.bits.specs.Bits.{bits_of}
 use Rattle.format.specs.Fmt.{Out, read}
 use Rattle.walk.specs.Groups.{Step, single, then_step, unless_refused, repeat_walked}
 use Rattle.walk.specs.Reading.{ranged, ended}
-use Rattle.walk.specs.Walk.{begun}
-use Rattle.walk.specs.Walk.{Walk}
+use Rattle.walk.specs.Walk.{Walk, seen, begun}
 use Rattle.notice_fields.specs.PartsSteps.{time_read, latitude_read, longitude_read}
 use Rattle.tide.specs.Tide.{least_of, tides}
-use Rattle.tide.specs.declared.reading.Course.{Course}
+use Rattle.tide.specs.declared.reading.Course.{Course as Declared}
+use Rattle.tide.specs.declared.reading.Tide.{Tide}
 
 -- behind the position type k
 abbrev pub placed_read : List ℕ → ℕ → Walk → Walk
@@ -47,6 +47,14 @@ abbrev pub records_walked : List ℕ → ℕ → Walk → Walk
 records_walked s n r = repeat_walked n (record_step s) (λ w. w) r
 
 -- ---- the whole
+
+-- the walk over a whole telegram, and its record
+pub record Course : Type 0 where
+  pub walk : Walk
+  pub tide : Tide
+
+abbrev pub course : Declared → Course
+course f = record { walk = seen f.walk; tide = f.tide }
 
 -- what reading the fields of s answers
 abbrev pub fields_read : List ℕ → Out (List ℕ)

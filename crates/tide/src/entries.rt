@@ -1,6 +1,7 @@
 // Entries of a tide record (paper 02, C-11): good ones are passed many at once, each by its 32 bits; any other is walked by its fields.
-ghost use Rattle.std.specs.Prelude.{true, ◌≡◌, ◌+◌, ◌-◌, ◌*◌, ◌/◌, ◌^◌, ◌≤◌, ◌<◌, length};
-ghost use Rattle.tide.specs.Entries.{Good, word_at, AllGood, Unsought, Passes};
+ghost use Rattle.std.specs.Prelude.{true, ◌≡◌, ◌+◌, ◌-◌, ◌*◌, ◌/◌, ◌^◌, ◌≤◌, ◌<◌, length, is_some};
+ghost use Rattle.tide.specs.Entries.{Good, word_at, AllGood, Unsought, Passes, run};
+ghost use Rattle.walk.specs.Walk.{seen, left_of};
 
 use crate::reading::Tide;
 use crate::row::{ENTRY, TIME};
@@ -21,8 +22,8 @@ pub struct Run {
 
 // Past at least one of n entries: the good ones from here on, up to a field that is sought, or else the first alone.
 pub(crate) fn pass(s: &[u8], w: Walk, n: u64) -> Run
-    requires { (1 ≤ n) × (w.code ≡ 0) }
-    ensures { Passes s.now n w result }
+    requires { (1 ≤ n) × ((seen w).code ≡ 0) }
+    ensures { Passes s.now n (seen w) (run result) }
 {
     let at = w.at;
     let most = unsought(w, reach(s.len(), at, n));
@@ -33,23 +34,24 @@ pub(crate) fn pass(s: &[u8], w: Walk, n: u64) -> Run
     }
     let end = at + count * ENTRY;
     let last = end - VALUE;
-    let seek = w.seek;
-    let spot = w.spot;
-    let width = w.width;
     let walk = Walk {
         at: end,
-        code: 0,
-        offset: last,
+        verdict: Ok(()),
         v: bits::get(s, last, VALUE),
-        seek,
-        left: less(w.left, count * 3),
-        spot,
-        width,
+        sought: behind(w.sought, count * 3),
+        spot: w.spot,
     };
     Run {
         walk,
         count: count as u64,
     }
+}
+
+// How many fields stand before the sought one, behind m of them that are passed.
+fn behind(sought: Option<usize>, m: usize) -> Option<usize>
+    ensures { (is_some result ≡ is_some sought) × (left_of result ≡ left_of sought - m) }
+{
+    sought.map(|left| left.saturating_sub(m))
 }
 
 // How many of n entries from bit `at` on have five bytes each that hold them, in a message that is not too long for a telegram.
@@ -72,15 +74,12 @@ fn reach(len: usize, at: usize, n: u64) -> usize
 
 // How many of n entries stand before a field that is sought.
 fn unsought(w: Walk, n: usize) -> usize
-    ensures { (result ≤ n) × Unsought (result * 3) w }
+    ensures { (result ≤ n) × Unsought (result * 3) (seen w) }
 {
-    let before = w.left / 3;
-    if w.seek {
-        if before < n {
-            return before;
-        }
+    match w.sought {
+        Some(left) => n.min(left / 3),
+        None => n,
     }
-    n
 }
 
 // How many of n entries from bit `at` on are good, up to the first that is not.
@@ -147,11 +146,4 @@ pub(crate) fn good(v: u64) -> bool
         && (v >> 17) % 32 <= 23
         && (v >> 11) % 64 <= 59
         && v % 2_048 >= 1
-}
-
-// n less m, and 0 where m is more.
-fn less(n: usize, m: usize) -> usize
-    ensures { result ≡ n - m }
-{
-    if n < m { 0 } else { n - m }
 }

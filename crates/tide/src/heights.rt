@@ -7,33 +7,20 @@ ghost use Rattle.tide.specs.Standing.{front};
 
 use crate::entries::BYTES;
 use crate::reading::Tide;
-use format::Refusal;
+use format::{Reason, Refusal};
 
-// How many heights, or the refusal.
-#[derive(Clone, Copy)]
-pub enum Answer {
-    Good(usize),
-    Refused(Refusal),
-}
-
-// The heights of a telegram into the front of the row: one for each entry, all records in the telegram's order.
-pub fn heights(s: &[u8], row: &mut [i32]) -> Answer
+// The heights of a telegram into the front of the row: one for each entry, all records in the telegram's order. Their number is told.
+pub fn heights(s: &[u8], row: &mut [i32]) -> Result<usize, Refusal>
     ensures { Shows s.now row.old result row.new }
 {
-    let f = crate::reading::fields(s, 0);
-    let walk = f.walk;
-    let code = walk.code;
-    if code != 0 {
-        return Answer::Refused(walk.refusal());
-    }
-    let tide = f.tide;
+    let tide = crate::reading::fields(s, 0)?.tide;
     let extent = crate::row::measure(s, tide.count);
     let entries = extent.entries;
     if row.len() < entries {
-        return Answer::Refused(Refusal::ROOM);
+        return Err(Reason::Room.into());
     }
     show(s, tide.count, row);
-    Answer::Good(entries)
+    Ok(entries)
 }
 
 // The heights of a telegram's first `count` records, into the front of the row.

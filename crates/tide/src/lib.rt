@@ -3,7 +3,7 @@
 
 pub use crate::correcting::correct;
 pub use crate::lending::{Bounds, limits};
-pub use crate::reading::{Answer, Tide, Told, read};
+pub use crate::reading::{Tide, Told, read};
 pub use crate::writing::write;
 
 pub mod correcting;

@@ -1,11 +1,13 @@
 // The tide telegram (paper 02, C-11; 000, 5.4): reading it.
-ghost use Rattle.std.specs.Prelude.{◌≡◌, ◌^◌, ◌<◌};
+ghost use Rattle.std.specs.Prelude.{◌≡◌, ◌^◌, ◌<◌, IfOk};
+ghost use Rattle.format.specs.Refusals.{shown, code_of, told_of};
 ghost use Rattle.tide.specs.Tide.{tides};
 ghost use Rattle.tide.specs.Promises.{Reads};
-ghost use Rattle.tide.specs.Steps.{head_read, unread_by, behind, course_of};
+ghost use Rattle.tide.specs.Steps.{head_read, behind, course_of, course};
+ghost use Rattle.walk.specs.Walk.{seen};
 
 use crate::records::MOST;
-use format::Refusal;
+use format::{Reason, Refusal};
 use walk::walk::Walk;
 
 // The numbers of its records stand beside it in a lent row, one record behind another, in bit order.
@@ -20,12 +22,6 @@ pub struct Tide {
 pub struct Told {
     pub tide: Tide,
     pub numbers: usize,
-}
-
-#[derive(Clone, Copy)]
-pub enum Answer {
-    Good(Told),
-    Refused(Refusal),
 }
 
 impl Tide {
@@ -52,38 +48,32 @@ pub struct Course {
 }
 
 // Reads a telegram: its record, and the numbers of its records into the front of the row.
-pub fn read(s: &[u8], row: &mut [u32]) -> Answer
+pub fn read(s: &[u8], row: &mut [u32]) -> Result<Told, Refusal>
     ensures { Reads s.now row.old result row.new }
 {
-    let f = fields(s, 0);
-    let walk = f.walk;
-    let code = walk.code;
-    if code != 0 {
-        return Answer::Refused(walk.refusal());
-    }
-    let tide = f.tide;
+    let tide = fields(s, 0)?.tide;
     // A row that is too short stays as it was.
     let numbers = crate::row::fill(s, tide.count, row);
     if row.len() < numbers {
-        return Answer::Refused(Refusal::ROOM);
+        return Err(Reason::Room.into());
     }
-    Answer::Good(Told { tide, numbers })
+    Ok(Told { tide, numbers })
 }
 
 // The first tests, then the fields in bit order; on the way, field number `want` is found. What the first tests refuse is not walked.
-pub(crate) fn fields(s: &[u8], want: usize) -> Course
-    ensures { result ≡ course_of want s.now }
+pub(crate) fn fields(s: &[u8], want: usize) -> Result<Course, Refusal>
+    ensures told { let w = (course_of want s.now).walk in told_of result ≡ shown w.code w.offset }
+    ensures passed { IfOk result (λ f. course f ≡ course_of want s.now) }
 {
-    let first = lead(s);
-    if first != 0 {
-        return unread(first);
-    }
-    walked(s, want)
+    lead(s)?;
+    let f = walked(s, want);
+    f.walk.passed()?;
+    Ok(f)
 }
 
 // The fields alone, whatever the first tests say.
 pub(crate) fn walked(s: &[u8], want: usize) -> Course
-    ensures { result ≡ behind s.now (head_read want s.now) }
+    ensures { course result ≡ behind s.now (head_read want s.now) }
 {
     let head = head(s, want);
     let count = head.v as u16;
@@ -93,41 +83,32 @@ pub(crate) fn walked(s: &[u8], want: usize) -> Course
 }
 
 // The first tests: smallest size, type, version and class, greatest size.
-fn lead(s: &[u8]) -> u8
-    ensures { result ≡ tides.lead s.now }
+fn lead(s: &[u8]) -> Result<(), Reason>
+    ensures { code_of result ≡ tides.lead s.now }
 {
     let size = s.len();
     if size < Tide::LEAST {
-        return format::SIZE;
+        return Err(Reason::Size);
     }
     if bits::get(s, 0, 8) != CODE {
-        return format::KIND;
+        return Err(Reason::Kind);
     }
     if bits::get(s, 8, 3) != VERSION {
-        return format::KIND;
+        return Err(Reason::Kind);
     }
     if bits::get(s, 11, 1) != CLASS {
-        return format::KIND;
+        return Err(Reason::Kind);
     }
     if size > Tide::GREATEST {
-        return format::SIZE;
+        return Err(Reason::Size);
     }
-    0
-}
-
-// No walk, no record: what the first tests refused by `code`.
-fn unread(code: u8) -> Course
-    ensures { result ≡ unread_by code }
-{
-    let walk = Walk::begin(code, 0);
-    let tide = Tide { count: 0 };
-    Course { walk, tide }
+    Ok(())
 }
 
 // Up to the records; their count is the walk's value.
 fn head(s: &[u8], want: usize) -> Walk
-    ensures { (result ≡ head_read want s.now) × (result.v < 2 ^ 9) }
+    ensures { (seen result ≡ head_read want s.now) × (result.v < 2 ^ 9) }
 {
-    let kind = Walk::begin(0, want).code(s, 8, CODE).code(s, 3, VERSION);
+    let kind = Walk::begin(want).code(s, 8, CODE).code(s, 3, VERSION);
     kind.code(s, 1, CLASS).decide(s, 9, 1, MOST)
 }

@@ -1,5 +1,6 @@
 // The records of a tide telegram (paper 02, C-11): walked in bit order, the first fault ends the walk.
 ghost use Rattle.std.specs.Prelude.{◌≡◌};
+ghost use Rattle.walk.specs.Walk.{seen};
 ghost use Rattle.tide.specs.Tide.{least_of};
 ghost use Rattle.tide.specs.Steps.{placed_read, opened_at, entry_read, records_walked};
 
@@ -16,12 +17,12 @@ pub const HIGHEST: u64 = 1_023;
 
 // Over `count` records: a refused head of a record, or a refused entry, leaves both loops.
 pub(crate) fn walk(s: &[u8], from: Walk, count: u16) -> Walk
-    ensures { result ≡ records_walked s.now count from }
+    ensures { seen result ≡ records_walked s.now count (seen from) }
 {
     let mut w = from;
     'records: for _ in 0..count {
         w = open_record(s, w);
-        if w.code != 0 {
+        if w.verdict.is_err() {
             break 'records;
         }
         let n = w.v;
@@ -29,7 +30,7 @@ pub(crate) fn walk(s: &[u8], from: Walk, count: u16) -> Walk
         'entries: while j < n {
             let run = crate::entries::pass(s, w, n - j);
             w = run.walk;
-            if w.code != 0 {
+            if w.verdict.is_err() {
                 break 'records;
             }
             j += run.count;
@@ -40,10 +41,10 @@ pub(crate) fn walk(s: &[u8], from: Walk, count: u16) -> Walk
 
 // A record up to its entries: position, forecast mark, and how many entries. Where there is no position type, it is left there.
 fn open_record(s: &[u8], w: Walk) -> Walk
-    ensures { result ≡ opened_at s.now w }
+    ensures { seen result ≡ opened_at s.now (seen w) }
 {
     let kind = w.decide(s, 1, 0, 1);
-    if kind.code != 0 {
+    if kind.verdict.is_err() {
         return kind;
     }
     let mark = position(s, kind).num(s, 1, 0, 1);
@@ -52,7 +53,7 @@ fn open_record(s: &[u8], w: Walk) -> Walk
 
 // Behind the position type: a port's code, or a point.
 fn position(s: &[u8], kind: Walk) -> Walk
-    ensures { result ≡ placed_read s.now kind.v kind }
+    ensures { seen result ≡ placed_read s.now kind.v (seen kind) }
 {
     if kind.v == PORT {
         return kind.num(s, 6, 0, 63);
@@ -63,7 +64,7 @@ fn position(s: &[u8], kind: Walk) -> Walk
 
 // Time, sign and value.
 pub(crate) fn entry(s: &[u8], w: Walk) -> Walk
-    ensures { result ≡ entry_read s.now w }
+    ensures { seen result ≡ entry_read s.now (seen w) }
 {
     let sign = notice_fields::parts::time(s, w).num(s, 1, 0, 1);
     sign.num(s, 10, least(sign.v), HIGHEST)

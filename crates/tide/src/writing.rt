@@ -1,4 +1,5 @@
 // Writing a tide telegram (paper 02, C-11; 000, 5.4) into a lent buffer.
+ghost use Rattle.format.specs.Refusals.{told_of};
 ghost use Rattle.tide.specs.WritingPromises.{TideWrites};
 
 use crate::reading::Tide;
@@ -10,16 +11,12 @@ mod making;
 
 // Writes the telegram into the front of a lent buffer: its count and the numbers of its records are judged, then the size that
 // they make (1), then room (6): in the buffer, and that the row has as many numbers as its position types and counts ask for.
-pub fn write(buf: &mut [u8], r: Tide, row: &[u32]) -> Refusal
-    ensures { TideWrites buf.old r row.now result buf.new }
+pub fn write(buf: &mut [u8], r: Tide, row: &[u32]) -> Result<(), Refusal>
+    ensures { TideWrites buf.old r row.now (told_of result) buf.new }
 {
     let judged = making::judged(r, row);
-    let walk = judged.walk;
     let room = room(row.len(), judged.next, buf.len());
-    let refusal = walk.closes(false, Tide::LEAST, Tide::GREATEST, room);
-    if refusal.code != 0 {
-        return refusal;
-    }
+    judged.walk.closes(false, Tide::LEAST, Tide::GREATEST, room)?;
     making::put(buf, r, row);
-    Refusal::NONE
+    Ok(())
 }

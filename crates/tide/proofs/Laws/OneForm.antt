@@ -1,5 +1,5 @@
 -- A level has one form: accepted telegrams that say the same, each level by its height, are the same bytes. So no two of them differ only in how a height of 0 is said. Assumes nothing.
-use Rattle.std.specs.Prelude.{ℕ, zero, suc, ◌≤◌, ◌<◌, ◌≡◌, refl, Bool, true, false, cond, List, [], ◌∷◌, eqb, ℤ, pos, drop, get_or}
+use Rattle.std.specs.Prelude.{ℕ, zero, suc, ◌≤◌, ◌<◌, ◌≡◌, refl, Bool, true, false, cond, List, [], ◌∷◌, eqb, ℤ, pos, drop, get_or, Ok}
 use Rattle.std.proofs.Common.{sym, ap, ◌∙◌, subst, get_or-drop, drop-drop}
 use Rattle.bits.specs.Bits.{Bytes}
 use Rattle.format.specs.Fmt.{accepted, Fmt, end}
@@ -17,7 +17,6 @@ use Rattle.tide.specs.Promises.{Reads}
 use Rattle.tide.specs.Record.{Whole, values_of, record_of}
 use Rattle.tide.specs.Said.{entries_said, records_said, said}
 use Rattle.tide.specs.Tide.{least_of, placed, level, entry, tide_record, tides}
-use Rattle.tide.specs.declared.reading.Answer.TheVariants.{Good}
 use Rattle.tide.specs.declared.reading.Told.{Told}
 use Rattle.tide.specs.Laws.Demands.{family, whole_of, good}
 use Rattle.tide.specs.Laws.Sound.{sound}
@@ -145,5 +144,5 @@ one_form s t x y fine fine' e d same =
     accepted_inj (sym one ∙ ap (λ x. write_message tides (values_of x)) all ∙ two)
 
 -- said of what reading answers
-pub one_form_read : (s t row row₂ : List ℕ) (a b : Told) (row' row₂' : List ℕ) → Bytes s → Bytes t → Reads s row (Good a) row' → Reads t row₂ (Good b) row₂' → said (whole_of a row') ≡ said (whole_of b row₂') → s ≡ t
+pub one_form_read : (s t row row₂ : List ℕ) (a b : Told) (row' row₂' : List ℕ) → Bytes s → Bytes t → Reads s row (Ok a) row' → Reads t row₂ (Ok b) row₂' → said (whole_of a row') ≡ said (whole_of b row₂') → s ≡ t
 one_form_read s t row row₂ a b row' row₂' fine fine' x y = one_form s t (whole_of a row') (whole_of b row₂') fine fine' (good s row a row' x) (good t row₂ b row₂' y)

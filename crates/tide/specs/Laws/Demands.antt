@@ -1,26 +1,26 @@
 -- The tide telegram is a family of format/specs/Laws/Family, whose theorems are demands 2 and 3; said here of reading's own promise. Assumes nothing.
-use Rattle.std.specs.Prelude.{◌≡◌, refl, Bool, true, false, List, [], ◌∷◌, ◌++◌, ℕ, zero, suc, ◌+◌, ◌-◌, leb, length, take, drop, get_or, set}
+use Rattle.std.specs.Prelude.{◌≡◌, refl, Bool, true, false, List, [], ◌∷◌, ◌++◌, ℕ, zero, suc, ◌+◌, ◌-◌, leb, length, take, drop, get_or, set, Result, Ok}
 use Rattle.std.proofs.Common.{sym, ap, ap₂, ◌∙◌, subst, append-nil, arith, le-leb, length-drop, take_at}
 use Rattle.format.specs.Codes.{codes, headed}
-use Rattle.format.specs.Fmt.{Out, accepted, refused, check, or_bad, end, none, found, spot}
+use Rattle.format.specs.Fmt.{Out, accepted, refused, check, or_bad, also, end, none, found, spot}
+use Rattle.tide.specs.Laws.Outcomes.{one_out}
+use Rattle.format.specs.declared.Refusal.{Refusal}
 use Rattle.format.specs.Groups.{repeat}
 use Rattle.format.specs.Message.{ahead}
-use Rattle.format.specs.Promises.{answered, read_record}
-use Rattle.format.specs.Refusals.{Verdict}
+use Rattle.format.specs.Promises.{answered, plain, read_record}
 use Rattle.format.specs.Laws.Correct.{none_clash, later_inv}
 use Rattle.format.specs.Laws.Family.{Family}
 use Rattle.format.specs.Laws.Groups.{told_exact, told_again}
 use Rattle.format.specs.Laws.Legal.{Legal, exactly}
 use Rattle.format.specs.Laws.Past.{Filled, past_counted, past_filled, legal_filled, filled_set}
+use Rattle.format.specs.Laws.Round.{clash, accepted_inj}
 use Rattle.format.specs.Laws.Zero.{Counted}
 use Rattle.tide.specs.Changed.{record_spots, spot_of, changed}
 use Rattle.tide.specs.Limits.{first_entry_of}
-use Rattle.tide.specs.Promises.{housed, told_of, answer_of, Reads}
+use Rattle.tide.specs.Promises.{housed, told_of, Reads}
 use Rattle.tide.specs.Record.{Whole, leading, values_of, record_of}
 use Rattle.tide.specs.Row.{records_long, records_told}
 use Rattle.tide.specs.Tide.{tide_record, tides}
-use Rattle.tide.specs.declared.reading.Answer.{Answer}
-use Rattle.tide.specs.declared.reading.Answer.TheVariants.{Good, Refused}
 use Rattle.tide.specs.declared.reading.Tide.{Tide}
 use Rattle.tide.specs.declared.reading.Told.{Told}
 use Rattle.tide.specs.Laws.Sound.{sound, many, judged}
@@ -151,30 +151,27 @@ longer_row r row us full =
 -- ---- said of reading's promise
 
 -- Two answers that reading may give to the same bytes and row are equal, and leave the same.
-pub one_reading : (s row : List ℕ) (a b : Answer) (row₁ row₂ : List ℕ) → Reads s row a row₁ → Reads s row b row₂ → (a ≡ b) × (row₁ ≡ row₂)
-one_reading s row a b row₁ row₂ (x, y) (x', y') = (x ∙ sym x', y ∙ sym y')
+pub one_reading : (s row : List ℕ) (a b : Result Told Refusal) (row₁ row₂ : List ℕ) → Reads s row a row₁ → Reads s row b row₂ → (a ≡ b) × (row₁ ≡ row₂)
+one_reading s row a b row₁ row₂ (x, y) (x', y') = (one_out a b (x ∙ sym x'), y ∙ sym y')
 
 -- the telegram that a good answer tells: its records' numbers stand in front of the row
 abbrev pub whole_of : Told → List ℕ → Whole
 whole_of a row = (a.tide, take a.numbers row)
 
 -- a good answer is an accepted reading
-pub good : (s row : List ℕ) (a : Told) (row' : List ℕ) → Reads s row (Good a) row' → read_record tides record_of s ≡ accepted (whole_of a row')
+pub good : (s row : List ℕ) (a : Told) (row' : List ℕ) → Reads s row (Ok a) row' → read_record tides record_of s ≡ accepted (whole_of a row')
 good s row a row' (x, y) = go (read_record tides record_of s) x y
   where
-    clash : {X : Type 0} {c : Verdict} → Good a ≡ Refused c → X
-    clash e = let z : ◌≡◌ {A = ℕ} 0 1 = cc in absurd (omega arith)
-
-    fits : (q : Whole) → Good a ≡ Good (told_of q) → row' ≡ ahead q.1 row → q ≡ whole_of a row'
+    fits : (q : Whole) → ◌≡◌ {A = Out Told} (accepted a) (accepted (told_of q)) → row' ≡ ahead q.1 row → q ≡ whole_of a row'
     fits q e y =
-        let k : a ≡ told_of q = cc in
+        let k = accepted_inj e in
         let xs : take a.numbers row' ≡ q.1 = ap₂ (λ (a : Told) l. take a.numbers l) k y ∙ take_at q.1 (drop (length q.1) row) (length q.1) refl in
         λ i. (sym (ap (λ (a : Told). a.tide) k) i, sym xs i)
 
-    room : (q : Whole) (b : Bool) → Good a ≡ answer_of (check (or_bad b 6) 0 (accepted q)) → row' ≡ answered (λ (x : Whole). ahead x.1 row) (λ c. row) (check (or_bad b 6) 0 (accepted q)) → accepted q ≡ accepted (whole_of a row')
+    room : (q : Whole) (b : Bool) → accepted a ≡ plain (also told_of (check (or_bad b 6) 0 (accepted q))) → row' ≡ answered (λ (x : Whole). ahead x.1 row) (λ c. row) (check (or_bad b 6) 0 (accepted q)) → accepted q ≡ accepted (whole_of a row')
     room q true e y = ap accepted (fits q e y)
-    room q false e y = clash e
+    room q false e y = clash (sym e)
 
-    go : (o : Out Whole) → Good a ≡ answer_of (housed (length row) o) → row' ≡ answered (λ (x : Whole). ahead x.1 row) (λ c. row) (housed (length row) o) → o ≡ accepted (whole_of a row')
+    go : (o : Out Whole) → accepted a ≡ plain (also told_of (housed (length row) o)) → row' ≡ answered (λ (x : Whole). ahead x.1 row) (λ c. row) (housed (length row) o) → o ≡ accepted (whole_of a row')
     go (accepted q) e y = room q (leb (length q.1) (length row)) e y
-    go (refused c p) e y = clash e
+    go (refused c p) e y = clash (sym e)

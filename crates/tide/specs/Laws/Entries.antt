@@ -27,29 +27,29 @@ use Rattle.tide.specs.Laws.Word.{word_there}
 
 -- ---- one step, where nothing was refused before and the field is not sought
 
-abbrev moved : ℕ → ℕ → ℕ → Walk → Walk
-moved w v i r = record { at = r.at + w; code = 0; offset = r.at + i; v = v; seek = r.seek; left = r.left - 1; spot = r.spot; width = r.width }
+abbrev moved : ℕ → ℕ → Walk → Walk
+moved w v r = record { at = r.at + w; code = 0; offset = 0; v = v; seek = r.seek; left = r.left - 1; spot = r.spot; width = r.width }
 
-onward_good : (w v i c : ℕ) (r : Walk) → r.code ≡ 0 → c ≡ 0 → i ≤ w → r.at + w < 2 ^ 64 → Unsought 1 r → onward w true v c i r ≡ moved w v i r
+onward_good : (w v i c : ℕ) (r : Walk) → r.code ≡ 0 → c ≡ 0 → r.at + w < 2 ^ 64 → Unsought 1 r → onward w true v c i r ≡ moved w v r
 unfolding onward
-onward_good w v i c r z y l reach u = go r.seek refl
+onward_good w v i c r z y reach u = go r.seek refl
   where
-    go : (b : Bool) → r.seek ≡ b → onward w true v c i r ≡ moved w v i r
+    go : (b : Bool) → r.seek ≡ b → onward w true v c i r ≡ moved w v r
     go true e =
         let n : 1 ≤ r.left = u e in
-        rw (z, y, e, ne_eqb r.left 0 (λ z. omega arith), mod-eq_of_lt reach, mod-eq_of_lt {n = r.at + i} {m = 2 ^ 64} (omega arith)) refl
-    go false e = rw (z, y, e, mod-eq_of_lt reach, mod-eq_of_lt {n = r.at + i} {m = 2 ^ 64} (omega arith)) refl
+        rw (z, y, e, ne_eqb r.left 0 (λ z. omega arith), mod-eq_of_lt reach) refl
+    go false e = rw (z, y, e, mod-eq_of_lt reach) refl
 
 -- a number no_fault its limits has no fault
 pub no_fault : (v lo hi : ℕ) → lo ≤ v → v ≤ hi → ◌≡◌ {A = ℕ} (cond (leb lo v && leb v hi) 0 4) 0
 no_fault v lo hi l h = rw (le-leb lo v l, le-leb v hi h) refl
 
 ranged_good : (s : List ℕ) (w lo hi : ℕ) (r : Walk) → w ≤ 32 → r.at + w ≤ length s * 8 → r.at + w < 2 ^ 64 → lo ≤ got s r.at w → got s r.at w ≤ hi → r.code ≡ 0 → Unsought 1 r
-    → ranged s w true lo hi 4 r ≡ moved w (got s r.at w) 0 r
+    → ranged s w true lo hi 4 r ≡ moved w (got s r.at w) r
 ranged_good s w lo hi r small fits reach l h z u =
     let v = got s r.at w in
     onward_good w v 0 (ranging s r.at w lo hi 4) r z
-    (ap (λ b. cond b (cond (leb lo v && leb v hi) 0 4) 1) (within_fits (length s) r.at w small fits) ∙ no_fault v lo hi l h) (omega arith) reach u
+    (ap (λ b. cond b (cond (leb lo v && leb v hi) 0 4) 1) (within_fits (length s) r.at w small fits) ∙ no_fault v lo hi l h) reach u
 
 -- ---- a time
 
@@ -98,10 +98,10 @@ module _ (s : List ℕ) where
 
   module _ (r : Walk) (z : r.code ≡ 0) (reach : r.at + 32 < 2 ^ 64) (g : Good (got s r.at 32)) (u : Unsought 3 r) where
     abbrev known : Walk
-    known = moved 21 (got s r.at 21) 15 r
+    known = moved 21 (got s r.at 21) r
 
     abbrev signed : Walk
-    signed = moved 1 (got s known.at 1) 0 known
+    signed = moved 1 (got s known.at 1) known
 
     fits : r.at + 32 ≤ length s * 8
     fits = good_there r.at g
@@ -113,9 +113,9 @@ module _ (s : List ℕ) where
         let sign = got_lt s (r.at + 21) 1 refl in
         let value = got_lt s (r.at + 21 + 1) 10 refl in
         let m = moment_good v (got_lt s r.at 21 refl) (omega (arith, word, g, sign, value)) (omega (arith, word, g, sign, value)) (omega (arith, word, g, sign, value)) (omega (arith, word, g, sign, value)) (omega (arith, word, g, sign, value)) in
-        ap (λ p. grouped 21 v p r) (ap (piecewise moment []) (lying_whole s r.at 21 (omega (arith, fits))) ∙ m) ∙ onward_good 21 v 15 0 r z refl (lit≤ tt) (omega arith) (λ e. let n = u e in omega arith)
+        ap (λ p. grouped 21 v p r) (ap (piecewise moment []) (lying_whole s r.at 21 (omega (arith, fits))) ∙ m) ∙ onward_good 21 v 15 0 r z refl (omega arith) (λ e. let n = u e in omega arith)
 
-    pub entry_good_lem : entry_read s r ≡ moved 10 (got s signed.at 10) 0 signed
+    pub entry_good_lem : entry_read s r ≡ moved 10 (got s signed.at 10) signed
     entry_good_lem =
         let word = word_there s r.at fits in
         let sign = got s (r.at + 21) 1 in
@@ -146,11 +146,10 @@ module _ (s : List ℕ) where
       let q = passed s m r in
       let b = behind m r z in
       let at : q.at + 21 + 1 + 10 ≡ r.at + suc m * entry_bits = omega (arith, b.here) in
-      let last : q.at + 21 + 1 + 0 ≡ r.at + m * entry_bits + 22 = omega (arith, b.here) in
       let value : q.at + 21 + 1 ≡ r.at + m * entry_bits + 22 = omega (arith, b.here) in
       let left : q.left - 1 - 1 - 1 ≡ r.left - suc m * 3 = omega (arith, b.fewer) in
       entry_good_lem q b.clear (omega (arith, b.here)) (subst⁻¹ (λ p. Good (got s p 32)) b.here g) (λ e. let n = u (sym b.seeking ∙ e) in omega (arith, b.fewer))
-      ∙ (λ i. record { at = at i; code = 0; offset = last i; v = got s (value i) 10; seek = b.seeking i; left = left i; spot = b.spot i; width = b.width i })
+      ∙ (λ i. record { at = at i; code = 0; offset = 0; v = got s (value i) 10; seek = b.seeking i; left = left i; spot = b.spot i; width = b.width i })
 
   -- m good entries, and k behind them
   pub all_passed : (next : Walk → Walk) (m k : ℕ) (r : Walk) → r.code ≡ 0 → r.at + m * entry_bits < 2 ^ 64 → AllGood s r.at m → Unsought (m * 3) r
@@ -165,13 +164,13 @@ module _ (s : List ℕ) where
       ∙ entry_turn s next k (passed s m r) refl (sym (one_more m r z reach (g m (omega arith)) u))
 
   -- the same as the code makes it
-  pub passed_as : (m : ℕ) (r : Walk) {v left : ℕ} → 1 ≤ m → v ≡ got s (r.at + m * entry_bits - 10) 10 → left ≡ r.left - m * 3
-      → record { at = r.at + m * entry_bits; code = 0; offset = r.at + m * entry_bits - 10; v = v; seek = r.seek; left = left; spot = r.spot; width = r.width } ≡ passed s m r
+  pub passed_as : (m : ℕ) (r : Walk) {v left : ℕ} {seek : Bool} → 1 ≤ m → v ≡ got s (r.at + m * entry_bits - 10) 10 → seek ≡ r.seek → left ≡ r.left - m * 3
+      → record { at = r.at + m * entry_bits; code = 0; offset = 0; v = v; seek = seek; left = left; spot = r.spot; width = r.width } ≡ passed s m r
   unfolding passed
-  passed_as zero r l x y = absurd (omega arith)
-  passed_as (suc m) r l x y =
+  passed_as zero r l x k y = absurd (omega arith)
+  passed_as (suc m) r l x k y =
       let last : r.at + suc m * entry_bits - 10 ≡ r.at + m * entry_bits + 22 = omega arith in
-      λ i. record { at = r.at + suc m * entry_bits; code = 0; offset = last i; v = (x ∙ ap (λ p. got s p 10) last) i; seek = r.seek; left = y i; spot = r.spot; width = r.width }
+      λ i. record { at = r.at + suc m * entry_bits; code = 0; offset = 0; v = (x ∙ ap (λ p. got s p 10) last) i; seek = k i; left = y i; spot = r.spot; width = r.width }
 
   pub run_passes : (n m : ℕ) (r : Walk) {q : Walk} → 1 ≤ m → m ≤ n → r.code ≡ 0 → r.at + m * entry_bits < 2 ^ 64 → AllGood s r.at m → Unsought (m * 3) r → q ≡ passed s m r → Passes s n r (record { walk = q; count = m })
   run_passes n m r {q} some few z reach g u e = (

@@ -1,6 +1,6 @@
 -- The heights that a row of numbers tells are those that stand in the bits, by the laws on counted groups; how many they are; the ways in which the call answers; and they fit 32 signed bits. Assumes nothing.
 use Prim.Native.Nat.{ℕ, zero, suc, ◌+◌, ◌*◌, ◌≤◌, ◌<◌, ◌^◌}
-use Rattle.std.specs.Prelude.{◌≡◌, refl, Bool, true, false, List, [], ◌∷◌, ◌++◌, eqb, ℤ, pos, neg_ℤ, ◌-ℤ◌, set}
+use Rattle.std.specs.Prelude.{◌≡◌, refl, Bool, true, false, List, [], ◌∷◌, ◌++◌, eqb, ℤ, pos, neg_ℤ, ◌-ℤ◌, set, Result, Ok}
 use Rattle.std.proofs.Math.Path.{sym, ap}
 use Rattle.std.proofs.Common.{◌∙◌, append_assoc, append-nil, zero-add, drop-drop, eq-eqb, ne_eqb, le-leb, SFits, to_z, of_z}
 use native.Mathlib.Omega.{arith}
@@ -13,7 +13,9 @@ use Rattle.std.specs.Int.{w32}
 use Rattle.std.proofs.lemmas.Int.{to_z_pos, to_z-of_z}
 use Rattle.bits.specs.Answers.{got}
 use Rattle.format.specs.Fmt.{accepted, refused}
-use Rattle.format.specs.Promises.{read_record}
+use Rattle.tide.specs.Laws.Outcomes.{one_out}
+use Rattle.format.specs.declared.Refusal.{Refusal}
+use Rattle.format.specs.Promises.{out_of, refused_by, read_record}
 use Rattle.format.specs.Refusals.{shown, bare}
 use Rattle.walk.specs.Laws.Stored.{sum_long, even_long, even_end, even_stands, told_stands, stored_turn}
 use Rattle.tide.specs.Heights.{height_of, entry_of, entries_of, record_heights, heights_of, entry_shown, entries_shown, record_shown, heights_at}
@@ -23,8 +25,6 @@ use Rattle.tide.specs.Row.{placed_long, placed_bits, entry_bits, position_long, 
 use Rattle.tide.specs.Shapes.{shape_at, entries_in}
 use Rattle.tide.specs.Standing.{placed_at, entry_at, entries_at, record_at, record_wide, records_at}
 use Rattle.tide.specs.Tide.{tides}
-use Rattle.tide.specs.declared.heights.Answer.{Answer}
-use Rattle.tide.specs.declared.heights.Answer.TheVariants.{Good, Refused}
 use Rattle.tide.specs.Laws.Shapes.{place_long, entries_long_lem}
 
 module _ (s : List ℕ) where
@@ -69,24 +69,24 @@ module _ (s : List ℕ) where
 -- ---- the ways in which the call answers
 
 module _ (s : List ℕ) (row : List ℤ) where
-  pub shows_refused : {c p : ℕ} → read_record tides record_of s ≡ refused c p → Shows s row (Refused (shown c p)) row
-  shows_refused e = rw e (refl, refl)
+  pub shows_refused : {c p : ℕ} (a : Result ℕ Refusal) → out_of a ≡ refused_by (shown c p) → read_record tides record_of s ≡ refused c p → Shows s row a row
+  shows_refused a is e = rw e (is, refl)
 
   module _ {x : Whole} (e : read_record tides record_of s ≡ accepted x) where
     abbrev zs : List ℤ
     zs = heights_in x
 
-    pub shows_short : length row < length zs → Shows s row (Refused (bare 6)) row
-    shows_short l = rw (e, lt-leb (length zs) (length row) l) (refl, refl)
+    pub shows_short : (a : Result ℕ Refusal) → out_of a ≡ refused_by (bare 6) → length row < length zs → Shows s row a row
+    shows_short a is l = rw (e, lt-leb (length zs) (length row) l) (is, refl)
 
-    pub shows_good : length zs ≤ length row → Shows s row (Good (length zs)) (sets row 0 zs)
+    pub shows_good : length zs ≤ length row → Shows s row (Ok (length zs)) (sets row 0 zs)
     shows_good l =
         let is : sets row 0 zs ≡ zs ++ drop (length zs) row = sets-eq zs row 0 (omega arith) ∙ ap (λ n. zs ++ drop n row) (zero-add (length zs)) in
         rw (e, le-leb (length zs) (length row) l) (refl, is)
 
   -- two answers that the promise allows are equal
-  pub one_showing : (a b : Answer) (t u : List ℤ) → Shows s row a t → Shows s row b u → (a ≡ b) × (t ≡ u)
-  one_showing a b t u f g = (f.0 ∙ sym g.0, f.1 ∙ sym g.1)
+  pub one_showing : (a b : Result ℕ Refusal) (t u : List ℤ) → Shows s row a t → Shows s row b u → (a ≡ b) × (t ≡ u)
+  one_showing a b t u f g = (one_out a b (f.0 ∙ sym g.0), f.1 ∙ sym g.1)
 
 -- ---- 32 signed bits
 

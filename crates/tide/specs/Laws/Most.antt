@@ -1,6 +1,6 @@
 -- No telegram that reading accepts has more than 234 numbers in its row, nor more than 51 levels: by the bits that each record takes, of the 1,659 that 210 bytes have behind the head. So rows of that length are never too short. Assumes nothing.
 use Prim.Native.Nat.{ℕ, zero, suc, ◌+◌, ◌*◌, ◌≤◌}
-use Rattle.std.specs.Prelude.{◌≡◌, refl, Bool, cond, eqb, ℤ, drop, get_or}
+use Rattle.std.specs.Prelude.{◌≡◌, refl, Bool, cond, eqb, ℤ, drop, get_or, Result}
 use Rattle.std.proofs.Common.{sym, ap, ◌∙◌, subst, le-leb}
 use Rattle.std.proofs.Math.Path.{ap₂}
 use Rattle.std.proofs.Math.Bool.{true, false}
@@ -13,7 +13,7 @@ use Rattle.format.specs.Codes.{codes, headed}
 use Rattle.format.specs.Fmt.{Out, accepted, refused, Fmt, end, also}
 use Rattle.format.specs.Groups.{repeat, counted, repeat_told}
 use Rattle.format.specs.Message.{into, leaves}
-use Rattle.format.specs.Promises.{read_record}
+use Rattle.format.specs.Promises.{out_of, plain, read_record}
 use Rattle.format.specs.Words.{◌‥◌, num, wide}
 use Rattle.format.specs.Laws.Extent.{extent}
 use Rattle.format.proofs.Laws.Extent.{extent_laid}
@@ -24,13 +24,13 @@ use Rattle.format.proofs.Laws.Round.{read_write}
 use Rattle.format.proofs.Laws.Whole.{was, within_sizes}
 use Rattle.notice_fields.specs.Terms.{point}
 use Rattle.tide.specs.Heights.{entry_of, entries_of, heights_of}
-use Rattle.tide.specs.HeightsPromises.{heights_in, heights_read, answer_of as heights_answer, Shows}
+use Rattle.tide.specs.HeightsPromises.{heights_in, heights_read, Shows}
 use Rattle.tide.specs.Limits.{most_numbers, most_heights}
-use Rattle.tide.specs.Promises.{housed, answer_of, Reads}
+use Rattle.tide.specs.Promises.{housed, told_of, Reads}
 use Rattle.tide.specs.Record.{Whole, values_of, record_of}
 use Rattle.tide.specs.Tide.{placed, entry, tide_record, tides}
-use Rattle.tide.specs.declared.heights.Answer.{Answer as HeightsAnswer}
-use Rattle.tide.specs.declared.reading.Answer.{Answer}
+use Rattle.tide.specs.declared.reading.Told.{Told}
+use Rattle.format.specs.declared.Refusal.{Refusal}
 use Rattle.tide.specs.Laws.Demands.{row_is, family}
 use Rattle.tide.specs.Laws.OneForm.{read_legal}
 use Rattle.tide.specs.Laws.Sound.{sound}
@@ -151,15 +151,15 @@ module _ (s : List ℕ) (x : Whole) (fine : Bytes s) (e : read_record tides reco
 -- ---- said of the calls: the answer is reading's own, and never for want of room
 
 module _ (s : List ℕ) (fine : Bytes s) where
-  pub room_enough : (row : List ℕ) (a : Answer) (row' : List ℕ) → Reads s row a row' → most_numbers ≤ length row → a ≡ answer_of (read_record tides record_of s)
-  room_enough row a row' e room = e.0 ∙ ap answer_of (go (read_record tides record_of s) refl)
+  pub room_enough : (row : List ℕ) (a : Result Told Refusal) (row' : List ℕ) → Reads s row a row' → most_numbers ≤ length row → out_of a ≡ plain (also told_of (read_record tides record_of s))
+  room_enough row a row' e room = e.0 ∙ ap (λ o. plain (also told_of o)) (go (read_record tides record_of s) refl)
     where
       go : (o : Out Whole) → read_record tides record_of s ≡ o → housed (length row) o ≡ o
       go (accepted x) m = rw (le-leb (length x.1) (length row) (omega (arith, most_numbers_lem s x fine m, room))) refl
       go (refused c p) m = refl
 
-  pub room_enough_heights : (row : List ℤ) (a : HeightsAnswer) (t : List ℤ) → Shows s row a t → most_heights ≤ length row → a ≡ heights_answer (also length (heights_read s))
-  room_enough_heights row a t e room = e.0 ∙ ap heights_answer (go (read_record tides record_of s) refl)
+  pub room_enough_heights : (row : List ℤ) (a : Result ℕ Refusal) (t : List ℤ) → Shows s row a t → most_heights ≤ length row → out_of a ≡ plain (also length (heights_read s))
+  room_enough_heights row a t e room = e.0 ∙ ap plain (go (read_record tides record_of s) refl)
     where
       go : (o : Out Whole) → read_record tides record_of s ≡ o → also (λ t. length (leaves (also heights_in o) [])) (into row (also heights_in o)) ≡ also length (also heights_in o)
       go (accepted x) m = rw (le-leb (length (heights_in x)) (length row) (omega (arith, most_levels_lem s x fine m, room))) refl

@@ -1,21 +1,20 @@
 -- What was read is what stands in the bits: the count in nine bits at 12, the records from bit 21 on; and so are the heights. Assumes nothing.
-use Rattle.std.specs.Prelude.{ℕ, ◌≡◌, refl, Bool, true, false, cond, List, [], leb, ℤ, length}
+use Rattle.std.specs.Prelude.{ℕ, ◌≡◌, refl, Bool, true, false, cond, List, [], leb, ℤ, length, Ok}
 use Rattle.std.proofs.Common.{sym, ap, ◌∙◌, arith, eq-eqb}
 use Rattle.bits.specs.Answers.{got}
 use Rattle.format.specs.Fmt.{Out, accepted, refused, check, or_bad, also}
 use Rattle.format.specs.Message.{told, leaves, into, ahead, read_message}
-use Rattle.format.specs.Promises.{read_record}
+use Rattle.format.specs.Promises.{plain, read_record}
 use Rattle.format.specs.Refusals.{Verdict}
 use Rattle.format.specs.Laws.Lead.{read_led}
-use Rattle.format.specs.Laws.Round.{also_inv, accepted_inj}
+use Rattle.format.specs.Laws.Round.{clash, also_inv, accepted_inj}
 use Rattle.walk.specs.Walk.{onward}
 use Rattle.tide.specs.Heights.{heights_at}
-use Rattle.tide.specs.HeightsPromises.{heights_in, heights_read, answer_of, Shows}
+use Rattle.tide.specs.HeightsPromises.{heights_in, heights_read, Shows}
 use Rattle.tide.specs.Record.{Whole, record_of}
 use Rattle.tide.specs.Standing.{front, records_at}
 use Rattle.tide.specs.Steps.{head_read, unread_by, behind, course_of}
 use Rattle.tide.specs.Tide.{tides}
-use Rattle.tide.specs.declared.heights.Answer.TheVariants.{Good}
 use Rattle.tide.specs.Laws.Heights.{heights_stand}
 use Rattle.tide.specs.Laws.Told.{walked_good, walked_told}
 
@@ -34,7 +33,7 @@ read_stands s x e =
     accepted_inj (sym e ∙ good) ∙ (λ i. (record { count = n i }, records_at s (n i) front))
 
 -- The heights that were handed out are those that stand in the bits, in front of the row: as many as were told.
-pub heights_in_bits : (s : List ℕ) (row : List ℤ) (n : ℕ) (t : List ℤ) → Shows s row (Good n) t → let zs = heights_at s (got s 12 9) front in (n ≡ length zs) × (t ≡ ahead zs row)
+pub heights_in_bits : (s : List ℕ) (row : List ℤ) (n : ℕ) (t : List ℤ) → Shows s row (Ok n) t → let zs = heights_at s (got s 12 9) front in (n ≡ length zs) × (t ≡ ahead zs row)
 heights_in_bits s row n t (x, y) = go (read_record tides record_of s) refl x y
   where
     zs : List ℤ
@@ -43,13 +42,13 @@ heights_in_bits s row n t (x, y) = go (read_record tides record_of s) refl x y
     stand : (w : Whole) → read_record tides record_of s ≡ accepted w → heights_in w ≡ zs
     stand w e = ap heights_in (read_stands s w e) ∙ heights_stand s (got s 12 9) front
 
-    room : (w : Whole) → read_record tides record_of s ≡ accepted w → (b : Bool) → Good n ≡ answer_of (also (λ t. length (leaves (heights_read s) [])) (check (or_bad b 6) 0 (accepted (ahead (heights_in w) row))))
+    room : (w : Whole) → read_record tides record_of s ≡ accepted w → (b : Bool) → accepted n ≡ plain (also (λ t. length (leaves (heights_read s) [])) (check (or_bad b 6) 0 (accepted (ahead (heights_in w) row))))
         → t ≡ leaves (check (or_bad b 6) 0 (accepted (ahead (heights_in w) row))) row → (n ≡ length zs) × (t ≡ ahead zs row)
     room w e true x y =
-        let many : n ≡ length (leaves (heights_read s) []) = cc in
+        let many = accepted_inj x in
         (many ∙ ap (λ o. length (leaves (also heights_in o) [])) e ∙ ap length (stand w e), y ∙ ap (λ l. ahead l row) (stand w e))
-    room w e false x y = let z : ◌≡◌ {A = ℕ} 0 1 = cc in absurd (omega arith)
+    room w e false x y = clash (sym x)
 
-    go : (o : Out Whole) → read_record tides record_of s ≡ o → Good n ≡ answer_of (also (λ t. length (leaves (heights_read s) [])) (into row (also heights_in o))) → t ≡ leaves (into row (also heights_in o)) row → (n ≡ length zs) × (t ≡ ahead zs row)
+    go : (o : Out Whole) → read_record tides record_of s ≡ o → accepted n ≡ plain (also (λ t. length (leaves (heights_read s) [])) (into row (also heights_in o))) → t ≡ leaves (into row (also heights_in o)) row → (n ≡ length zs) × (t ≡ ahead zs row)
     go (accepted w) e x y = room w e (leb (length (heights_in w)) (length row)) x y
-    go (refused c p) e x y = let z : ◌≡◌ {A = ℕ} 0 1 = cc in absurd (omega arith)
+    go (refused c p) e x y = clash (sym x)

@@ -1,5 +1,5 @@
 -- The record of a head's and the records' values is these; the ways in which reading answers; and what the walk over a tide telegram is: reading's answer. Assumes nothing.
-use Rattle.std.specs.Prelude.{◌≡◌, Bool, ◌&&◌, List, [], ◌++◌, ℕ, ◌≤◌, ◌<◌, ◌^◌, leb, length, drop}
+use Rattle.std.specs.Prelude.{◌≡◌, Bool, ◌&&◌, List, [], ◌++◌, ℕ, ◌≤◌, ◌<◌, ◌^◌, leb, length, drop, Result, Ok}
 use Rattle.std.proofs.Math.Path.{refl, sym, subst⁻¹}
 use Rattle.std.proofs.Common.{ap, ◌∙◌, append-nil, zero-add, lit<, lit≤}
 use Rattle.std.proofs.Math.Bool.{true, false, cond}
@@ -11,7 +11,7 @@ use Rattle.format.specs.Codes.{codes, there, headed}
 use Rattle.format.specs.Correcting.{standing}
 use Rattle.format.specs.Fmt.{Out, accepted, refused, check, also, Fmt, spot, end}
 use Rattle.format.specs.Message.{fault, told, read_message, ahead}
-use Rattle.format.specs.Promises.{read_record}
+use Rattle.format.specs.Promises.{out_of, refused_by, read_record}
 use Rattle.format.specs.Refusals.{shown, bare}
 use Rattle.format.specs.Refusals.{Verdict}
 use Rattle.format.specs.Words.{◌‥◌}
@@ -29,10 +29,10 @@ use Rattle.tide.specs.Promises.{told_of, Reads}
 use Rattle.tide.specs.Record.{Whole, leading, record_of}
 use Rattle.tide.specs.Shapes.{filled}
 use Rattle.tide.specs.Standing.{front, records_at}
-use Rattle.tide.specs.Steps.{records_walked, fields_read, head_read, unread_by, behind, course_of}
+use Rattle.tide.specs.Steps.{Course, records_walked, fields_read, head_read, unread_by, behind, course_of}
 use Rattle.tide.specs.Tide.{rest, tides}
-use Rattle.tide.specs.declared.reading.Answer.TheVariants.{Good, Refused}
-use Rattle.tide.specs.declared.reading.Course.{Course}
+use Rattle.format.specs.declared.Refusal.{Refusal}
+use Rattle.tide.specs.declared.reading.Told.{Told}
 use Rattle.tide.specs.Laws.Walking.{records_along}
 
 pub record_is : (n : ℕ) (xs : List ℕ) → record_of (leading n xs) ≡ (record { count = n }, xs)
@@ -42,14 +42,14 @@ record_is n xs = refl
 -- ---- the ways in which reading answers
 
 module _ (s row : List ℕ) where
-  pub reads_refused : {c p : ℕ} → read_record tides record_of s ≡ refused c p → Reads s row (Refused (shown c p)) row
-  reads_refused e = rw e (refl, refl)
+  pub reads_refused : {c p : ℕ} (a : Result Told Refusal) → out_of a ≡ refused_by (shown c p) → read_record tides record_of s ≡ refused c p → Reads s row a row
+  reads_refused a is e = rw e (is, refl)
 
   module _ {x : Whole} (e : read_record tides record_of s ≡ accepted x) where
-    pub reads_few : length row < length x.1 → Reads s row (Refused (bare 6)) row
-    reads_few l = rw (e, lt-leb (length x.1) (length row) l) (refl, refl)
+    pub reads_few : (a : Result Told Refusal) → out_of a ≡ refused_by (bare 6) → length row < length x.1 → Reads s row a row
+    reads_few a is l = rw (e, lt-leb (length x.1) (length row) l) (is, refl)
 
-    pub reads_good : length x.1 ≤ length row → Reads s row (Good (told_of x)) (ahead x.1 row)
+    pub reads_good : length x.1 ≤ length row → Reads s row (Ok (told_of x)) (ahead x.1 row)
     reads_good l = rw (e, le-leb (length x.1) (length row) l) (refl, refl)
 
 -- what goes into a row
@@ -187,8 +187,6 @@ module _ (i : ℕ) (s : List ℕ) (f : Course) (d : f ≡ course_of i s) where
       let same = accepted_inj (sym (x.walked.so ∙ clear f.walk _ c) ∙ a) in
       ap (λ vs. spot tides.fmt [] vs i) (sym same) ∙ x.walked.spots c
 
-  -- of what was read, and of all that is as long, the fields' walk is the fields' answer
-  pub fields_again : f.walk.code ≡ 0 → (t : List ℕ) → length t ≡ length s → {g : Course} → g ≡ behind t (head_read 0 t) → shown g.walk.code g.walk.offset ≡ told (fields_read t)
-  fields_again z t e d =
-      let small : length s ≤ 210 = lead_small s (read_led tides s (ap (λ (r : Verdict). r.code) (sym walked_told) ∙ z)) in
-      ap (λ (g : Course). shown g.walk.code g.walk.offset) d ∙ walked_refusal (behind_walked 0 t (omega (arith, e, small)))
+-- of all that is no longer than a telegram, the fields' walk is the fields' answer
+pub fields_again : (t : List ℕ) → length t ≤ 210 → {g : Course} → g ≡ behind t (head_read 0 t) → shown g.walk.code g.walk.offset ≡ told (fields_read t)
+fields_again t small d = ap (λ (g : Course). shown g.walk.code g.walk.offset) d ∙ walked_refusal (behind_walked 0 t small)

@@ -1,5 +1,5 @@
 -- Demands 2 and 3 of the tide telegram, of the promises that its reading, writing and correcting make: a row with the numbers that its records ask for is written as every layout's values are. Assumes nothing.
-use Rattle.std.specs.Prelude.{◌≡◌, true, false, List, ◌++◌, ℕ, ◌≤◌, length, take, drop}
+use Rattle.std.specs.Prelude.{◌≡◌, true, false, List, ◌++◌, ℕ, ◌≤◌, length, take, drop, Ok}
 use Rattle.std.proofs.Common.{sym, ap, ◌∙◌, subst, arith, le-leb, length-append}
 use Rattle.std.proofs.Math.Path.{subst⁻¹}
 use Rattle.bits.specs.Bits.{Bytes}
@@ -23,7 +23,6 @@ use Rattle.tide.specs.Record.{values_of, record_of}
 use Rattle.tide.specs.Row.{records_long, records_told}
 use Rattle.tide.specs.Tide.{tides}
 use Rattle.tide.specs.WritingPromises.{enough, TideWrites}
-use Rattle.tide.specs.declared.reading.Answer.TheVariants.{Good}
 use Rattle.tide.specs.declared.reading.Tide.{Tide}
 use Rattle.tide.specs.declared.reading.Told.{Told}
 use Rattle.tide.specs.Laws.Demands.{Lent, changes, family, asked_row, longer_row, whole_of, good}
@@ -52,14 +51,14 @@ one_writing s r row = one_laying (enough r row) (write_message tides (values_of 
 
 -- What is written from a row is read back as the same record and the numbers that the row was asked for, where there is room for them.
 pub written_reads : (s : List ℕ) (r : Tide) (row u : List ℕ) → TideWrites s r row (bare 0) u → let xs = records_told r.count row in
-    (m : List ℕ) × (u ≡ m ++ drop (length m) s) × ((lent : List ℕ) → length xs ≤ length lent → Reads m lent (Good (told_of (r, xs))) (ahead xs lent))
+    (m : List ℕ) × (u ≡ m ++ drop (length m) s) × ((lent : List ℕ) → length xs ≤ length lent → Reads m lent (Ok (told_of (r, xs))) (ahead xs lent))
 written_reads s r row u x =
     let w = (accepted_writes s r row u x).1 in
     let y = written_read family s (r, records_told r.count row) u (exact_told (many r.count) row) (subst⁻¹ (Writes tides s (bare 0) u) (asked_row r row) w) in
     (y.message, y.front, λ lent l. reads_good y.message lent y.reads l)
 
 -- s is a telegram that reading answered with a and the row
-module _ (s row : List ℕ) (a : Told) (row' : List ℕ) (fine : Bytes s) (reads : Reads s row (Good a) row') where
+module _ (s row : List ℕ) (a : Told) (row' : List ℕ) (fine : Bytes s) (reads : Reads s row (Ok a) row') where
   -- the row has what the telegram's records ask for, and so has a longer one
   lent : Lent (whole_of a row')
   lent = (read_values family s (whole_of a row') fine (good s row a row' reads)).1
@@ -76,7 +75,7 @@ module _ (s row : List ℕ) (a : Told) (row' : List ℕ) (fine : Bytes s) (reads
 -- ---- demand 3
 
 -- Every correction of a tide telegram, by any number and any value. Its own refusal is c; where that is none, a and row' are what reading it gave.
-pub corrected : (s row : List ℕ) (a : Told) (row' : List ℕ) → Bytes s → (c : Verdict) → c ≡ told (read_message tides s) → (c.code ≡ 0 → Reads s row (Good a) row')
+pub corrected : (s row : List ℕ) (a : Told) (row' : List ℕ) → Bytes s → (c : Verdict) → c ≡ told (read_message tides s) → (c.code ≡ 0 → Reads s row (Ok a) row')
     → (i v : ℕ) (code : Verdict) (t : List ℕ) → Corrects tides s i v code t
     → SettledBy (λ x u d y. let z = changed i v x in TideWrites u z.0 z.1 d y) (λ x. spot_of x i) false s (check (fault c.code) c.bit (accepted (whole_of a row'))) v code t
 unfolding tides headed

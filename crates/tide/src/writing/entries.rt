@@ -2,6 +2,7 @@
 ghost use Rattle.std.specs.Prelude.{true, ◌≡◌, ◌+◌, ◌*◌, ◌^◌, ◌≤◌, ◌<◌};
 ghost use Rattle.tide.specs.Making.{entries_judged, three_put, entries_put};
 ghost use Rattle.tide.specs.RowEntries.{GoodEntry, GoodEntries, Passes};
+ghost use Rattle.walk.specs.Walk.{seen};
 
 use crate::entries::good;
 use crate::row::{ENTRY, TIME};
@@ -18,26 +19,22 @@ const FAR: usize = 0x1_0000_0000;
 // they are judged one by one.
 pub(crate) fn all_good(w: Walk, row: &[u32], k: usize, n: usize) -> bool
     requires { (n ≤ 511) × (k ≤ 2 ^ 41) }
-    ensures { result ≡ true → Passes row.now n k w }
+    ensures { result ≡ true → Passes row.now n k (seen w) }
 {
-    w.code == 0 && !w.seek && w.left == 0 && w.at < FAR && n != 0 && good_entries(row, k, n)
+    w.verdict.is_ok() && w.sought.is_none() && w.at < FAR && n != 0 && good_entries(row, k, n)
 }
 
 // The walk behind n good entries.
 pub(crate) fn pass(w: Walk, row: &[u32], k: usize, n: usize) -> Walk
-    requires { (n ≤ 511) × (k ≤ 2 ^ 41) × (Passes row.now n k w) }
-    ensures { result ≡ entries_judged row.now n k w }
+    requires { (n ≤ 511) × (k ≤ 2 ^ 41) × (Passes row.now n k (seen w)) }
+    ensures { seen result ≡ entries_judged row.now n k (seen w) }
 {
-    let end = w.at + n * ENTRY;
     Walk {
-        at: end,
-        code: 0,
-        offset: end - 10,
+        at: w.at + n * ENTRY,
+        verdict: Ok(()),
         v: entry(row, k + n * 3 - 1, 1),
-        seek: false,
-        left: 0,
+        sought: None,
         spot: w.spot,
-        width: w.width,
     }
 }
 

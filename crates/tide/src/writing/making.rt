@@ -3,6 +3,7 @@ ghost use Rattle.std.specs.Prelude.{◌≡◌, ◌^◌, ◌≤◌};
 ghost use Rattle.tide.specs.Making.{entry_judged, entries_judged, placed_judged, record_judged, records_judged, entries_put, placed_put, record_put, records_put};
 ghost use Rattle.tide.specs.Standing.{front};
 ghost use Rattle.tide.specs.Written.{TideJudged, HeadPut, TidePut};
+ghost use Rattle.walk.specs.Walk.{seen, stepped};
 
 use crate::reading::{CLASS, CODE, Tide, VERSION};
 use crate::records::{HIGHEST, MOST, PORT};
@@ -23,11 +24,11 @@ pub(crate) const SOME_TIME: u64 = 0x1_0800;
 
 // The values in bit order, and how many numbers of the row were asked for. A refused count is not walked.
 pub(crate) fn judged(r: Tide, row: &[u32]) -> Stepped
-    ensures { TideJudged r row.now result }
+    ensures { TideJudged r row.now (stepped result) }
 {
-    let kind = Walk::begin(0, 0).fixed(8, CODE).fixed(3, VERSION);
-    let head = kind.fixed(1, CLASS).value(9, r.count as u64, 1, MOST);
-    if head.code != 0 {
+    let kind = Walk::begin(0).fixed(8, CODE).fixed(3, VERSION);
+    let head = kind.fixed(1, CLASS).value(9, u64::from(r.count), 1, MOST);
+    if head.verdict.is_err() {
         return Stepped {
             walk: head,
             next: 0,
@@ -38,7 +39,7 @@ pub(crate) fn judged(r: Tide, row: &[u32]) -> Stepped
 
 // The first refused record ends it.
 fn judge_records(from: Walk, row: &[u32], count: u16) -> Stepped
-    ensures { result ≡ records_judged row.now count 0 from }
+    ensures { stepped result ≡ records_judged row.now count 0 (seen from) }
 {
     let mut w = from;
     let mut k: usize = 0;
@@ -46,7 +47,7 @@ fn judge_records(from: Walk, row: &[u32], count: u16) -> Stepped
         let record = judge_record(w, row, k);
         w = record.walk;
         k = record.next;
-        if w.code != 0 {
+        if w.verdict.is_err() {
             break;
         }
     }
@@ -56,7 +57,7 @@ fn judge_records(from: Walk, row: &[u32], count: u16) -> Stepped
 // The record whose numbers begin with k; behind a refused count no entry is walked.
 fn judge_record(from: Walk, row: &[u32], k: usize) -> Stepped
     requires { k ≤ 2 ^ 40 }
-    ensures { result ≡ record_judged row.now k from }
+    ensures { stepped result ≡ record_judged row.now k (seen from) }
 {
     let kind = entry(row, k, PORT);
     let place = judge_place(from.value(1, kind, 0, 1), row, k + 1, kind);
@@ -66,7 +67,7 @@ fn judge_record(from: Walk, row: &[u32], k: usize) -> Stepped
     let n = entry(row, next + 1, 1);
     let c = mark.value(9, n, 1, MOST);
     let first = next + 1 + 1;
-    if c.code != 0 {
+    if c.verdict.is_err() {
         return Stepped {
             walk: c,
             next: first,
@@ -82,7 +83,7 @@ fn judge_record(from: Walk, row: &[u32], k: usize) -> Stepped
 // A position of type `kind`.
 fn judge_place(w: Walk, row: &[u32], k: usize, kind: u64) -> Stepped
     requires { k ≤ 2 ^ 41 }
-    ensures { result ≡ placed_judged row.now kind k w }
+    ensures { stepped result ≡ placed_judged row.now kind k (seen w) }
 {
     if kind == PORT {
         let walk = w.value(6, entry(row, k, 0), 0, 63);
@@ -96,7 +97,7 @@ fn judge_place(w: Walk, row: &[u32], k: usize, kind: u64) -> Stepped
 // Time, sign and value of n entries: one by one only where one of them is refused.
 fn judge_entries(from: Walk, row: &[u32], k: usize, n: usize) -> Walk
     requires { (n ≤ 511) × (k ≤ 2 ^ 41) }
-    ensures { result ≡ entries_judged row.now n k from }
+    ensures { seen result ≡ entries_judged row.now n k (seen from) }
 {
     if all_good(from, row, k, n) {
         return pass(from, row, k, n);
@@ -110,7 +111,7 @@ fn judge_entries(from: Walk, row: &[u32], k: usize, n: usize) -> Walk
 
 fn judge_entry(w: Walk, row: &[u32], k: usize) -> Walk
     requires { k ≤ 2 ^ 42 }
-    ensures { result ≡ entry_judged row.now k w }
+    ensures { seen result ≡ entry_judged row.now k (seen w) }
 {
     let sign = entry(row, k + 1, 1);
     let time = notice_fields::parts::judged_time(w, entry(row, k, SOME_TIME));
@@ -139,7 +140,7 @@ fn put_head(buf: &mut [u8], count: u16)
     bits::put(buf, 0, 8, CODE);
     bits::put(buf, 8, 3, VERSION);
     bits::put(buf, 11, 1, CLASS);
-    bits::put(buf, 12, 9, count as u64);
+    bits::put(buf, 12, 9, u64::from(count));
 }
 
 // The numbers of the first `count` records: where they end. Of a row that was not judged, a count of entries is taken by its nine

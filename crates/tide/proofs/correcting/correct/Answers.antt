@@ -1,20 +1,54 @@
--- `correct` is the correction in place of every layout, with the tide's walk before the change and the fields' behind it, and where the walk found the field.
-use mathlib.Core.Path.{sym, ap, ◌∙◌}
-use Rattle.format.specs.Refusals.{Verdict}
-use Rattle.format.proofs.Laws.Correcting.{in_place}
-use Rattle.tide.specs.Tide.{tides}
+-- `correct` is the correction in place of every family, with the tide's walk before the change and the fields' behind it, and where the walk found the field.
+use Rattle.std.specs.Prelude.{◌≡◌, ◌≤◌, refl, [], List, ℕ, length, Result}
+use Rattle.std.proofs.Common.{rules, sym, ap, ◌∙◌, subst}
 use Rattle.format.specs.Codes.{headed}
-use Rattle.tide.specs.Laws.Sound.{sound, judged}
-use Rattle.tide.specs.Laws.Told.{walked_told, stands, fields_again, fields_are}
+use Rattle.format.specs.Correcting.{standing}
+use Rattle.format.specs.Fmt.{accepted, spot}
+use Rattle.format.specs.Message.{told, read_message}
+use Rattle.format.specs.Promises.{plain, read_record, Corrects}
+use Rattle.format.specs.Refusals.{Verdict, shown, told_of}
+use Rattle.format.specs.declared.Refusal.{Refusal}
+use Rattle.walk.specs.Walk.{seen}
+use Rattle.tide.specs.declared.reading.Course.{Course as Declared}
+use Rattle.format.specs.Laws.Correcting.{own_refusal}
+use Rattle.format.specs.Laws.Outcomes.{number_some, told_exit}
+use Rattle.format.specs.Laws.Round.{also_inv}
+use Rattle.format.proofs.Laws.Corrections.{family_in_place}
+use Rattle.format.proofs.Laws.Family.{record_values}
+use Rattle.tide.specs.Record.{Whole, values_of, record_of}
+use Rattle.tide.specs.Standing.{front, records_at}
+use Rattle.tide.specs.Steps.{Course, course, course_of, behind, head_read, fields_read}
+use Rattle.tide.specs.Tide.{tides}
+use Rattle.tide.specs.Laws.Demands.{family}
+use Rattle.tide.specs.Laws.Told.{walked_good, walked_told, stands, fields_again, fields_are}
 use Rattle.tide.proofs.correcting.correct.Goals as goal
+
+-- where the walk of a telegram that was read found the field
+found_so : (i : ℕ) (s : List ℕ) (f : Course) → f ≡ course_of i s → (q : Whole) → read_record tides record_of s ≡ accepted q → spot tides.fmt [] (values_of q) i ≡ standing f.walk.spot f.walk.width
+found_so i s f d q e =
+    let (vs, m, k) = also_inv record_of (read_message tides s) e in
+    ap (λ vs. spot tides.fmt [] vs i) (ap values_of (sym k) ∙ record_values family s vs m) ∙ stands i s f d vs m
+
+-- what the fields anew tell
+again : (t : List ℕ) (d : Result Unit Refusal) → length t ≤ 210 → (g : Declared) → course g ≡ behind t (head_read 0 t) → told_of d ≡ shown (seen g.walk).code (seen g.walk).offset → told_of d ≡ told (fields_read t)
+again t d small g is e = e ∙ fields_again t small is
+
+pub returns-in_err-was : goal.returns-in_err-was
+returns-in_err-was c =
+    let a = c.args in
+    let s = a.buf.now in
+    let told = c.in_err-was.ensures.told ∙ walked_told a.field s (course_of a.field s) refl in
+    subst (λ v. Corrects tides s a.field a.value v s) (sym (told_exit c.from_residual.result _ c.from_residual.ensures.1)) (own_refusal tides s a.field a.value told (number_some _))
 
 pub returns : goal.returns
 unfolding tides headed
 returns c =
     let a = c.args in
-    let i = a.field in
     let s = a.buf.now in
-    let r = c.fields-was.result in
-    let x = c.fields-was.ensures in
-    in_place tides sound judged s i a.value r.walk.spot r.walk.width (c.refusal.ensures ∙ walked_told i s r x) (stands i s r x) (fields_are i s x).walked.slim (λ i. (c.slice_known-1.given i).fits)
-    c.begin-begun.ensures (λ z same. c.refusal-2.ensures ∙ fields_again i s r x (ap (λ (r : Verdict). r.code) (sym c.refusal.ensures) ∙ z) _ same c.walked-again.ensures) c.finish.ensures
+    let i = a.field in
+    let f = course c.in_ok-was.was' in
+    let x = c.in_ok-was.ensures in
+    let good = walked_good i s f x.passed (ap (λ (f : Course). f.walk.code) x.passed ∙ sym (ap (λ (v : Verdict). v.code) x.told)) in
+    family_in_place family s (λ i. (c.slice_known-1.given i).fits) i a.value _ _ (f.tide, records_at s f.tide.count front) (ap plain (sym good))
+    (found_so i s f x.passed) (fields_are i s x.passed).walked.slim
+    (λ t d least most z. search (rules, again t d most)) c.in_place.ensures

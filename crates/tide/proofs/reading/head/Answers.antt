@@ -1,6 +1,5 @@
 -- `head` walks the codes and the count.
-use mathlib.Core.Path.{ap, ◌∙◌}
-use mathlib.Core.Bool.{false}
+use Rattle.std.proofs.Common.{ap, ◌∙◌, false}
 use Rattle.walk.specs.Reading.{ranged}
 use Rattle.walk.specs.Walk.{Walk}
 use Rattle.tide.proofs.reading.head.Goals as goal

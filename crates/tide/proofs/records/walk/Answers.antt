@@ -3,7 +3,9 @@ use Prim.Native.Nat.{◌+◌, ◌-◌}
 use mathlib.Core.Path.{◌≡◌, sym, ap, ◌∙◌}
 use mathlib.Core.Bool.{cond}
 use native.Mathlib.Omega.{arith}
-use borrow.Author.Tests.{eq-eqb, ne_eqb}
+use Rattle.std.proofs.Common.{eqb-true}
+use Rattle.walk.specs.Walk.{seen}
+use Rattle.notice_fields.specs.Laws.Verdicts.{refused, passed}
 use Rattle.walk.specs.Groups.{repeat_walked}
 use Rattle.tide.specs.Steps.{entry_step, records_walked}
 use Rattle.tide.specs.Laws.Turns.{record_turn}
@@ -11,14 +13,14 @@ use Rattle.tide.proofs.records.walk.Invariants.{next}
 use Rattle.tide.proofs.records.walk.Goals as goal
 
 pub records-init : goal.records-init
-records-init c = let a = c.args in let e : a.count ≡ a.count - 0 = omega arith in ap (λ n. records_walked a.s.now n a.from) e
+records-init c = let a = c.args in let e : a.count ≡ a.count - 0 = omega arith in ap (λ n. records_walked a.s.now n (seen a.from)) e
 
 pub entries-init : goal.entries-init
 entries-init c =
     let a = c.args in
     let n = c.open_record-w.result.v in
     let e : n ≡ n - 0 = omega arith in
-    (omega arith, ap (λ m. repeat_walked m (entry_step a.s.now) (next a.s.now a.count c.records.counter) c.open_record-w.result) e, c.if-w-ne0.false)
+    (omega arith, ap (λ m. repeat_walked m (entry_step a.s.now) (next a.s.now a.count c.records.counter) (seen c.open_record-w.result)) e, eqb-true _ 0 (passed c.open_record-w.result (sym c.is_err.ensures.value ∙ c.if-is_err.false)))
 
 pub overflow_add-j : goal.overflow_add-j
 overflow_add-j c =
@@ -34,10 +36,10 @@ entries-preserved c =
     let on = next s a.count c.records.counter in
     let n = c.open_record-w.result.v - c.entries.j in
     let x = c.pass-run.result in
-    let w = x.walk in
+    let w = seen x.walk in
     let (some, few, so) = c.pass-run.ensures in
     let left : n - x.count ≡ c.open_record-w.result.v - (c.entries.j + x.count) = omega (arith, few) in
-    (omega (arith, few), c.entries.invariant.1 ∙ so on ∙ ap (λ b. cond b (repeat_walked (n - x.count) (entry_step s) on w) w) (eq-eqb w.code 0 c.if-w-ne0-2.false) ∙ ap (λ n. repeat_walked n (entry_step s) on w) left, c.if-w-ne0-2.false)
+    (omega (arith, few), c.entries.invariant.1 ∙ so on ∙ ap (λ b. cond b (repeat_walked (n - x.count) (entry_step s) on w) w) (passed x.walk (sym c.is_err-in-entries.ensures.value ∙ c.if-is_err-2.false)) ∙ ap (λ n. repeat_walked n (entry_step s) on w) left, eqb-true _ 0 (passed x.walk (sym c.is_err-in-entries.ensures.value ∙ c.if-is_err-2.false)))
 
 pub records-preserved : goal.records-preserved
 unfolding repeat_walked
@@ -45,38 +47,38 @@ records-preserved c =
     let a = c.args in
     let s = a.s.now in
     let n = a.count - (c.records.counter + 1) in
-    let w = c.open_record-w.result in
+    let w = seen c.open_record-w.result in
     let none : w.v - c.entries.j ≡ 0 = omega arith in
-    c.records.invariant ∙ record_turn s n {m = a.count - c.records.counter} c.records.w (omega arith) c.open_record-w.ensures
-    ∙ ap (λ b. cond b (repeat_walked w.v (entry_step s) (records_walked s n) w) w) (eq-eqb w.code 0 c.if-w-ne0.false)
-    ∙ c.entries.invariant.1 ∙ ap (λ m. repeat_walked m (entry_step s) (records_walked s n) c.entries.w) none
+    c.records.invariant ∙ record_turn s n {m = a.count - c.records.counter} (seen c.records.w) (omega arith) c.open_record-w.ensures
+    ∙ ap (λ b. cond b (repeat_walked w.v (entry_step s) (records_walked s n) w) w) (passed c.open_record-w.result (sym c.is_err.ensures.value ∙ c.if-is_err.false))
+    ∙ c.entries.invariant.1 ∙ ap (λ m. repeat_walked m (entry_step s) (records_walked s n) (seen c.entries.w)) none
 
 pub returns-after-records : goal.returns-after-records
 unfolding repeat_walked
 returns-after-records c =
     let a = c.args in
     let none : a.count - c.records.counter ≡ 0 = omega arith in
-    sym (c.records.invariant ∙ ap (λ m. records_walked a.s.now m c.records.w) none)
+    sym (c.records.invariant ∙ ap (λ m. records_walked a.s.now m (seen c.records.w)) none)
 
-pub returns-then-w-ne0 : goal.returns-then-w-ne0
-returns-then-w-ne0 c =
+pub returns-then-is_err : goal.returns-then-is_err
+returns-then-is_err c =
     let a = c.args in
     let s = a.s.now in
     let n = a.count - (c.records.counter + 1) in
-    let w = c.open_record-w.result in
-    sym (c.records.invariant ∙ record_turn s n c.records.w (omega arith) c.open_record-w.ensures
-    ∙ ap (λ b. cond b (repeat_walked w.v (entry_step s) (records_walked s n) w) w) (ne_eqb w.code 0 c.if-w-ne0.true))
+    let w = seen c.open_record-w.result in
+    sym (c.records.invariant ∙ record_turn s n (seen c.records.w) (omega arith) c.open_record-w.ensures
+    ∙ ap (λ b. cond b (repeat_walked w.v (entry_step s) (records_walked s n) w) w) (refused c.open_record-w.result (sym c.is_err.ensures.value ∙ c.if-is_err.true)))
 
-pub returns-then-w-ne0-2 : goal.returns-then-w-ne0-2
-returns-then-w-ne0-2 c =
+pub returns-then-is_err-2 : goal.returns-then-is_err-2
+returns-then-is_err-2 c =
     let a = c.args in
     let s = a.s.now in
     let m = a.count - (c.records.counter + 1) in
     let on = records_walked s m in
-    let u = c.open_record-w.result in
+    let u = seen c.open_record-w.result in
     let n = u.v - c.entries.j in
     let x = c.pass-run.result in
-    let w = x.walk in
-    sym (c.records.invariant ∙ record_turn s m c.records.w (omega arith) c.open_record-w.ensures
-    ∙ ap (λ b. cond b (repeat_walked u.v (entry_step s) on u) u) (eq-eqb u.code 0 c.if-w-ne0.false)
-    ∙ c.entries.invariant.1 ∙ c.pass-run.ensures.2 on ∙ ap (λ b. cond b (repeat_walked (n - x.count) (entry_step s) on w) w) (ne_eqb w.code 0 c.if-w-ne0-2.true))
+    let w = seen x.walk in
+    sym (c.records.invariant ∙ record_turn s m (seen c.records.w) (omega arith) c.open_record-w.ensures
+    ∙ ap (λ b. cond b (repeat_walked u.v (entry_step s) on u) u) (passed c.open_record-w.result (sym c.is_err.ensures.value ∙ c.if-is_err.false))
+    ∙ c.entries.invariant.1 ∙ c.pass-run.ensures.2 on ∙ ap (λ b. cond b (repeat_walked (n - x.count) (entry_step s) on w) w) (refused x.walk (sym c.is_err-in-entries.ensures.value ∙ c.if-is_err-2.true)))
