@@ -56,6 +56,14 @@ one_told (Ok a) (Err g) e = absurd (number_some g.reason (sym (ap (λ v. v.code)
 one_told (Err f) (Ok b) e = absurd (number_some f.reason (ap (λ v. v.code) e))
 one_told (Err f) (Err g) e = ap Err (one_refusal f g e)
 
+pub one_outcome : {R : Type 0} (x y : Result R Refusal) → out_of x ≡ out_of y → x ≡ y
+one_outcome (Ok a) (Ok b) e = let same : a ≡ b = cc in ap Ok same
+one_outcome (Ok a) (Err g) e = absurd cc
+one_outcome (Err f) (Ok b) e = absurd cc
+one_outcome (Err f) (Err g) e =
+    let told : seen_refusal f ≡ seen_refusal g = ap verdict_of e in
+    ap Err (one_refusal f g told)
+
 -- ---- tests
 
 pub refused_code : {A : Type 0} (x : Result A Reason) → is_err x ≡ true → code_of x ≡ 0 → ⊥
