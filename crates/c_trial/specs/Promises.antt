@@ -5,7 +5,7 @@ use Rattle.format.specs.Refusals.{Verdict}
 use Rattle.packet.specs.Packet.{packets, record_of as packet_of}
 use Rattle.places.specs.Desk.{refusal_of, applied, accepting, asking, dropping, laid_within}
 use Rattle.places.specs.declared.Place.{Place}
-use Rattle.places.specs.declared.Reply.{Reply}
+use Rattle.places.specs.Replies.{Reply}
 use Rattle.desk_bytes.specs.Promises.{again_of, count_of, language_of}
 use Rattle.txsq.specs.Txsq.{txsqs, record_of as txsq_of}
 use Rattle.txxx.specs.Txxx.{txxxs, record_of as txxx_of}

@@ -12,8 +12,8 @@ use Rattle.places.specs.Desk.{store_bytes, Asking, not_answered, lists, hands_ou
 use Rattle.places.specs.Places.{freed, four_places}
 use Rattle.places.specs.Promises.{Hands}
 use Rattle.places.specs.declared.Place.{Place}
-use Rattle.places.specs.declared.Reply.TheVariants.{Joined, Missing}
-use Rattle.places.specs.declared.Turn.{Turn}
+use Rattle.places.specs.Replies.{Joined, Missing}
+use Rattle.places.specs.Replies.{Turn}
 use Rattle.places.specs.Laws.Good.{Sized}
 use Rattle.places.specs.Laws.Joined.{held_below, joined_length}
 

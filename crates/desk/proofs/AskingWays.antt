@@ -11,8 +11,8 @@ use Rattle.places.specs.Desk.{store_bytes, first_tests, turn_of, Asking, answers
 use Rattle.places.specs.Places.{freed, four_places, place_at, front, open_at, one_of_four}
 use Rattle.places.specs.Promises.{Hands, AskTurn, DropTurn}
 use Rattle.places.specs.declared.Place.{Place}
-use Rattle.places.specs.declared.Reply.TheVariants.{Done}
-use Rattle.places.specs.declared.Turn.{Turn}
+use Rattle.places.specs.Replies.{Done}
+use Rattle.places.specs.Replies.{Turn}
 use Rattle.places.specs.Laws.Four.{front_is, turn_first, one_some, one_none, last_of_four}
 use Rattle.places.specs.Laws.Good.{Sized, open_sized, tests_passed}
 use Rattle.places.specs.Laws.Outcomes.{asking_found, dropping_found}

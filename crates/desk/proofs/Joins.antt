@@ -14,7 +14,7 @@ use Rattle.places.specs.Places.{held, holding, lacks}
 use Rattle.places.specs.Desk.{stays, turned_away, taken, in_cell_of, alike, contradicts, joins}
 use Rattle.places.specs.Laws.Alike.{alike_same}
 use Rattle.places.specs.declared.Place.{Place}
-use Rattle.places.specs.declared.Reply.TheVariants.{Again}
+use Rattle.places.specs.Replies.{Again}
 
 module _ (s : List ℕ) (i : ℕ) (p : Place) (r : Packet) (c : List ℕ) where
   abbrev pub agree : Bool

@@ -20,8 +20,8 @@ use Rattle.places.specs.Desk.{Accepting, turn_of, turned_away, joins, opens, fir
 use Rattle.places.specs.Promises.{Gives, AcceptTurn}
 use Rattle.places.specs.Laws.Four.{front_is, turn_first}
 use Rattle.places.specs.declared.Place.{Place}
-use Rattle.places.specs.declared.Reply.TheVariants.{Refused}
-use Rattle.places.specs.declared.Turn.{Turn}
+use Rattle.places.specs.Replies.{Refused}
+use Rattle.places.specs.Replies.{Turn}
 
 -- a turn of the first place alone is one of the four
 pub of_four : (ps : List Place) (s m : List ℕ) (o : Accepting) (r : Turn) (t : List ℕ) → accepting ps s m ≡ o → Gives (place_at ps 0) o r t → AcceptTurn ps s m r t

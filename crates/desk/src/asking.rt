@@ -1,7 +1,9 @@
 // Asking for a notice at the desk, and dropping one (paper 01, "The desk"): the four places by value, over the lent store.
+ghost use Rattle.places.specs.Places.{place_at};
 ghost use Rattle.places.specs.Promises.{AskTurn, DropTurn};
+ghost use Rattle.places.specs.Replies.{turned};
 
-use format::Refusal;
+use format::{Reason, Refusal};
 use places::{PLACES, Place, Reply, Turn};
 
 mod answering;
@@ -14,36 +16,29 @@ pub fn ask(
     number: u8,
     notice: &mut [u8],
     missing: &mut [u16],
-) -> Turn
-    ensures { AskTurn places store.now number notice.old missing.old result notice.new missing.new }
+) -> Result<Turn, Refusal>
+    ensures { AskTurn places store.now number notice.old missing.old (turned (place_at places 0) result) notice.new missing.new }
 {
-    let code = places::first_tests(&places, store);
-    if code != 0 {
-        return Turn::staying(places[0], Reply::Refused(Refusal::bare(code)));
-    }
+    places::first_tests(&places, store)?;
     let Some(at) = places::open_at(&places, number) else {
-        return Turn::staying(places[0], Reply::Refused(Refusal::UNKNOWN));
+        return Err(Reason::Unknown.into());
     };
     let p = places::place_at(&places, at);
     answering::answer(places[0], at, p, store, notice, missing)
 }
 
 // The notice of that message number is given up, and its place free.
-pub fn drop(places: [Place; PLACES], store: &[u8], number: u8) -> Turn
-    ensures { DropTurn places store.now number result }
+pub fn drop(places: [Place; PLACES], store: &[u8], number: u8) -> Result<Turn, Refusal>
+    ensures { DropTurn places store.now number (turned (place_at places 0) result) }
 {
-    let code = places::first_tests(&places, store);
-    if code != 0 {
-        return Turn::staying(places[0], Reply::Refused(Refusal::bare(code)));
-    }
+    places::first_tests(&places, store)?;
     let Some(at) = places::open_at(&places, number) else {
-        return Turn::staying(places[0], Reply::Refused(Refusal::UNKNOWN));
+        return Err(Reason::Unknown.into());
     };
     let dropped = places::place_at(&places, at);
-    let place = dropped.freed();
-    Turn {
+    Ok(Turn {
         at,
-        place,
+        place: dropped.freed(),
         reply: Reply::Done,
-    }
+    })
 }

@@ -4,27 +4,25 @@
 ghost use Rattle.std.specs.Prelude.{◌≡◌, ◌≤◌, length};
 ghost use Rattle.places.specs.Places.{four_places, front};
 ghost use Rattle.places.specs.Promises.{Accepts, Asks, Drops};
+ghost use Rattle.places.specs.Replies.{replied};
 
-use format::Refusal;
+use format::{Reason, Refusal};
 use places::{PLACES, Place, Reply};
 
 pub mod accepting;
 pub mod asking;
 
-// What asking and dropping are refused by where the row is too short.
-const SHORT: Refusal = Refusal::ROOM;
-
 // A packet comes in. Its own refusal comes before that of a row too short.
-pub fn accept(places: &mut [Place], store: &mut [u8], packet: &[u8]) -> Reply
-    ensures { Accepts places.old store.old packet.now result places.new store.new }
+pub fn accept(places: &mut [Place], store: &mut [u8], packet: &[u8]) -> Result<Reply, Refusal>
+    ensures { Accepts places.old store.old packet.now (replied result) places.new store.new }
 {
     if places.len() < PLACES {
-        return crate::accepting::unplaced(packet);
+        return Err(crate::accepting::unplaced(packet));
     }
     let four = front(places);
-    let accepted = crate::accepting::accept(four, store, packet);
+    let accepted = crate::accepting::accept(four, store, packet)?;
     places[accepted.at] = accepted.place;
-    accepted.reply
+    Ok(accepted.reply)
 }
 
 // A notice is asked for: its bytes go into `notice`, or the numbers that are missing into `missing`.
@@ -34,29 +32,29 @@ pub fn ask(
     number: u8,
     notice: &mut [u8],
     missing: &mut [u16],
-) -> Reply
-    ensures { Asks places.old store.now number notice.old missing.old result places.new notice.new missing.new }
+) -> Result<Reply, Refusal>
+    ensures { Asks places.old store.now number notice.old missing.old (replied result) places.new notice.new missing.new }
 {
     if places.len() < PLACES {
-        return Reply::Refused(SHORT);
+        return Err(Reason::Room.into());
     }
     let four = front(places);
-    let asked = crate::asking::ask(four, store, number, notice, missing);
+    let asked = crate::asking::ask(four, store, number, notice, missing)?;
     places[asked.at] = asked.place;
-    asked.reply
+    Ok(asked.reply)
 }
 
 // A notice is dropped.
-pub fn drop(places: &mut [Place], store: &[u8], number: u8) -> Reply
-    ensures { Drops places.old store.now number result places.new }
+pub fn drop(places: &mut [Place], store: &[u8], number: u8) -> Result<Reply, Refusal>
+    ensures { Drops places.old store.now number (replied result) places.new }
 {
     if places.len() < PLACES {
-        return Reply::Refused(SHORT);
+        return Err(Reason::Room.into());
     }
     let four = front(places);
-    let dropped = crate::asking::drop(four, store, number);
+    let dropped = crate::asking::drop(four, store, number)?;
     places[dropped.at] = dropped.place;
-    dropped.reply
+    Ok(dropped.reply)
 }
 
 // The first four places, by value.

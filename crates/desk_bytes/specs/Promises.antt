@@ -2,8 +2,8 @@
 use Rattle.std.specs.Prelude.{◌≡◌, List, ℕ}
 use Rattle.format.specs.Refusals.{Verdict}
 use Rattle.places.specs.Desk.{refusal_of, accepting, asking, dropping}
-use Rattle.places.specs.declared.Reply.{Reply}
-use Rattle.places.specs.declared.Reply.TheVariants.{Done, Again, Joined, Missing, Refused}
+use Rattle.places.specs.Replies.{Reply}
+use Rattle.places.specs.Replies.{Done, Again, Joined, Missing, Refused}
 use Rattle.desk_bytes.specs.Bytes.{row_in, changed_bytes}
 
 -- ---- what a reply leaves of a lent number x

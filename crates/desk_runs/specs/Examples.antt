@@ -9,7 +9,7 @@ use Rattle.format.specs.Words.{walk}
 use Rattle.packet.specs.Packet.{packet, packets, record_of}
 use Rattle.places.specs.Places.{blank, four_places, every_below, first_from, good_place, all_apart, good_places, open_at, free_at}
 use Rattle.places.specs.Desk.{store_bytes, alike, first_tests, joins, received, accepting, missing_below, joined_below, answers, asking, dropping}
-use Rattle.places.specs.declared.Reply.TheVariants.{Joined, Missing, Refused}
+use Rattle.places.specs.Replies.{Joined, Missing, Refused}
 use Rattle.desk_runs.specs.Runs.{Empty, empty, comes, drops, reply_to, run, asked}
 
 -- the theorems speak of the desk that the runs begin with

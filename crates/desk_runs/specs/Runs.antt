@@ -8,8 +8,8 @@ use Rattle.packet.specs.declared.reading.Packet.{Packet}
 use Rattle.places.specs.Places.{blank, four_places, place_at}
 use Rattle.places.specs.Desk.{store_bytes, refusal_of, applied, accepting, Asking, asking, dropping}
 use Rattle.places.specs.declared.Place.{Place}
-use Rattle.places.specs.declared.Reply.{Reply}
-use Rattle.places.specs.declared.Reply.TheVariants.{Joined, Missing, Refused}
+use Rattle.places.specs.Replies.{Reply}
+use Rattle.places.specs.Replies.{Joined, Missing, Refused}
 
 -- ---- calls and runs
 

@@ -6,7 +6,7 @@ use Rattle.format.specs.Message.{ahead}
 use Rattle.format.specs.Promises.{read_record}
 use Rattle.packet.specs.Packet.{packets, record_of}
 use Rattle.packet.specs.Splitter.{packet_count, packet_of}
-use Rattle.places.specs.declared.Reply.TheVariants.{Joined}
+use Rattle.places.specs.Replies.{Joined}
 use Rattle.desk_runs.specs.Runs.{Call, comes, Part, brings, frees, Given}
 
 -- the packets of message number n that calls bring, the last of them in front

@@ -5,8 +5,8 @@ use Rattle.format.specs.Refusals.{bare}
 use Rattle.packet.specs.Packet.{packets, record_of}
 use Rattle.places.specs.Places.{four_places}
 use Rattle.places.specs.Desk.{alike}
-use Rattle.places.specs.declared.Reply.{Reply}
-use Rattle.places.specs.declared.Reply.TheVariants.{Done, Again, Refused}
+use Rattle.places.specs.Replies.{Reply}
+use Rattle.places.specs.Replies.{Done, Again, Refused}
 use Rattle.desk_runs.specs.Runs.{Call, Part, since, came, content_of}
 
 -- ---- how many notices are open

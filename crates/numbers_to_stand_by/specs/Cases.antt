@@ -12,8 +12,8 @@ use Rattle.distress.specs.declared.reading.Report.{Report}
 use Rattle.notice.specs.Notice.{ours, notices}
 use Rattle.notice.specs.Record.{Whole, headed, record_of as notice_of, values_of as notice_values}
 use Rattle.packet.specs.Packet.{packets, values_of as packet_values, record_of as packet_record}
-use Rattle.places.specs.declared.Reply.{Reply}
-use Rattle.places.specs.declared.Reply.TheVariants.{Done, Again, Joined, Missing, Refused}
+use Rattle.places.specs.Replies.{Reply}
+use Rattle.places.specs.Replies.{Done, Again, Joined, Missing, Refused}
 use Rattle.desk_runs.specs.Runs.{Call, comes, empty, run, number_of, log, asked}
 use Rattle.ais.specs.Slots.{slots_for}
 use Rattle.outline.specs.Promises.{drawn}

@@ -8,9 +8,9 @@ use Rattle.packet.specs.Packet.{part_bytes_of, joined, packets, record_of}
 use Rattle.packet.specs.declared.reading.Packet.{Packet}
 use Rattle.places.specs.Places.{held, lacks, opened, holding, freed, four_places, place_at, front, good_places, open_at, free_at}
 use Rattle.places.specs.declared.Place.{Place}
-use Rattle.places.specs.declared.Reply.{Reply}
-use Rattle.places.specs.declared.Reply.TheVariants.{Done, Again, Joined, Missing, Refused}
-use Rattle.places.specs.declared.Turn.{Turn}
+use Rattle.places.specs.Replies.{Reply}
+use Rattle.places.specs.Replies.{Done, Again, Joined, Missing, Refused}
+use Rattle.places.specs.Replies.{Turn}
 
 -- ---- the store
 

@@ -3,8 +3,8 @@ use Rattle.std.specs.Prelude.{◌≡◌, List, [], ◌∷◌, ℕ, ◌<◌}
 use Rattle.places.specs.Desk.{Accepting, Asking, applied, turn_of, accepting, asking, dropping}
 use Rattle.places.specs.Places.{four_places}
 use Rattle.places.specs.declared.Place.{Place}
-use Rattle.places.specs.declared.Reply.{Reply}
-use Rattle.places.specs.declared.Turn.{Turn}
+use Rattle.places.specs.Replies.{Reply}
+use Rattle.places.specs.Replies.{Turn}
 
 -- ---- over a lent row of places: the reply a, the row qs left
 

@@ -1,21 +1,23 @@
 // The four places of the desk (paper 01, "The desk"): the first tests of every call, and which place is meant.
 ghost use Rattle.std.specs.Prelude.{◌≡◌, cond, ltb};
+ghost use Rattle.format.specs.Refusals.{code_of};
 ghost use Rattle.places.specs.Places.{all_apart, place_at, good_places, open_at, free_at, one_of_four};
 ghost use Rattle.places.specs.Desk.{first_tests};
 
 use crate::{PLACES, Place, STORE};
+use format::Reason;
 
 // The first tests of every call: a store too short (6), then the places themselves (4).
-pub fn first_tests(places: &[Place; PLACES], store: &[u8]) -> u8
-    ensures { result ≡ first_tests places.now store.now }
+pub fn first_tests(places: &[Place; PLACES], store: &[u8]) -> Result<(), Reason>
+    ensures { code_of result ≡ first_tests places.now store.now }
 {
     if store.len() < STORE {
-        return format::ROOM;
+        return Err(Reason::Room);
     }
-    if sound(places) {
-        return 0;
+    if !sound(places) {
+        return Err(Reason::Range);
     }
-    format::RANGE
+    Ok(())
 }
 
 // Whether no two are open with one number, and each that is open is good.

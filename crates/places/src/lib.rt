@@ -1,13 +1,15 @@
 // A place of the desk (paper 01, "The desk"), by value; the tests of all four are in `four`.
 #![tactic(auto)]
 
-ghost use Rattle.std.specs.Prelude.{◌≡◌, not, cond, ◌&&◌, [], ◌∷◌, ltb};
+ghost use Rattle.std.specs.Prelude.{◌≡◌, Ok, not, cond, ◌&&◌, [], ◌∷◌, ltb};
 ghost use Rattle.packet.specs.Packet.{most_packets, part_bytes_of};
+ghost use Rattle.format.specs.Refusals.{told_of};
+ghost use Rattle.places.specs.Replies.{said, turned};
 ghost use Rattle.places.specs.Places.{every_below, lacks, entry_good, good_place, passes, serves, clash, freed};
 ghost use Rattle.places.specs.Desk.{laid_within, refusal_of, stays, turn_of};
 
 pub use crate::four::{first_tests, free_at, open_at, place_at};
-use format::Refusal;
+use format::{Reason, Refusal};
 use packet::{JOINED, MOST, PART};
 
 pub mod four;
@@ -37,7 +39,6 @@ pub enum Reply {
     Joined(usize, u8),
     // It is not complete: how many numbers are missing.
     Missing(usize),
-    Refused(Refusal),
 }
 
 // What a call makes of the places: place `at` becomes `place`, and no other changes.
@@ -55,14 +56,13 @@ pub const PLACES: usize = 4;
 pub const STORE: usize = PLACES * JOINED;
 
 impl Reply {
-    // Its refusal: none for success, 9 for a list of missing numbers.
-    pub fn refusal(self) -> Refusal
-        ensures { result ≡ refusal_of self }
+    // What is told of it: 9 for a list of missing numbers.
+    pub fn told(self) -> Result<(), Refusal>
+        ensures { told_of result ≡ refusal_of (said self) }
     {
         match self {
-            Reply::Done | Reply::Again | Reply::Joined(_, _) => Refusal::NONE,
-            Reply::Missing(_) => Refusal::INCOMPLETE,
-            Reply::Refused(refusal) => refusal,
+            Reply::Done | Reply::Again | Reply::Joined(_, _) => Ok(()),
+            Reply::Missing(_) => Err(Reason::Incomplete.into()),
         }
     }
 }
@@ -70,7 +70,7 @@ impl Reply {
 impl Turn {
     // No place changes: the first one again.
     pub fn staying(first: Place, reply: Reply) -> Turn
-        ensures { result ≡ turn_of (first ∷ []) reply stays }
+        ensures { turned first (Ok result) ≡ turn_of (first ∷ []) (said reply) stays }
     {
         Turn {
             at: 0,

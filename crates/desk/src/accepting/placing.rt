@@ -4,8 +4,9 @@ ghost use Rattle.packet.specs.Packet.{most_packets, part_bytes_of};
 ghost use Rattle.places.specs.Places.{held, opened, holding, four_places, place_at, free_at};
 ghost use Rattle.places.specs.Desk.{store_bytes, alike, joins, opens};
 ghost use Rattle.places.specs.Promises.{Gives};
+ghost use Rattle.places.specs.Replies.{turned};
 
-use format::Refusal;
+use format::{Reason, Refusal};
 use packet::{JOINED, MOST, PART, Packet};
 use places::{PLACES, Place, Reply, Turn};
 
@@ -17,28 +18,28 @@ pub(crate) fn join(
     store: &mut [u8],
     r: Packet,
     content: &[u8],
-) -> Turn
+) -> Result<Turn, Refusal>
     requires { (i < four_places) × (store_bytes ≤ length store.old) × (held p r.own ≤ part_bytes_of) × (r.own < most_packets) × (length content.now ≤ part_bytes_of) }
-    ensures { Gives first (joins store.old i p r content.now) result store.new }
+    ensures { Gives first (joins store.old i p r content.now) (turned first result) store.new }
 {
     if !agrees(r, p) {
-        return Turn::staying(first, Reply::Refused(Refusal::CONTRADICTS));
+        return Err(Reason::Contradicts.into());
     }
     let own = r.own as usize;
     let size = p.sizes[own] as usize;
     let at = i * JOINED + own * PART;
     if size == 0 {
         places::lay(store, at, content);
-        return Turn {
+        return Ok(Turn {
             at: i,
             place: holding(p, own, content.len() as u8),
             reply: Reply::Done,
-        };
+        });
     }
     if same(&store[at..at + size], content) {
-        return Turn::staying(first, Reply::Again);
+        return Ok(Turn::staying(first, Reply::Again));
     }
-    Turn::staying(first, Reply::Refused(Refusal::CONTRADICTS))
+    Err(Reason::Contradicts.into())
 }
 
 // Whether the packet has the language and the total of its notice.
@@ -49,19 +50,24 @@ fn agrees(r: Packet, p: Place) -> bool
 }
 
 // It is not open: it opens the lowest free place.
-pub(crate) fn begin(places: &[Place; PLACES], store: &mut [u8], r: Packet, content: &[u8]) -> Turn
+pub(crate) fn begin(
+    places: &[Place; PLACES],
+    store: &mut [u8],
+    r: Packet,
+    content: &[u8],
+) -> Result<Turn, Refusal>
     requires { (store_bytes ≤ length store.old) × (r.own < most_packets) × (length content.now ≤ part_bytes_of) }
-    ensures { Gives (place_at places.now 0) (opens store.old (free_at places.now) r content.now) result store.new }
+    ensures { Gives (place_at places.now 0) (opens store.old (free_at places.now) r content.now) (turned (place_at places.now 0) result) store.new }
 {
     let Some(i) = places::free_at(places) else {
-        return Turn::staying(places[0], Reply::Refused(Refusal::TAKEN));
+        return Err(Reason::Taken.into());
     };
     places::lay(store, i * JOINED + r.own as usize * PART, content);
-    Turn {
+    Ok(Turn {
         at: i,
         place: opened(r, content.len() as u8),
         reply: Reply::Done,
-    }
+    })
 }
 
 // A place opened by a packet of `n` bytes: no other number is held.

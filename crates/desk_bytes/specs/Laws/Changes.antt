@@ -9,9 +9,9 @@ use Rattle.places.specs.Places.{four_places, place_at, front}
 use Rattle.places.specs.Laws.Row.{turned, accepting_short, asking_short, dropping_short}
 use Rattle.places.specs.Promises.{AcceptTurn, AskTurn, DropTurn}
 use Rattle.places.specs.declared.Place.{Place}
-use Rattle.places.specs.declared.Reply.{Reply}
-use Rattle.places.specs.declared.Reply.TheVariants.{Refused}
-use Rattle.places.specs.declared.Turn.{Turn}
+use Rattle.places.specs.Replies.{Reply}
+use Rattle.places.specs.Replies.{Refused}
+use Rattle.places.specs.Replies.{Turn}
 use Rattle.desk_bytes.specs.Bytes.{place_bytes, begins, place_in, row_in, bytes_of, changed_bytes}
 use Rattle.desk_bytes.specs.Laws.Fits.{moves, Fits, none, one, accepting_fits, asking_fits, dropping_fits}
 use Rattle.desk_bytes.specs.Promises.{again_of, count_of, language_of, AcceptsIn, AsksIn, DropsIn}

@@ -14,8 +14,8 @@ use Rattle.packet.specs.declared.reading.Packet.{Packet}
 use Rattle.places.specs.Desk.{Change, stays, turns, first_tests, Accepting, turned_away, contradicts, joins, received, accepting, Asking, missing_below, joined_below, not_answered, answers, asking, Dropping, dropping}
 use Rattle.places.specs.Places.{lacks, holding, opened, freed, four_places, place_at, front, open_at, free_at}
 use Rattle.places.specs.declared.Place.{Place}
-use Rattle.places.specs.declared.Reply.{Reply}
-use Rattle.places.specs.declared.Reply.TheVariants.{Done, Again, Joined, Missing, Refused}
+use Rattle.places.specs.Replies.{Reply}
+use Rattle.places.specs.Replies.{Done, Again, Joined, Missing, Refused}
 
 -- whether a reply comes with a place that changed
 abbrev pub moves : Reply → Bool

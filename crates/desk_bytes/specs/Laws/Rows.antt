@@ -9,7 +9,7 @@ use Rattle.places.specs.declared.Place.{Place}
 use Rattle.desk_bytes.specs.Bytes.{place_bytes, begins, total_behind, place_of, place_in, row_in, bytes_of, changed_bytes}
 use Rattle.desk_bytes.specs.Laws.Fits.{Fits, none, one, accepting_fits, asking_fits, dropping_fits}
 use Rattle.desk_bytes.specs.Laws.Changes.{four_in, row_long, sized}
-use Rattle.places.specs.declared.Reply.{Reply}
+use Rattle.places.specs.Replies.{Reply}
 
 -- ---- one place
 

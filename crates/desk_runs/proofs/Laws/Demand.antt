@@ -8,7 +8,7 @@ use Rattle.format.specs.Refusals.{bare}
 use Rattle.format.specs.Refusals.{Verdict}
 use Rattle.places.specs.Places.{good_places}
 use Rattle.places.specs.Desk.{refusal_of, first_tests}
-use Rattle.places.specs.declared.Reply.TheVariants.{Joined, Missing}
+use Rattle.places.specs.Replies.{Joined, Missing}
 use Rattle.desk_runs.specs.Runs.{Desk, Empty, Call, comes, asks, drops, number_of, run, log, Part, since, came, content_of, not_come, in_order_of, Complete, Given, asked, refusal, due}
 use Rattle.desk_runs.specs.Laws.Parts.{each_answer, Member, member_of, all_and_only}
 use Rattle.desk_runs.specs.Laws.Told.{Told, good_places_lem, tests_pass, its_place}

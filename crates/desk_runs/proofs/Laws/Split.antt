@@ -14,7 +14,7 @@ use Rattle.packet.specs.Splitter.{packet_count, part_of, packet_of}
 use Rattle.format.specs.Refusals.{bare}
 use Rattle.format.specs.Refusals.{Verdict}
 use Rattle.places.specs.Desk.{refusal_of}
-use Rattle.places.specs.declared.Reply.TheVariants.{Joined}
+use Rattle.places.specs.Replies.{Joined}
 use Rattle.places.specs.Laws.Front.{Unopened}
 use Rattle.desk_bytes.specs.Promises.{count_of, language_of, AsksIn}
 use Rattle.desk_runs.specs.Lent.{Lent, desk_in, EmptyIn, Run, calls_of}

@@ -17,7 +17,7 @@ use Rattle.packet.specs.Laws.Accepted.{Fit, read_fit}
 use Rattle.places.specs.Places.{blank, held, lacks, opened, holding, freed, four_places, place_at, front, open_at, free_at}
 use Rattle.places.specs.Desk.{cell, in_cell_of, laid, alike, applied, first_tests, stays, Accepting, turned_away, taken, contradicts, joins, opens, received, accepting, turns, Asking, not_answered, answers, asking, Dropping, dropping, missing_below, joined_below}
 use Rattle.places.specs.declared.Place.{Place}
-use Rattle.places.specs.declared.Reply.TheVariants.{Done, Again, Joined, Missing, Refused}
+use Rattle.places.specs.Replies.{Done, Again, Joined, Missing, Refused}
 use Rattle.places.specs.Laws.Alike.{alike_same}
 use Rattle.places.specs.Laws.Ends.{agreeing}
 use Rattle.places.specs.Laws.Front.{front_open, front_free, front_at, Unopened, open_found, open_none, free_found}

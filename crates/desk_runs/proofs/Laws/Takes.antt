@@ -13,7 +13,7 @@ use Rattle.packet.specs.Packet.{packets, record_of}
 use Rattle.places.specs.Places.{four_places, place_at, front, open_at, free_at}
 use Rattle.places.specs.Desk.{alike, refusal_of, Accepting, turned_away, joins, opens, received, accepting}
 use Rattle.places.specs.declared.Place.{Place}
-use Rattle.places.specs.declared.Reply.TheVariants.{Done, Again, Refused}
+use Rattle.places.specs.Replies.{Done, Again, Refused}
 use Rattle.places.specs.Laws.Alike.{same_alike}
 use Rattle.places.specs.Laws.Front.{front_open, front_free, front_at, open_found, open_none}
 use Rattle.desk_runs.specs.Runs.{Desk, Empty, Call, comes, reply_to, run, log, Part, since, came, content_of}

@@ -10,9 +10,9 @@ use Rattle.places.specs.Places.{freed, four_places, front}
 use Rattle.places.specs.Desk.{refusal_of, applied, first_tests, Accepting, accepting, Asking, asking, Dropping}
 use Rattle.places.specs.Promises.{Accepts, Asks, Drops, AcceptTurn, AskTurn, DropTurn}
 use Rattle.places.specs.declared.Place.{Place}
-use Rattle.places.specs.declared.Reply.{Reply}
-use Rattle.places.specs.declared.Reply.TheVariants.{Done, Joined}
-use Rattle.places.specs.declared.Turn.{Turn}
+use Rattle.places.specs.Replies.{Reply}
+use Rattle.places.specs.Replies.{Done, Joined}
+use Rattle.places.specs.Replies.{Turn}
 use Rattle.places.specs.Laws.Row.{accepts_row, asks_row, drops_row}
 use Rattle.places.specs.Laws.Taken.{Takes}
 use Rattle.places.specs.Laws.Ends.{accepting_so, asking_so, dropping_so, its, notice, without, whole, accepting_away, accepting_in, accepting_bit, asking_away, asking_lists, asking_hands, asking_bit, dropping_away, dropping_frees, dropping_bit}

@@ -4,8 +4,8 @@ use Rattle.places.specs.Places.{four_places}
 use Rattle.places.specs.Desk.{unplaced}
 use Rattle.places.specs.Promises.{Accepts}
 use Rattle.places.specs.declared.Place.{Place}
-use Rattle.places.specs.declared.Reply.{Reply}
-use Rattle.places.specs.declared.Reply.TheVariants.{Refused}
+use Rattle.places.specs.Replies.{Reply}
+use Rattle.places.specs.Replies.{Refused}
 use Rattle.places.specs.Laws.Row.{accepting_short}
 
 -- ---- fewer

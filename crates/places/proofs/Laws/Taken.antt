@@ -14,8 +14,8 @@ use Rattle.places.specs.Places.{every_below, held, passes, serves, clash, four_p
 use Rattle.places.specs.Desk.{refusal_of, applied, turn_of, first_tests, Accepting, joins, received, accepting}
 use Rattle.places.specs.Promises.{Accepts, AcceptTurn}
 use Rattle.places.specs.declared.Place.{Place}
-use Rattle.places.specs.declared.Reply.{Reply}
-use Rattle.places.specs.declared.Turn.{Turn}
+use Rattle.places.specs.Replies.{Reply}
+use Rattle.places.specs.Replies.{Turn}
 use Rattle.places.specs.Laws.Alike.{same_alike}
 use Rattle.places.specs.Laws.Below.{every_each, first_least}
 use Rattle.places.specs.Laws.Front.{front_open, front_free, front_at, Unopened, open_found}

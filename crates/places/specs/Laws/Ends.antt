@@ -19,7 +19,7 @@ use Rattle.packet.specs.declared.reading.Packet.{Packet}
 use Rattle.places.specs.Places.{lacks, freed, held, opened, holding, four_places, place_at, front, good_places, open_at, free_at}
 use Rattle.places.specs.Desk.{store_bytes, in_cell_of, alike, refusal_of, stays, turns, first_tests, Accepting, turned_away, taken, contradicts, joins, opens, received, accepting, Asking, not_answered, missing_below, joined_below, answers, asking, Dropping, dropping}
 use Rattle.places.specs.declared.Place.{Place}
-use Rattle.places.specs.declared.Reply.TheVariants.{Done, Again, Joined, Missing, Refused}
+use Rattle.places.specs.Replies.{Done, Again, Joined, Missing, Refused}
 use Rattle.places.specs.Laws.Alike.{alike_same}
 use Rattle.places.specs.Laws.Front.{front_open, front_free, front_at, open_found, open_none, free_found}
 use Rattle.places.specs.Laws.Taken.{Takes, lacking, holding_it, new, takes_zero}

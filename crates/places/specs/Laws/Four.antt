@@ -6,8 +6,8 @@ use Rattle.places.specs.Desk.{Accepting, Change, stays, turns, turn_of}
 use Rattle.places.specs.Places.{every_below, first_from, passes, serves, clash, four_places, place_at, front, one_of_four, all_apart, good_places, open_at, free_at}
 use Rattle.places.specs.Promises.{Gives}
 use Rattle.places.specs.declared.Place.{Place}
-use Rattle.places.specs.declared.Reply.{Reply}
-use Rattle.places.specs.declared.Turn.{Turn}
+use Rattle.places.specs.Replies.{Reply}
+use Rattle.places.specs.Replies.{Turn}
 
 module _ (a b c d : Place) where
   abbrev four : List Place

@@ -3,8 +3,8 @@ use Rattle.std.specs.Prelude.{◌≡◌, List, ℕ}
 use Rattle.format.specs.Laws.Family.{one_reading}
 use Rattle.places.specs.Promises.{Accepts, Asks, Drops, AcceptTurn, AskTurn, DropTurn}
 use Rattle.places.specs.declared.Place.{Place}
-use Rattle.places.specs.declared.Reply.{Reply}
-use Rattle.places.specs.declared.Turn.{Turn}
+use Rattle.places.specs.Replies.{Reply}
+use Rattle.places.specs.Replies.{Turn}
 
 module _ (ps : List Place) (s : List ℕ) where
   -- ---- by value

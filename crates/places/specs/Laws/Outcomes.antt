@@ -6,7 +6,7 @@ use Rattle.format.specs.Refusals.{bare}
 use Rattle.places.specs.Desk.{first_tests, stays, turns, not_answered, lists, hands_out, missing_below, joined_below, answers, asking, dropping}
 use Rattle.places.specs.Places.{freed, four_places, place_at, front, open_at}
 use Rattle.places.specs.declared.Place.{Place}
-use Rattle.places.specs.declared.Reply.TheVariants.{Done, Refused}
+use Rattle.places.specs.Replies.{Done, Refused}
 
 -- the first tests refuse, no place has that number, or one has
 module _ (ps : List Place) (s : List ℕ) (n : ℕ) where

@@ -12,9 +12,9 @@ use Rattle.places.specs.Places.{every_below, all_apart, four_places, blank, fron
 use Rattle.places.specs.Desk.{Change, stays, turns, applied, turn_of, store_bytes, first_tests, turned_away, accepting, unplaced, not_answered, asking, dropping}
 use Rattle.places.specs.Promises.{Accepts, Asks, Drops, AcceptTurn, AskTurn, DropTurn}
 use Rattle.places.specs.declared.Place.{Place}
-use Rattle.places.specs.declared.Reply.{Reply}
-use Rattle.places.specs.declared.Reply.TheVariants.{Refused}
-use Rattle.places.specs.declared.Turn.{Turn}
+use Rattle.places.specs.Replies.{Reply}
+use Rattle.places.specs.Replies.{Refused}
+use Rattle.places.specs.Replies.{Turn}
 
 -- ---- four places or more
 

@@ -6,7 +6,7 @@ use Rattle.packet.specs.declared.reading.Packet.{Packet}
 use Rattle.places.specs.Places.{held, opened, holding, four_places, place_at, free_at}
 use Rattle.places.specs.Desk.{in_cell_of, refusal_of, stays, Accepting, taken}
 use Rattle.places.specs.declared.Place.{Place}
-use Rattle.places.specs.declared.Reply.TheVariants.{Again}
+use Rattle.places.specs.Replies.{Again}
 use Rattle.places.specs.Laws.Front.{Unopened}
 
 -- ---- what has to be taken in

@@ -5,7 +5,7 @@ use borrow.Author.Rules.{rules}
 use Rattle.format.specs.Refusals.{bare}
 use Rattle.places.specs.Desk.{turn_of, stays}
 use Rattle.places.specs.Places.{place_at}
-use Rattle.places.specs.declared.Reply.TheVariants.{Refused}
+use Rattle.places.specs.Replies.{Refused}
 use Rattle.places.specs.Laws.Outcomes.{asking_refused, asking_unknown}
 use Rattle.places.specs.Laws.Four.{first_again}
 use Rattle.desk.proofs.AskingWays.{Found, nowhere, found, asks, asked}

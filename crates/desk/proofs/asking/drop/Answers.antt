@@ -4,8 +4,8 @@ use borrow.Author.Rules.{rules}
 use Rattle.format.specs.Refusals.{bare}
 use Rattle.places.specs.Desk.{turn_of, stays}
 use Rattle.places.specs.Places.{freed, place_at}
-use Rattle.places.specs.declared.Reply.TheVariants.{Done, Refused}
-use Rattle.places.specs.declared.Turn.{Turn}
+use Rattle.places.specs.Replies.{Done, Refused}
+use Rattle.places.specs.Replies.{Turn}
 use Rattle.places.specs.Laws.Outcomes.{dropping_refused, dropping_unknown}
 use Rattle.places.specs.Laws.Four.{first_again}
 use Rattle.desk.proofs.AskingWays.{nowhere, found, drops, dropped}

@@ -13,14 +13,14 @@ returns-then-store-lt-STORE c =
     let wide : length c.args.places.now ≡ four_places = search rules in
     sym (rw (wide, lt-leb _ _ c.if-store-lt-STORE.true) refl)
 
-pub returns-then-sound : goal.returns-then-sound
+pub returns-then-not-sound : goal.returns-then-not-sound
 unfolding first_tests
-returns-then-sound c =
+returns-then-not-sound c =
     let wide : length c.args.places.now ≡ four_places = search rules in
-    sym (rw (wide, le-leb _ _ c.if-store-lt-STORE.false, sym c.sound.ensures ∙ c.if-sound.true) refl)
+    sym (rw (wide, le-leb _ _ c.if-store-lt-STORE.false, sym c.sound.ensures ∙ c.if-not-sound.true) refl)
 
 pub returns : goal.returns
 unfolding first_tests
 returns c =
     let wide : length c.args.places.now ≡ four_places = search rules in
-    sym (rw (wide, le-leb _ _ c.if-store-lt-STORE.false, sym c.sound.ensures ∙ c.if-sound.false) refl)
+    sym (rw (wide, le-leb _ _ c.if-store-lt-STORE.false, sym c.sound.ensures ∙ c.if-not-sound.false) refl)

@@ -8,7 +8,7 @@ use lib.ListN.{length, take, drop}
 use Rattle.format.specs.Refusals.{bare}
 use Rattle.places.specs.Places.{held, holding}
 use Rattle.places.specs.Desk.{alike, turned_away, taken, stays, cell}
-use Rattle.places.specs.declared.Reply.TheVariants.{Done, Again}
+use Rattle.places.specs.Replies.{Done, Again}
 use Rattle.places.specs.Laws.Four.{settled}
 use Rattle.places.specs.Laws.Laid.{laid_within_lem}
 use Rattle.desk.proofs.Joins.{agree, other_head, not_held, held_again, other_content}

@@ -2,7 +2,7 @@
 use mathlib.Core.Path.{refl, ap}
 use mathlib.Core.List.{[]}
 use native.Mathlib.Omega.{arith}
-use Rattle.places.specs.declared.Turn.{Turn}
+use Rattle.places.specs.Replies.{Turn}
 use Rattle.places.specs.Laws.Four.{first_again}
 use Rattle.desk.proofs.Answers.{answered, buffer_short, handed}
 use Rattle.desk.proofs.asking.answering.hand_out.Goals as goal

@@ -1,5 +1,5 @@
 -- `handed` is the turn that frees the place, entry by entry.
-use Rattle.places.specs.declared.Reply.TheVariants.{Joined}
+use Rattle.places.specs.Replies.{Joined}
 use Rattle.desk.proofs.asking.answering.handed.Goals as goal
 
 pub returns : goal.returns
