@@ -8,8 +8,8 @@ ghost use Rattle.txsq.specs.Txsq.{txsqs};
 
 use crate::reading::{Txsq, fields, read};
 use change::correcting::in_place;
-use walk::walk::Spot;
 use format::Refusal;
+use walk::walk::Spot;
 
 impl Txsq {
     // The fields that may be corrected, by their position among the frame's.

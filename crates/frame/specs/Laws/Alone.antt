@@ -1,5 +1,5 @@
 -- What a frame with content tells of it: its record alone, and the content is shown beside that. Assumes nothing.
-use Rattle.std.specs.Prelude.{◌≡◌, refl, true, List, ℕ, Result, Ok, Err, is_err}
+use Rattle.std.specs.Prelude.{◌≡◌, refl, true, false, List, ℕ, Result, Ok, Err, is_err}
 use Rattle.std.proofs.Common.{sym}
 use Rattle.format.specs.Fmt.{Out, accepted, refused, also}
 use Rattle.format.specs.Promises.{answered, plain, refused_by}
@@ -24,7 +24,11 @@ module _ {R C : Type 0} where
   beside (accepted q) r e = let same = accepted_inj e in (q.1, λ i. accepted (same i, q.1))
   beside (refused c p) r e = clash (sym e)
 
--- a refusal tells a number
+-- a refusal tells a number, and success 0
 pub refused_told : {A : Type 0} (x : Result A Refusal) → is_err x ≡ true → (told_of x).code ≡ 0 → ⊥
 refused_told (Ok a) e z = absurd cc
 refused_told (Err f) e z = number_some f.reason z
+
+pub passed_told : {A : Type 0} (x : Result A Refusal) → is_err x ≡ false → (told_of x).code ≡ 0
+passed_told (Ok a) e = refl
+passed_told (Err f) e = absurd cc

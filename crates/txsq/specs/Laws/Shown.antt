@@ -24,9 +24,10 @@ use Rattle.txsq.specs.Promises.{Reads, Shows}
 use Rattle.txsq.specs.Txsq.{txsq, txsqs, record_of}
 use Rattle.format.specs.declared.Refusal.{Refusal}
 use Rattle.std.specs.Prelude.{Result}
+use Rattle.txsq.specs.declared.reading.Txsq.{Txsq}
 use Rattle.txsq.specs.Laws.Demands.{family, listed, long, fit}
 
-module _ (s : List ℕ) {a : Result Txsq Refusal} {n : Verdict} (reads : Reads s a) (number : n ≡ told_of a) where
+module _ (s : List ℕ) (a : Result Txsq Refusal) {n : Verdict} (reads : Reads s a) (number : n ≡ told_of a) where
   whole : out_of a ≡ answered (λ r. accepted r.0) refused_by (read_record txsqs record_of s)
   whole = reads ∙ answered_alone (read_record txsqs record_of s)
 

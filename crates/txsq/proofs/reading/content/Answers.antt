@@ -10,10 +10,10 @@ use Rattle.txsq.specs.declared.reading.Txsq.{Txsq}
 use Rattle.txsq.proofs.reading.content.Goals as goal
 
 by_answer : (s : List ℕ) (a : Result Txsq Refusal) → Bytes s → Reads s a → Shows s (cond (is_ok a) (take (length s - 1 - 17) (drop 17 s)) [])
-by_answer s (Ok r) fine reads = (shown s reads refl fine refl).1
-by_answer s (Err f) fine reads = hidden s reads refl (number_some f.reason)
+by_answer s (Ok r) fine reads = (shown s (Ok r) reads refl fine refl).1
+by_answer s (Err f) fine reads = hidden s (Err f) reads refl (number_some f.reason)
 
 pub returns : goal.returns
 returns c =
     let s = c.args.frame.now in
-    c.content.ensures ∙ ap (λ b. cond b (take (length s - 1 - 17) (drop 17 s)) []) c.is_ok.ensures ∙ by_answer s c.read.result (λ i. (c.shared_slice_known-1.given i).fits) c.read.ensures
+    c.content.ensures ∙ ap (λ b. cond b (take (length s - 1 - 17) (drop 17 s)) []) c.is_ok.ensures.value ∙ by_answer s c.read.result (λ i. (c.shared_slice_known-1.given i).fits) c.read.ensures
