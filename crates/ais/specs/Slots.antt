@@ -1,9 +1,6 @@
 -- The slots that a message's data bytes need (paper 01, "AIS"; 003, tables 6 and 7). Assumes nothing.
 use Rattle.std.specs.Prelude.{ℕ, suc, cond, List, [], ◌∷◌, leb, eqb}
 use Rattle.format.specs.Fmt.{Out, accepted, refused}
-use Rattle.format.specs.Promises.{answered, refused_by}
-use Rattle.ais.specs.declared.slot_count.Needed.{Needed}
-use Rattle.ais.specs.declared.slot_count.Needed.TheVariants.{Slots, Refused}
 
 -- the most data bytes of 1 to 5 slots: of message 6, and of message 8
 abbrev pub addressed : List ℕ
@@ -24,12 +21,3 @@ slots_in ls n = cond (eqb n 0) (refused 1 0) (first_of 1 ls n)
 -- another message is 2
 unfoldable pub slots_for : ℕ → ℕ → Out ℕ
 slots_for message n = cond (eqb message 6) (slots_in addressed n) (cond (eqb message 8) (slots_in broadcast n) (refused 2 0))
-
--- the paper's refusals and value; no refusal has a bit
-abbrev pub answer_of : Out ℕ → Needed
-answer_of = answered Slots Refused
-
--- an answer taken apart
-abbrev pub out_of : Needed → Out ℕ
-out_of (Slots n) = accepted n
-out_of (Refused c) = refused_by c

@@ -3,34 +3,39 @@
 #![tactic(auto)]
 
 ghost use Rattle.std.specs.Prelude.{◌≡◌};
+ghost use Rattle.format.specs.Refusals.{told_of};
 ghost use Rattle.ais.specs.Ais.{refusal_as, refusal_of};
 
-pub use crate::slot_count::{Needed, slots};
+pub use crate::slot_count::slots;
 pub use ais_common::head::SMALLEST;
-use format::Refusal;
+use format::{Reason, Refusal};
 
 pub mod areas;
 pub mod slot_count;
 pub mod warnings;
 
-// The refusal of reading a message as the one whose number it has: none for a good one.
-pub fn refusal(s: &[u8]) -> Refusal
-    ensures { result ≡ refusal_of s.now }
+// The refusal of reading a message as the one whose number it has: success for a good one.
+pub fn refusal(s: &[u8]) -> Result<(), Refusal>
+    ensures { told_of result ≡ refusal_of s.now }
 {
     if s.len() < SMALLEST {
-        return Refusal::SIZE;
+        return Err(Reason::Size.into());
     }
     refusal_as(bits::get(s, 0, 6), s)
 }
 
-fn refusal_as(message: u64, s: &[u8]) -> Refusal
-    ensures { result ≡ refusal_as message s.now }
+fn refusal_as(message: u64, s: &[u8]) -> Result<(), Refusal>
+    ensures { told_of result ≡ refusal_as message s.now }
 {
-    if message == area::MESSAGE {
-        return area::read(s).refusal();
+    match message {
+        area::MESSAGE => {
+            area::read(s)?;
+            Ok(())
+        },
+        warning::MESSAGE => {
+            warning::read(s)?;
+            Ok(())
+        },
+        _ => Err(Reason::Kind.into()),
     }
-    if message == warning::MESSAGE {
-        return warning::read(s).refusal();
-    }
-    Refusal::KIND
 }

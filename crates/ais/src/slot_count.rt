@@ -1,14 +1,9 @@
 // How many slots an AIS message needs (paper 01, "AIS").
 ghost use Rattle.std.specs.Prelude.{◌≡◌, length, ◌<◌};
-ghost use Rattle.ais.specs.Slots.{slots_for, slots_in, answer_of};
+ghost use Rattle.format.specs.Promises.{out_of, plain};
+ghost use Rattle.ais.specs.Slots.{slots_for, slots_in};
 
-use format::Refusal;
-
-#[derive(Clone, Copy)]
-pub enum Needed {
-    Slots(u8),
-    Refused(Refusal),
-}
+use format::{Reason, Refusal};
 
 // The most data bytes of 1 to 5 slots, for message 6 and for message 8.
 const ADDRESSED: [usize; 5] = [8, 36, 64, 92, 117];
@@ -16,32 +11,28 @@ const ADDRESSED: [usize; 5] = [8, 36, 64, 92, 117];
 const BROADCAST: [usize; 5] = [12, 40, 68, 96, 121];
 
 // The slots that `message` needs for that many data bytes: another message is 2, then no bytes or more than five slots have is 1.
-pub fn slots(message: u8, bytes: usize) -> Needed
-    ensures { result ≡ answer_of (slots_for message bytes) }
+pub fn slots(message: u8, bytes: usize) -> Result<u8, Refusal>
+    ensures { out_of result ≡ plain (slots_for message bytes) }
 {
-    if message == 6 {
-        return slots_in(&ADDRESSED, bytes);
+    match message {
+        6 => slots_in(&ADDRESSED, bytes),
+        8 => slots_in(&BROADCAST, bytes),
+        _ => Err(Reason::Kind.into()),
     }
-    if message == 8 {
-        return slots_in(&BROADCAST, bytes);
-    }
-    Needed::Refused(Refusal::KIND)
 }
 
 // By a table of the most bytes of 1 slot, of 2, and so on.
-fn slots_in(limits: &[usize], bytes: usize) -> Needed
+fn slots_in(limits: &[usize], bytes: usize) -> Result<u8, Refusal>
     requires { length limits.now < 256 }
-    ensures { result ≡ answer_of (slots_in limits.now bytes) }
+    ensures { out_of result ≡ plain (slots_in limits.now bytes) }
 {
     if bytes == 0 {
-        return Needed::Refused(Refusal::SIZE);
+        return Err(Reason::Size.into());
     }
-    let mut i = 0;
-    while i < limits.len() {
-        if bytes <= limits[i] {
-            return Needed::Slots((i + 1) as u8);
+    for (i, &limit) in limits.iter().enumerate() {
+        if bytes <= limit {
+            return Ok((i + 1) as u8);
         }
-        i += 1;
     }
-    Needed::Refused(Refusal::SIZE)
+    Err(Reason::Size.into())
 }

@@ -1,8 +1,9 @@
 // What the two AIS messages share (paper 01, "AIS" and "Refusal numbers"; ITU-R M.1371-5): their first tests.
-ghost use Rattle.std.specs.Prelude.{◌≡◌, ◌&&◌, eqb, leb};
-ghost use Rattle.ais_common.specs.Lead.{told};
+ghost use Rattle.std.specs.Prelude.{◌≡◌};
+ghost use Rattle.ais_common.specs.Lead.{handled, told};
+ghost use Rattle.format.specs.Refusals.{code_of};
 
-use walk::choosing::{both, choose_code, inside};
+use format::Reason;
 
 // The smallest size of a message, in bytes: a shorter one is of no kind.
 pub const SMALLEST: usize = 23;
@@ -29,29 +30,30 @@ pub struct Asked {
     pub bytes: usize,
 }
 
+impl Asked {
+    // Whether a message with that head is of the kind.
+    fn is_kind_of(self, head: Head) -> bool
+        ensures { result ≡ handled self head }
+    {
+        head.message == self.message
+            && head.application == self.application
+            && 1 <= head.choice
+            && head.choice <= self.choices
+    }
+}
+
 // The first tests of a message of `len` bytes: smallest size; message, application and choice; size.
-pub fn lead(len: usize, head: Head, asked: Asked) -> u8
-    ensures { result ≡ told asked len head }
+pub fn lead(len: usize, head: Head, asked: Asked) -> Result<(), Reason>
+    ensures { code_of result ≡ told asked len head }
 {
     if len < SMALLEST {
-        return format::SIZE;
+        return Err(Reason::Size);
     }
-    let message = same(head.message, asked.message);
-    let application = same(head.application, asked.application);
-    let choice = within(head.choice, 1, asked.choices);
-    let bytes = asked.bytes as u64;
-    let size = inside(len as u64, bytes, bytes, format::SIZE);
-    choose_code(both(both(message, application), choice), size, format::KIND)
-}
-
-fn same(a: u64, b: u64) -> bool
-    ensures { result ≡ eqb a b }
-{
-    a == b
-}
-
-fn within(v: u64, lo: u64, hi: u64) -> bool
-    ensures { result ≡ (leb lo v && leb v hi) }
-{
-    both(lo <= v, v <= hi)
+    if !asked.is_kind_of(head) {
+        return Err(Reason::Kind);
+    }
+    if len != asked.bytes {
+        return Err(Reason::Size);
+    }
+    Ok(())
 }

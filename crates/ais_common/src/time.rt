@@ -1,6 +1,7 @@
 // The times of the papers (paper 01, "AIS": "Times"): month, day, hour and minute in 20 bits, and without the minute in 14.
 ghost use Rattle.std.specs.Prelude.{[], ◌≡◌, ◌^◌, ◌<◌};
-ghost use Rattle.walk.specs.Pieces.{piecewise};
+ghost use Rattle.walk.specs.Pieces.{parts, piecewise};
+ghost use Rattle.walk.specs.Walk.{seen};
 ghost use Rattle.ais_common.specs.Time.{date_parts, spell_time, time_of, spell_short, short_of};
 ghost use Rattle.ais_common.specs.Steps.{time_read, short_read, time_judged, short_judged};
 
@@ -30,33 +31,30 @@ impl Time {
     pub fn spelled(self) -> u64
         ensures { result ≡ spell_time self }
     {
-        let minute = self.minute;
-        let short = ShortTime {
-            month: self.month,
-            day: self.day,
-            hour: self.hour,
-        };
-        let date = short.spelled();
-        if date >= 16_384 {
+        let Time {
+            month,
+            day,
+            hour,
+            minute,
+        } = self;
+        let date = ShortTime { month, day, hour }.spelled();
+        if date >= 16_384 || minute >= 64 {
             return 1_048_576;
         }
-        if minute >= 64 {
-            return 1_048_576;
-        }
-        date * 64 + minute as u64
+        date * 64 + u64::from(minute)
     }
 
     // The time that 20 bits spell.
     pub fn of(v: u64) -> Self
         ensures { result ≡ time_of v }
     {
-        let short = ShortTime::of(v / 64);
-        let minute = v % 64;
+        let ShortTime { month, day, hour } = ShortTime::of(v / 64);
+        let minute = (v % 64) as u8;
         Time {
-            month: short.month,
-            day: short.day,
-            hour: short.hour,
-            minute: minute as u8,
+            month,
+            day,
+            hour,
+            minute,
         }
     }
 }
@@ -68,32 +66,21 @@ impl ShortTime {
     pub fn spelled(self) -> u64
         ensures { result ≡ spell_short self }
     {
-        let month = self.month;
-        let day = self.day;
-        let hour = self.hour;
-        if month >= 16 {
+        let ShortTime { month, day, hour } = self;
+        if month >= 16 || day >= 32 || hour >= 32 {
             return 16_384;
         }
-        if day >= 32 {
-            return 16_384;
-        }
-        if hour >= 32 {
-            return 16_384;
-        }
-        month as u64 * 1_024 + day as u64 * 32 + hour as u64
+        u64::from(month) * 1_024 + u64::from(day) * 32 + u64::from(hour)
     }
 
     // The time that 14 bits spell.
     pub fn of(v: u64) -> Self
         ensures { result ≡ short_of v }
     {
-        let month = v / 1_024 % 16;
-        let day = v / 32 % 32;
-        let hour = v % 32;
         ShortTime {
-            month: month as u8,
-            day: day as u8,
-            hour: hour as u8,
+            month: (v / 1_024 % 16) as u8,
+            day: (v / 32 % 32) as u8,
+            hour: (v % 32) as u8,
         }
     }
 }
@@ -102,14 +89,14 @@ impl ShortTime {
 // message's size: it is there, and its number says all of its parts. Past the end the number is 0.
 
 pub fn read(s: &[u8], w: Walk) -> Walk
-    ensures { (result ≡ time_read s.now w) × (result.v < 2 ^ 20) }
+    ensures { (seen result ≡ time_read s.now (seen w)) × (result.v < 2 ^ 20) }
 {
     let at = w.at;
     judged(w, bits::get(s, at, Time::BITS))
 }
 
 pub fn read_short(s: &[u8], w: Walk) -> Walk
-    ensures { (result ≡ short_read s.now w) × (result.v < 2 ^ 14) }
+    ensures { (seen result ≡ short_read s.now (seen w)) × (result.v < 2 ^ 14) }
 {
     let at = w.at;
     judged_short(w, bits::get(s, at, ShortTime::BITS))
@@ -118,21 +105,21 @@ pub fn read_short(s: &[u8], w: Walk) -> Walk
 // ---- judging what a record spells
 
 pub fn judged(w: Walk, v: u64) -> Walk
-    ensures { result ≡ time_judged v w }
+    ensures { seen result ≡ time_judged v (seen w) }
 {
     let g = judged_date(Pieces::of(Time::BITS, v));
     w.group(Time::BITS, v, g.piece(6, 0, 59))
 }
 
 pub fn judged_short(w: Walk, v: u64) -> Walk
-    ensures { result ≡ short_judged v w }
+    ensures { seen result ≡ short_judged v (seen w) }
 {
     let g = judged_date(Pieces::of(ShortTime::BITS, v));
     w.group(ShortTime::BITS, v, g)
 }
 
 fn judged_date(g: Pieces) -> Pieces
-    ensures { result ≡ piecewise (date_parts []) [] g }
+    ensures { parts result ≡ piecewise (date_parts []) [] (parts g) }
 {
     g.piece(4, 0, 12).piece(5, 0, 31).piece(5, 0, 23)
 }

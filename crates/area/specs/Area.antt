@@ -2,17 +2,12 @@
 use Rattle.std.specs.Prelude.{ℕ, false, List, [], ◌∷◌, get_or}
 use Rattle.ais_common.specs.Lead.{application, head_of, leads}
 use Rattle.ais_common.specs.declared.head.Asked.{Asked}
-use Rattle.format.specs.Fmt.{Out, accepted, Fmt, end, choice}
+use Rattle.format.specs.Fmt.{Fmt, end, choice}
 use Rattle.format.specs.Message.{Layout}
-use Rattle.format.specs.Promises.{answered, refused_by}
-use Rattle.format.specs.Refusals.{bare}
-use Rattle.format.specs.Refusals.{Verdict}
 use Rattle.format.specs.Words.{◌‥◌, only, ◌▹◌, num, code, fill}
 use Rattle.ais_common.specs.Time.{time, short_time, spell_time, time_of, spell_short, short_of}
 use Rattle.area.specs.Shapes.{kind_of, type_of, shape, shape_kind, shape_values, shape_of}
 use Rattle.area.specs.declared.reading.Area.{Area}
-use Rattle.area.specs.declared.reading.Answer.{Answer}
-use Rattle.area.specs.declared.reading.Answer.TheVariants.{Good, Refused}
 
 -- what follows the shape
 abbrev pub tail : Fmt
@@ -75,16 +70,3 @@ record_of vs = record {
   second_time = short_of (get_or vs 16 0);
   advice = get_or vs 17 0;
 }
-
--- the paper's refusals and values
-abbrev pub answer_of : Out Area → Answer
-answer_of = answered Good Refused
-
--- an answer taken apart, and its refusal
-abbrev pub out_of : Answer → Out Area
-out_of (Good r) = accepted r
-out_of (Refused c) = refused_by c
-
-abbrev pub refusal_of : Answer → Verdict
-refusal_of (Good r) = bare 0
-refusal_of (Refused c) = c

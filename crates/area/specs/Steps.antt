@@ -1,17 +1,19 @@
 -- What the code's steps leave: reading the fields before the shape stands at it, bit 94; over a shape, where reading, judging or putting stood at it, it stands behind it, bit 204. Assumes nothing.
-use Rattle.std.specs.Prelude.{ℕ, ◌+◌, ◌<◌, ◌^◌, ◌≡◌, Bool, ℤ}
+use Rattle.std.specs.Prelude.{ℕ, ◌+◌, ◌<◌, ◌^◌, ◌≡◌, Bool, ℤ, Result, Ok, Err}
 use mathlib.Core.List.{List, [], ◌∷◌, reverse_aux}
 use Rattle.bits.specs.Bits.{bits_of}
-use Rattle.format.specs.Fmt.{Out, refused, Fmt, read}
+use Rattle.format.specs.declared.Refusal.{Refusal}
+use Rattle.format.specs.Fmt.{Out, Fmt, also, read}
+use Rattle.format.specs.Promises.{plain, refused_by}
+use Rattle.format.specs.Refusals.{seen_refusal}
 use Rattle.format.specs.Laws.Putting.{Putting}
 use Rattle.walk.specs.Reading.{signedly}
 use Rattle.walk.specs.Laws.Judging.{Judging}
 use Rattle.walk.specs.Laws.Step.{Reading}
-use Rattle.walk.specs.Walk.{Walk}
+use Rattle.walk.specs.Walk.{Walk, seen}
 use Rattle.area.specs.Shapes.{Kind, kind_of, type_of, point, shape, spell_east, spell_north, shape_kind, shape_values}
-use Rattle.area.specs.Area.{tail, area}
+use Rattle.area.specs.Area.{tail, area, record_of}
 use Rattle.area.specs.declared.reading.Opened.{Opened}
-use Rattle.area.specs.declared.reading.shapes.Passed.{Passed}
 use Rattle.area.specs.declared.reading.shapes.Shape.{Shape}
 use Rattle.area.specs.declared.reading.shapes.Shape.TheVariants.{Circle, Rectangle}
 
@@ -20,9 +22,9 @@ abbrev opening : Opened → List ℕ → List ℕ
 opening g vs = 6 ∷ g.repeat ∷ g.source ∷ g.sequence ∷ g.destination ∷ g.resent ∷ 0 ∷ 412 ∷ 11 ∷ g.kind ∷ g.walk.v ∷ vs
 
 -- they were read, or a refusal among them is the whole reading's
-pub record OpeningRead (s : List ℕ) (g : Opened) : Type 0 where
-  pub stops : (g.walk.code ≡ 0 → ⊥) → read area [] 0 (bits_of s) ≡ refused g.walk.code g.walk.offset
-  pub on : g.walk.code ≡ 0 → Reading (read area [] 0 (bits_of s)) area 0 s (shape (kind_of g.walk.v) tail) (reverse_aux (opening g []) []) 94 (opening g) g.walk
+abbrev pub OpeningRead : List ℕ → Result Opened Refusal → Type 0
+OpeningRead s (Ok g) = Reading (read area [] 0 (bits_of s)) area 0 s (shape (kind_of g.walk.v) tail) (reverse_aux (opening g []) []) 94 (opening g) (seen g.walk)
+OpeningRead s (Err f) = refused_by (seen_refusal f) ≡ plain (also record_of (read area [] 0 (bits_of s)))
 
 -- the walk past a longitude, and past a latitude
 abbrev pub east_read : List ℕ → Walk → Walk
@@ -45,11 +47,11 @@ abbrev shaped : Shape → Fmt → Fmt
 shaped b = shape (kind_of (type_of (shape_kind b)))
 
 -- a shape of kind t was read
-pub record ShapeRead (s : List ℕ) (t : Kind) (r : Walk) (g : Passed) : Type 0 where
-  pub kind : shape_kind g.shape ≡ t
-  pub narrow : Narrow g.shape
+pub record ShapeRead (s : List ℕ) (t : Kind) (r g : Walk) (b : Shape) : Type 0 where
+  pub kind : shape_kind b ≡ t
+  pub narrow : Narrow b
   pub on : {o : Out (List ℕ)} {all f : Fmt} {i : ℕ} {h : List ℕ} {k : List ℕ → List ℕ} → Reading o all i s (shape t f) h 94 k r
-      → Reading o all i s f (backwards g.shape h) 204 (λ vs. k (shape_values g.shape vs)) g.walk
+      → Reading o all i s f (backwards b h) 204 (λ vs. k (shape_values b vs)) g
 
 -- a position was judged, wherever it stands
 pub record PointJudged (x y : ℤ) (r g : Walk) : Type 0 where

@@ -2,13 +2,16 @@
 ghost use Rattle.bits.specs.Bits.{field_at};
 ghost use Rattle.format.specs.Correcting.{StandsAt};
 ghost use Rattle.format.specs.Promises.{Corrects};
+ghost use Rattle.format.specs.Refusals.{told_of};
+ghost use Rattle.walk.specs.Walk.{at_of, width_of};
 ghost use Rattle.area.specs.Area.{areas};
 ghost use Rattle.area.specs.Changed.{spot_of, own_spot, field_of};
 ghost use Rattle.area.specs.Shapes.{circle, rectangle, kind_of};
 
 use crate::reading::{Area, fields, read};
-use change::correcting::Spot;
+use change::correcting::in_place;
 use format::Refusal;
+use walk::walk::Spot;
 
 impl Area {
     // The numbers of the fields that may be corrected. Those of a shape are fields of areas of that shape alone.
@@ -42,43 +45,37 @@ impl Area {
 }
 
 // Makes field number `field` of the message be `value`, or leaves every byte.
-pub fn correct(buf: &mut [u8], field: usize, value: u64) -> Refusal
-    ensures { Corrects areas buf.old (field_of (field_at buf.old 92 2) field) value result buf.new }
+pub fn correct(buf: &mut [u8], field: usize, value: u64) -> Result<(), Refusal>
+    ensures { Corrects areas buf.old (field_of (field_at buf.old 92 2) field) value (told_of result) buf.new }
 {
-    let was = read(buf);
-    let own = was.refusal();
-    if own.code != 0 {
-        return own;
-    }
+    read(buf)?;
     let spot = stands(bits::get(buf, 92, 2), field);
-    let begun = change::correcting::begin(buf, own, spot, value);
-    let again = fields(buf);
-    change::correcting::finish(buf, begun, again.refusal())
+    in_place(buf, false, spot, value, fields)
 }
 
 // Where each field that may be corrected stands in an area whose shape has the number `kind`, and its width.
-fn stands(kind: u64, field: usize) -> Spot
-    ensures { StandsAt (spot_of (kind_of kind) (field_of kind field)) result.at result.width }
+fn stands(kind: u64, field: usize) -> Option<Spot>
+    ensures { StandsAt (spot_of (kind_of kind) (field_of kind field)) (at_of result) (width_of result) }
 {
     match field {
-        Area::REPEAT => Spot { at: 6, width: 2 },
-        Area::SOURCE => Spot { at: 8, width: 30 },
-        Area::SEQUENCE => Spot { at: 38, width: 2 },
-        Area::DESTINATION => Spot { at: 40, width: 30 },
-        Area::RESENT => Spot { at: 70, width: 1 },
-        Area::KIND => Spot { at: 88, width: 4 },
-        Area::LONGITUDE => Spot { at: 94, width: 28 },
-        Area::LATITUDE => Spot { at: 122, width: 27 },
-        Area::TIME => Spot { at: 204, width: 20 },
-        Area::SECOND_TIME => Spot { at: 224, width: 14 },
-        Area::ADVICE => Spot { at: 238, width: 4 },
+        Area::REPEAT => Some(Spot { at: 6, width: 2 }),
+        Area::SOURCE => Some(Spot { at: 8, width: 30 }),
+        Area::SEQUENCE => Some(Spot { at: 38, width: 2 }),
+        Area::DESTINATION => Some(Spot { at: 40, width: 30 }),
+        Area::RESENT => Some(Spot { at: 70, width: 1 }),
+        Area::KIND => Some(Spot { at: 88, width: 4 }),
+        Area::LONGITUDE => Some(Spot { at: 94, width: 28 }),
+        Area::LATITUDE => Some(Spot { at: 122, width: 27 }),
+        Area::TIME => Some(Spot { at: 204, width: 20 }),
+        Area::SECOND_TIME => Some(Spot { at: 224, width: 14 }),
+        Area::ADVICE => Some(Spot { at: 238, width: 4 }),
         _ => own(kind, field),
     }
 }
 
 // The same of a field of its shape.
-fn own(kind: u64, field: usize) -> Spot
-    ensures { StandsAt (own_spot (kind_of kind) field) result.at result.width }
+fn own(kind: u64, field: usize) -> Option<Spot>
+    ensures { StandsAt (own_spot (kind_of kind) field) (at_of result) (width_of result) }
 {
     match kind {
         1 => circle(field),
@@ -86,21 +83,21 @@ fn own(kind: u64, field: usize) -> Spot
     }
 }
 
-fn circle(field: usize) -> Spot
-    ensures { StandsAt (own_spot circle field) result.at result.width }
+fn circle(field: usize) -> Option<Spot>
+    ensures { StandsAt (own_spot circle field) (at_of result) (width_of result) }
 {
     match field {
-        Area::CIRCLE_RADIUS => Spot { at: 149, width: 7 },
-        _ => Spot { at: 0, width: 0 },
+        Area::CIRCLE_RADIUS => Some(Spot { at: 149, width: 7 }),
+        _ => None,
     }
 }
 
-fn rectangle(field: usize) -> Spot
-    ensures { StandsAt (own_spot rectangle field) result.at result.width }
+fn rectangle(field: usize) -> Option<Spot>
+    ensures { StandsAt (own_spot rectangle field) (at_of result) (width_of result) }
 {
     match field {
-        Area::RECTANGLE_LONGITUDE => Spot { at: 149, width: 28 },
-        Area::RECTANGLE_LATITUDE => Spot { at: 177, width: 27 },
-        _ => Spot { at: 0, width: 0 },
+        Area::RECTANGLE_LONGITUDE => Some(Spot { at: 149, width: 28 }),
+        Area::RECTANGLE_LATITUDE => Some(Spot { at: 177, width: 27 }),
+        _ => None,
     }
 }

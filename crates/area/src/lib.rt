@@ -3,7 +3,7 @@
 
 pub use crate::correcting::correct;
 pub use crate::reading::shapes::{Circle, Rectangle, Shape};
-pub use crate::reading::{APPLICATION, Answer, Area, MESSAGE, read};
+pub use crate::reading::{APPLICATION, Area, MESSAGE, read};
 pub use crate::writing::write;
 pub use ais_common::head::AUTHORITY;
 

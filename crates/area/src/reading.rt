@@ -1,14 +1,15 @@
 // Message 6 with application 412/11, an area marked off (paper 01, "AIS"; 003, tables 4 and 38 to 40).
-ghost use Rattle.std.specs.Prelude.{◌≡◌, cond, eqb};
+ghost use Rattle.std.specs.Prelude.{◌≡◌};
 ghost use Rattle.format.specs.Fmt.{also};
+ghost use Rattle.format.specs.Promises.{out_of, plain};
+ghost use Rattle.format.specs.Refusals.{code_of};
 ghost use Rattle.format.specs.Message.{fields_of};
-ghost use Rattle.area.specs.Area.{area, areas, record_of, answer_of, refusal_of};
+ghost use Rattle.area.specs.Area.{area, areas, record_of};
 ghost use Rattle.area.specs.Promises.{Reads};
 ghost use Rattle.area.specs.Steps.{OpeningRead};
-ghost use Rattle.area.specs.declared.reading.Answer.TheVariants.{Good, Refused};
 
 pub use ais_common::head::AUTHORITY;
-use format::Refusal;
+use format::{Reason, Refusal};
 
 pub mod shapes;
 
@@ -28,34 +29,6 @@ pub struct Area {
     pub advice: u8,
 }
 
-#[derive(Clone, Copy)]
-pub enum Answer {
-    Good(Area),
-    Refused(Refusal),
-}
-
-impl Answer {
-    // The area, unless a walk over it ended with a refusal.
-    fn told(refusal: Refusal, r: Area) -> Answer
-        ensures { result ≡ cond (eqb refusal.code 0) (Good r) (Refused refusal) }
-    {
-        if refusal.code != 0 {
-            return Answer::Refused(refusal);
-        }
-        Answer::Good(r)
-    }
-
-    // Its refusal: none for a good one.
-    pub fn refusal(self) -> Refusal
-        ensures { result ≡ refusal_of self }
-    {
-        match self {
-            Answer::Good(_) => Refusal::NONE,
-            Answer::Refused(refusal) => refusal,
-        }
-    }
-}
-
 impl Area {
     pub const BITS: usize = 248;
 
@@ -71,19 +44,16 @@ pub const APPLICATION: u64 = 11;
 // Both as they stand, side by side.
 const APPLIED: u64 = AUTHORITY * 64 + APPLICATION;
 
-pub fn read(s: &[u8]) -> Answer
+pub fn read(s: &[u8]) -> Result<Area, Refusal>
     ensures { Reads s.now result }
 {
-    let code = lead(s);
-    if code != 0 {
-        return Answer::Refused(Refusal::bare(code));
-    }
+    lead(s)?;
     fields(s)
 }
 
 // The first tests: smallest size; message, application and shape; size.
-pub fn lead(s: &[u8]) -> u8
-    ensures { result ≡ areas.lead s.now }
+pub fn lead(s: &[u8]) -> Result<(), Reason>
+    ensures { code_of result ≡ areas.lead s.now }
 {
     let head = ais_common::head::Head {
         message: bits::get(s, 0, 6),
@@ -111,17 +81,15 @@ pub struct Opened {
     pub walk: walk::walk::Walk,
 }
 
-// They are read in bit order. What is refused up to the source, or before the kind, is left there: its walk tells the refusal.
-fn opening(s: &[u8]) -> Opened
+// They are read in bit order. What is refused up to the source, before the kind or at the shape's number is answered there.
+fn opening(s: &[u8]) -> Result<Opened, Refusal>
     ensures { OpeningRead s.now result }
 {
-    let w = walk::walk::Walk::begin(0, 0).code(s, 6, MESSAGE);
+    let w = walk::walk::Walk::begin(0).code(s, 6, MESSAGE);
     let w = w.num(s, 2, 0, 3);
     let repeat = w.v as u8;
     let w = w.num(s, 30, 0, 999_999_999);
-    if w.code != 0 {
-        return unopened(w);
-    }
+    w.passed()?;
     let source = w.v as u32;
     let w = w.num(s, 2, 0, 3);
     let sequence = w.v as u8;
@@ -130,60 +98,41 @@ fn opening(s: &[u8]) -> Opened
     let w = w.num(s, 1, 0, 1);
     let resent = w.v as u8;
     let w = w.fill(s, 1).code(s, 10, AUTHORITY).code(s, 6, APPLICATION);
-    if w.code != 0 {
-        return unopened(w);
-    }
+    w.passed()?;
     let w = w.num(s, 4, 1, 14);
     let kind = w.v as u8;
-    Opened {
+    let walk = w.number(s, 2, false, 1, 2, Reason::Kind);
+    walk.passed()?;
+    Ok(Opened {
         repeat,
         source,
         sequence,
         destination,
         resent,
         kind,
-        walk: w.number(s, 2, false, 1, 2, format::KIND),
-    }
-}
-
-// No fields, where the walk was refused.
-fn unopened(walk: walk::walk::Walk) -> Opened
-    ensures { result.walk ≡ walk }
-{
-    Opened {
-        repeat: 0,
-        source: 0,
-        sequence: 0,
-        destination: 0,
-        resent: 0,
-        kind: 0,
         walk,
-    }
+    })
 }
 
 // The fields in bit order. Another size is refused at once: no field has then to be tested for it. What is refused before the shape is
 // answered there.
-pub fn fields(s: &[u8]) -> Answer
-    ensures { result ≡ answer_of (also record_of (fields_of area 31 31 s.now)) }
+pub fn fields(s: &[u8]) -> Result<Area, Refusal>
+    ensures { out_of result ≡ plain (also record_of (fields_of area 31 31 s.now)) }
 {
     if s.len() != Area::LEAST {
-        return Answer::Refused(Refusal::SIZE);
+        return Err(Reason::Size.into());
     }
-    let begun = opening(s);
-    let w = begun.walk;
-    if w.code != 0 {
-        return Answer::Refused(w.refusal());
-    }
-    let passed = shapes::read(s, w.v, w);
-    let shape = passed.shape;
-    let w = ais_common::time::read(s, passed.walk);
+    let begun = opening(s)?;
+    let (w, shape) = shapes::read(s, begun.walk.v, begun.walk);
+    let w = ais_common::time::read(s, w);
     let time = ais_common::time::Time::of(w.v);
     let w = ais_common::time::read_short(s, w);
     let second_time = ais_common::time::ShortTime::of(w.v);
     let w = w.num(s, 4, 1, 6);
     let advice = w.v as u8;
     let w = w.fill(s, 6).end(s);
-    let r = Area {
+    w.passed()?;
+    Ok(Area {
         repeat: begun.repeat,
         source: begun.source,
         sequence: begun.sequence,
@@ -194,6 +143,5 @@ pub fn fields(s: &[u8]) -> Answer
         time,
         second_time,
         advice,
-    };
-    Answer::told(w.refusal(), r)
+    })
 }

@@ -1,4 +1,5 @@
 // Writing a shape of an area (003, tables 39 and 40): its record judged, then put.
+ghost use Rattle.walk.specs.Walk.{seen};
 ghost use Rattle.area.specs.Steps.{PointJudged, ShapeJudged, ShapePut};
 ghost use Rattle.area.specs.declared.reading.shapes.Shape.TheVariants.{Circle as IsCircle, Rectangle as IsRectangle};
 
@@ -6,7 +7,7 @@ use crate::reading::shapes::{Circle, EAST, NORTH, Rectangle, Shape};
 use walk::walk::Walk;
 
 pub(crate) fn judged(w: Walk, shape: Shape) -> Walk
-    ensures { ShapeJudged shape w result }
+    ensures { ShapeJudged shape (seen w) (seen result) }
 {
     match shape {
         Shape::Circle(b) => judged_circle(w, b),
@@ -15,27 +16,21 @@ pub(crate) fn judged(w: Walk, shape: Shape) -> Walk
 }
 
 fn judged_circle(w: Walk, b: Circle) -> Walk
-    ensures { ShapeJudged (IsCircle b) w result }
+    ensures { ShapeJudged (IsCircle b) (seen w) (seen result) }
 {
-    let east = b.longitude;
-    let north = b.latitude;
-    let w = judged_point(w, east, north);
+    let w = judged_point(w, b.longitude, b.latitude);
     w.value(7, b.radius as u64, 0, 127).fixed(48, 0)
 }
 
 fn judged_rectangle(w: Walk, b: Rectangle) -> Walk
-    ensures { ShapeJudged (IsRectangle b) w result }
+    ensures { ShapeJudged (IsRectangle b) (seen w) (seen result) }
 {
-    let east = b.longitude;
-    let north = b.latitude;
-    let second_east = b.second_longitude;
-    let second_north = b.second_latitude;
-    let w = judged_point(w, east, north);
-    judged_point(w, second_east, second_north)
+    let w = judged_point(w, b.longitude, b.latitude);
+    judged_point(w, b.second_longitude, b.second_latitude)
 }
 
 fn judged_point(w: Walk, longitude: i32, latitude: i32) -> Walk
-    ensures { PointJudged longitude latitude w result }
+    ensures { PointJudged longitude latitude (seen w) (seen result) }
 {
     let east = walk::sign::spelled(longitude, EAST);
     let north = walk::sign::spelled(latitude, NORTH);
@@ -55,10 +50,8 @@ pub(crate) fn put(buf: &mut [u8], shape: Shape)
 fn put_circle(buf: &mut [u8], b: Circle)
     ensures { ShapePut (IsCircle b) buf.old buf.new }
 {
-    let east = b.longitude;
-    let north = b.latitude;
-    let longitude = walk::sign::spelled(east, EAST);
-    let latitude = walk::sign::spelled(north, NORTH);
+    let longitude = walk::sign::spelled(b.longitude, EAST);
+    let latitude = walk::sign::spelled(b.latitude, NORTH);
     bits::put(buf, 94, 28, longitude);
     bits::put(buf, 122, 27, latitude);
     bits::put(buf, 149, 7, b.radius as u64);
@@ -69,14 +62,10 @@ fn put_circle(buf: &mut [u8], b: Circle)
 fn put_rectangle(buf: &mut [u8], b: Rectangle)
     ensures { ShapePut (IsRectangle b) buf.old buf.new }
 {
-    let east = b.longitude;
-    let north = b.latitude;
-    let second_east = b.second_longitude;
-    let second_north = b.second_latitude;
-    let longitude = walk::sign::spelled(east, EAST);
-    let latitude = walk::sign::spelled(north, NORTH);
-    let second_longitude = walk::sign::spelled(second_east, EAST);
-    let second_latitude = walk::sign::spelled(second_north, NORTH);
+    let longitude = walk::sign::spelled(b.longitude, EAST);
+    let latitude = walk::sign::spelled(b.latitude, NORTH);
+    let second_longitude = walk::sign::spelled(b.second_longitude, EAST);
+    let second_latitude = walk::sign::spelled(b.second_latitude, NORTH);
     bits::put(buf, 94, 28, longitude);
     bits::put(buf, 122, 27, latitude);
     bits::put(buf, 149, 28, second_longitude);

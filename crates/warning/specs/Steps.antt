@@ -8,7 +8,6 @@ use Rattle.walk.specs.Laws.Step.{Reading}
 use Rattle.walk.specs.Walk.{Walk}
 use Rattle.warning.specs.Bodies.{Kind, kind_of, type_of, body, body_kind, body_values}
 use Rattle.warning.specs.declared.bodies.Body.{Body}
-use Rattle.warning.specs.declared.bodies.Passed.{Passed}
 
 -- the values of a body, the latest first, in front of h
 abbrev backwards : Body → List ℕ → List ℕ
@@ -19,10 +18,10 @@ abbrev bodied : Body → Fmt → Fmt
 bodied b = body (kind_of (type_of (body_kind b)))
 
 -- a body of kind t was read
-pub record BodyRead (s : List ℕ) (t : Kind) (r : Walk) (g : Passed) : Type 0 where
-  pub kind : body_kind g.body ≡ t
+pub record BodyRead (s : List ℕ) (t : Kind) (r g : Walk) (b : Body) : Type 0 where
+  pub kind : body_kind b ≡ t
   pub on : {o : Out (List ℕ)} {all f : Fmt} {i : ℕ} {h : List ℕ} {k : List ℕ → List ℕ} → Reading o all i s (body t f) h 106 k r
-      → Reading o all i s f (backwards g.body h) 156 (λ vs. k (body_values g.body vs)) g.walk
+      → Reading o all i s f (backwards b h) 156 (λ vs. k (body_values b vs)) g
 
 -- a body was judged
 pub record BodyJudged (b : Body) (r g : Walk) : Type 0 where

@@ -3,16 +3,11 @@ use Rattle.std.specs.Prelude.{ℕ, ◌+◌, false, List, [], ◌∷◌, get_or, 
 use Rattle.ais_common.specs.Lead.{application, head_of, leads}
 use Rattle.ais_common.specs.declared.head.Asked.{Asked}
 use Rattle.warning.specs.Bodies.{Kind, kind_of, type_of, body, body_kind, body_long, body_values, body_of}
-use Rattle.format.specs.Fmt.{Out, accepted, Fmt, end, choice}
+use Rattle.format.specs.Fmt.{Fmt, end, choice}
 use Rattle.format.specs.Message.{Layout}
-use Rattle.format.specs.Promises.{answered, refused_by}
-use Rattle.format.specs.Refusals.{bare}
-use Rattle.format.specs.Refusals.{Verdict}
 use Rattle.format.specs.Words.{◌‥◌, only, ◌▹◌, num, code, fill}
 use Rattle.ais_common.specs.Time.{time, spell_time, time_of}
 use Rattle.warning.specs.declared.reading.Warning.{Warning}
-use Rattle.warning.specs.declared.reading.Answer.{Answer}
-use Rattle.warning.specs.declared.reading.Answer.TheVariants.{Good, Refused}
 
 -- what follows the body
 abbrev pub tail : Fmt
@@ -92,16 +87,3 @@ record_as t vs = record {
 
 abbrev pub record_of : List ℕ → Warning
 record_of vs = record_as (kind_of (get_or vs 6 0)) vs
-
--- the paper's refusals and values
-abbrev pub answer_of : Out Warning → Answer
-answer_of = answered Good Refused
-
--- an answer taken apart, and its refusal
-abbrev pub out_of : Answer → Out Warning
-out_of (Good r) = accepted r
-out_of (Refused c) = refused_by c
-
-abbrev pub refusal_of : Answer → Verdict
-refusal_of (Good r) = bare 0
-refusal_of (Refused c) = c

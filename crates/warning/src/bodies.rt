@@ -1,6 +1,7 @@
 // The five bodies of a warning (paper 01, "AIS"; 003, tables 58 to 62): what stands behind its position.
 ghost use Rattle.std.specs.Prelude.{◌≡◌};
 ghost use Rattle.warning.specs.Bodies.{cyclone, gale, waves, fog, surge, kind_of, type_of, body_kind};
+ghost use Rattle.walk.specs.Walk.{seen};
 ghost use Rattle.warning.specs.Steps.{BodyRead};
 
 use walk::walk::Walk;
@@ -85,34 +86,21 @@ impl Body {
 
 // ---- reading
 
-// A body, and the walk past it.
-#[derive(Clone, Copy)]
-pub(crate) struct Passed {
-    pub(crate) walk: Walk,
-    pub(crate) body: Body,
-}
-
-// The body of a warning of type `kind`; one of no type is read as the last.
-pub(crate) fn read(s: &[u8], kind: u64, w: Walk) -> Passed
-    ensures { BodyRead s.now (kind_of kind) w result }
+// The body of a warning of type `kind`, and the walk past it; one of no type is read as the last.
+pub(crate) fn read(s: &[u8], kind: u64, w: Walk) -> (Walk, Body)
+    ensures { BodyRead s.now (kind_of kind) (seen w) (seen result.0) result.1 }
 {
-    if kind == 1 {
-        return read_cyclone(s, w);
+    match kind {
+        1 => read_cyclone(s, w),
+        2 => read_gale(s, w),
+        3 => read_waves(s, w),
+        4 => read_fog(s, w),
+        _ => read_surge(s, w),
     }
-    if kind == 2 {
-        return read_gale(s, w);
-    }
-    if kind == 3 {
-        return read_waves(s, w);
-    }
-    if kind == 4 {
-        return read_fog(s, w);
-    }
-    read_surge(s, w)
 }
 
-fn read_cyclone(s: &[u8], w: Walk) -> Passed
-    ensures { BodyRead s.now cyclone w result }
+fn read_cyclone(s: &[u8], w: Walk) -> (Walk, Body)
+    ensures { BodyRead s.now cyclone (seen w) (seen result.0) result.1 }
 {
     let w = w.num(s, 3, 1, 4);
     let kind = w.v as u8;
@@ -137,14 +125,11 @@ fn read_cyclone(s: &[u8], w: Walk) -> Passed
         force,
         pressure,
     };
-    Passed {
-        walk: w,
-        body: Body::Cyclone(cyclone),
-    }
+    (w, Body::Cyclone(cyclone))
 }
 
-fn read_gale(s: &[u8], w: Walk) -> Passed
-    ensures { BodyRead s.now gale w result }
+fn read_gale(s: &[u8], w: Walk) -> (Walk, Body)
+    ensures { BodyRead s.now gale (seen w) (seen result.0) result.1 }
 {
     let w = w.num(s, 8, 0, 255);
     let radius = w.v as u8;
@@ -161,14 +146,11 @@ fn read_gale(s: &[u8], w: Walk) -> Passed
         greatest,
         direction,
     };
-    Passed {
-        walk: w,
-        body: Body::Gale(gale),
-    }
+    (w, Body::Gale(gale))
 }
 
-fn read_waves(s: &[u8], w: Walk) -> Passed
-    ensures { BodyRead s.now waves w result }
+fn read_waves(s: &[u8], w: Walk) -> (Walk, Body)
+    ensures { BodyRead s.now waves (seen w) (seen result.0) result.1 }
 {
     let w = w.num(s, 8, 0, 255);
     let radius = w.v as u8;
@@ -182,14 +164,11 @@ fn read_waves(s: &[u8], w: Walk) -> Passed
         height,
         period,
     };
-    Passed {
-        walk: w,
-        body: Body::Waves(waves),
-    }
+    (w, Body::Waves(waves))
 }
 
-fn read_fog(s: &[u8], w: Walk) -> Passed
-    ensures { BodyRead s.now fog w result }
+fn read_fog(s: &[u8], w: Walk) -> (Walk, Body)
+    ensures { BodyRead s.now fog (seen w) (seen result.0) result.1 }
 {
     let w = w.num(s, 9, 0, 511);
     let radius = w.v as u16;
@@ -197,14 +176,11 @@ fn read_fog(s: &[u8], w: Walk) -> Passed
     let visibility = w.v as u8;
     let w = w.blank(s, 33);
     let fog = Fog { radius, visibility };
-    Passed {
-        walk: w,
-        body: Body::Fog(fog),
-    }
+    (w, Body::Fog(fog))
 }
 
-fn read_surge(s: &[u8], w: Walk) -> Passed
-    ensures { BodyRead s.now surge w result }
+fn read_surge(s: &[u8], w: Walk) -> (Walk, Body)
+    ensures { BodyRead s.now surge (seen w) (seen result.0) result.1 }
 {
     let w = w.num(s, 9, 0, 511);
     let radius = w.v as u16;
@@ -221,8 +197,5 @@ fn read_surge(s: &[u8], w: Walk) -> Passed
         tide,
         period,
     };
-    Passed {
-        walk: w,
-        body: Body::Surge(surge),
-    }
+    (w, Body::Surge(surge))
 }

@@ -1,4 +1,5 @@
 // Writing a body of a warning (003, tables 58 to 62): its record judged, then put.
+ghost use Rattle.walk.specs.Walk.{seen};
 ghost use Rattle.warning.specs.Steps.{BodyJudged, BodyPut};
 ghost use Rattle.warning.specs.declared.bodies.Body.TheVariants.{Cyclone as IsCyclone, Gale as IsGale, Waves as IsWaves, Fog as IsFog, Surge as IsSurge};
 
@@ -6,7 +7,7 @@ use crate::bodies::{Body, Cyclone, Fog, Gale, Surge, Waves};
 use walk::walk::Walk;
 
 pub(crate) fn judged(w: Walk, body: Body) -> Walk
-    ensures { BodyJudged body w result }
+    ensures { BodyJudged body (seen w) (seen result) }
 {
     match body {
         Body::Cyclone(b) => judged_cyclone(w, b),
@@ -18,7 +19,7 @@ pub(crate) fn judged(w: Walk, body: Body) -> Walk
 }
 
 fn judged_cyclone(w: Walk, b: Cyclone) -> Walk
-    ensures { BodyJudged (IsCyclone b) w result }
+    ensures { BodyJudged (IsCyclone b) (seen w) (seen result) }
 {
     let w = w.value(3, b.kind as u64, 1, 4);
     let w = w.value(9, b.gale_radius as u64, 0, 511);
@@ -30,7 +31,7 @@ fn judged_cyclone(w: Walk, b: Cyclone) -> Walk
 }
 
 fn judged_gale(w: Walk, b: Gale) -> Walk
-    ensures { BodyJudged (IsGale b) w result }
+    ensures { BodyJudged (IsGale b) (seen w) (seen result) }
 {
     let w = w.value(8, b.radius as u64, 0, 255);
     let w = w.value(5, b.least as u64, 0, 31);
@@ -40,7 +41,7 @@ fn judged_gale(w: Walk, b: Gale) -> Walk
 }
 
 fn judged_waves(w: Walk, b: Waves) -> Walk
-    ensures { BodyJudged (IsWaves b) w result }
+    ensures { BodyJudged (IsWaves b) (seen w) (seen result) }
 {
     let w = w.value(8, b.radius as u64, 0, 255);
     let w = w.value(5, b.height as u64, 0, 31);
@@ -49,7 +50,7 @@ fn judged_waves(w: Walk, b: Waves) -> Walk
 }
 
 fn judged_fog(w: Walk, b: Fog) -> Walk
-    ensures { BodyJudged (IsFog b) w result }
+    ensures { BodyJudged (IsFog b) (seen w) (seen result) }
 {
     let w = w.value(9, b.radius as u64, 0, 511);
     let w = w.value(8, b.visibility as u64, 0, 250);
@@ -57,7 +58,7 @@ fn judged_fog(w: Walk, b: Fog) -> Walk
 }
 
 fn judged_surge(w: Walk, b: Surge) -> Walk
-    ensures { BodyJudged (IsSurge b) w result }
+    ensures { BodyJudged (IsSurge b) (seen w) (seen result) }
 {
     let w = w.value(9, b.radius as u64, 0, 511);
     let w = w.value(9, b.rise as u64, 0, 511);

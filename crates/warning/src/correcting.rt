@@ -2,13 +2,16 @@
 ghost use Rattle.bits.specs.Bits.{field_at};
 ghost use Rattle.format.specs.Correcting.{StandsAt};
 ghost use Rattle.format.specs.Promises.{Corrects};
+ghost use Rattle.format.specs.Refusals.{told_of};
+ghost use Rattle.walk.specs.Walk.{at_of, width_of};
 ghost use Rattle.warning.specs.Bodies.{cyclone, gale, waves, fog, surge, kind_of};
 ghost use Rattle.warning.specs.Warning.{warnings};
 ghost use Rattle.warning.specs.Changed.{spot_of, own_spot, field_of};
 
 use crate::reading::{Warning, fields, read};
-use change::correcting::Spot;
+use change::correcting::in_place;
 use format::Refusal;
+use walk::walk::Spot;
 
 impl Warning {
     // The numbers of the fields that may be corrected. Those of a body are fields of its type alone.
@@ -66,38 +69,32 @@ impl Warning {
 }
 
 // Makes field number `field` of the message be `value`, or leaves every byte.
-pub fn correct(buf: &mut [u8], field: usize, value: u64) -> Refusal
-    ensures { Corrects warnings buf.old (field_of (field_at buf.old 56 4) field) value result buf.new }
+pub fn correct(buf: &mut [u8], field: usize, value: u64) -> Result<(), Refusal>
+    ensures { Corrects warnings buf.old (field_of (field_at buf.old 56 4) field) value (told_of result) buf.new }
 {
-    let was = read(buf);
-    let own = was.refusal();
-    if own.code != 0 {
-        return own;
-    }
+    read(buf)?;
     let spot = stands(bits::get(buf, 56, 4), field);
-    let begun = change::correcting::begin(buf, own, spot, value);
-    let again = fields(buf);
-    change::correcting::finish(buf, begun, again.refusal())
+    in_place(buf, false, spot, value, fields)
 }
 
 // Where each field that may be corrected stands in a warning of type `kind`, and its width.
-fn stands(kind: u64, field: usize) -> Spot
-    ensures { StandsAt (spot_of (kind_of kind) (field_of kind field)) result.at result.width }
+fn stands(kind: u64, field: usize) -> Option<Spot>
+    ensures { StandsAt (spot_of (kind_of kind) (field_of kind field)) (at_of result) (width_of result) }
 {
     match field {
-        Warning::REPEAT => Spot { at: 6, width: 2 },
-        Warning::SOURCE => Spot { at: 8, width: 30 },
-        Warning::LONGITUDE => Spot { at: 60, width: 23 },
-        Warning::LATITUDE => Spot { at: 83, width: 23 },
-        Warning::TIME => Spot { at: 156, width: 20 },
-        Warning::HOURS => Spot { at: 176, width: 6 },
+        Warning::REPEAT => Some(Spot { at: 6, width: 2 }),
+        Warning::SOURCE => Some(Spot { at: 8, width: 30 }),
+        Warning::LONGITUDE => Some(Spot { at: 60, width: 23 }),
+        Warning::LATITUDE => Some(Spot { at: 83, width: 23 }),
+        Warning::TIME => Some(Spot { at: 156, width: 20 }),
+        Warning::HOURS => Some(Spot { at: 176, width: 6 }),
         _ => own(kind, field),
     }
 }
 
 // The same of a field of its body.
-fn own(kind: u64, field: usize) -> Spot
-    ensures { StandsAt (own_spot (kind_of kind) field) result.at result.width }
+fn own(kind: u64, field: usize) -> Option<Spot>
+    ensures { StandsAt (own_spot (kind_of kind) field) (at_of result) (width_of result) }
 {
     match kind {
         1 => cyclone(field),
@@ -108,62 +105,62 @@ fn own(kind: u64, field: usize) -> Spot
     }
 }
 
-fn cyclone(field: usize) -> Spot
-    ensures { StandsAt (own_spot cyclone field) result.at result.width }
+fn cyclone(field: usize) -> Option<Spot>
+    ensures { StandsAt (own_spot cyclone field) (at_of result) (width_of result) }
 {
     match field {
-        Warning::CYCLONE_KIND => Spot { at: 106, width: 3 },
-        Warning::CYCLONE_GALE_RADIUS => Spot { at: 109, width: 9 },
-        Warning::CYCLONE_STORM_RADIUS => Spot { at: 118, width: 9 },
-        Warning::CYCLONE_SPEED => Spot { at: 127, width: 6 },
-        Warning::CYCLONE_DIRECTION => Spot { at: 133, width: 9 },
-        Warning::CYCLONE_FORCE => Spot { at: 142, width: 5 },
-        Warning::CYCLONE_PRESSURE => Spot { at: 147, width: 9 },
-        _ => Spot { at: 0, width: 0 },
+        Warning::CYCLONE_KIND => Some(Spot { at: 106, width: 3 }),
+        Warning::CYCLONE_GALE_RADIUS => Some(Spot { at: 109, width: 9 }),
+        Warning::CYCLONE_STORM_RADIUS => Some(Spot { at: 118, width: 9 }),
+        Warning::CYCLONE_SPEED => Some(Spot { at: 127, width: 6 }),
+        Warning::CYCLONE_DIRECTION => Some(Spot { at: 133, width: 9 }),
+        Warning::CYCLONE_FORCE => Some(Spot { at: 142, width: 5 }),
+        Warning::CYCLONE_PRESSURE => Some(Spot { at: 147, width: 9 }),
+        _ => None,
     }
 }
 
-fn gale(field: usize) -> Spot
-    ensures { StandsAt (own_spot gale field) result.at result.width }
+fn gale(field: usize) -> Option<Spot>
+    ensures { StandsAt (own_spot gale field) (at_of result) (width_of result) }
 {
     match field {
-        Warning::GALE_RADIUS => Spot { at: 106, width: 8 },
-        Warning::GALE_LEAST => Spot { at: 114, width: 5 },
-        Warning::GALE_GREATEST => Spot { at: 119, width: 5 },
-        Warning::GALE_DIRECTION => Spot { at: 124, width: 4 },
-        _ => Spot { at: 0, width: 0 },
+        Warning::GALE_RADIUS => Some(Spot { at: 106, width: 8 }),
+        Warning::GALE_LEAST => Some(Spot { at: 114, width: 5 }),
+        Warning::GALE_GREATEST => Some(Spot { at: 119, width: 5 }),
+        Warning::GALE_DIRECTION => Some(Spot { at: 124, width: 4 }),
+        _ => None,
     }
 }
 
-fn waves(field: usize) -> Spot
-    ensures { StandsAt (own_spot waves field) result.at result.width }
+fn waves(field: usize) -> Option<Spot>
+    ensures { StandsAt (own_spot waves field) (at_of result) (width_of result) }
 {
     match field {
-        Warning::WAVES_RADIUS => Spot { at: 106, width: 8 },
-        Warning::WAVES_HEIGHT => Spot { at: 114, width: 5 },
-        Warning::WAVES_PERIOD => Spot { at: 119, width: 13 },
-        _ => Spot { at: 0, width: 0 },
+        Warning::WAVES_RADIUS => Some(Spot { at: 106, width: 8 }),
+        Warning::WAVES_HEIGHT => Some(Spot { at: 114, width: 5 }),
+        Warning::WAVES_PERIOD => Some(Spot { at: 119, width: 13 }),
+        _ => None,
     }
 }
 
-fn fog(field: usize) -> Spot
-    ensures { StandsAt (own_spot fog field) result.at result.width }
+fn fog(field: usize) -> Option<Spot>
+    ensures { StandsAt (own_spot fog field) (at_of result) (width_of result) }
 {
     match field {
-        Warning::FOG_RADIUS => Spot { at: 106, width: 9 },
-        Warning::FOG_VISIBILITY => Spot { at: 115, width: 8 },
-        _ => Spot { at: 0, width: 0 },
+        Warning::FOG_RADIUS => Some(Spot { at: 106, width: 9 }),
+        Warning::FOG_VISIBILITY => Some(Spot { at: 115, width: 8 }),
+        _ => None,
     }
 }
 
-fn surge(field: usize) -> Spot
-    ensures { StandsAt (own_spot surge field) result.at result.width }
+fn surge(field: usize) -> Option<Spot>
+    ensures { StandsAt (own_spot surge field) (at_of result) (width_of result) }
 {
     match field {
-        Warning::SURGE_RADIUS => Spot { at: 106, width: 9 },
-        Warning::SURGE_RISE => Spot { at: 115, width: 9 },
-        Warning::SURGE_TIDE => Spot { at: 124, width: 10 },
-        Warning::SURGE_PERIOD => Spot { at: 134, width: 13 },
-        _ => Spot { at: 0, width: 0 },
+        Warning::SURGE_RADIUS => Some(Spot { at: 106, width: 9 }),
+        Warning::SURGE_RISE => Some(Spot { at: 115, width: 9 }),
+        Warning::SURGE_TIDE => Some(Spot { at: 124, width: 10 }),
+        Warning::SURGE_PERIOD => Some(Spot { at: 134, width: 13 }),
+        _ => None,
     }
 }

@@ -2,7 +2,7 @@
 #![tactic(auto)]
 
 pub use crate::correcting::correct;
-pub use crate::reading::{APPLICATION, Answer, MESSAGE, Warning, read};
+pub use crate::reading::{APPLICATION, MESSAGE, Warning, read};
 pub use crate::writing::write;
 pub use ais_common::head::AUTHORITY;
 

@@ -1,13 +1,14 @@
 // Message 8 with application 412/03, a warning (paper 01, "AIS"; 003, tables 5 and 56 to 62).
-ghost use Rattle.std.specs.Prelude.{◌≡◌, cond, eqb};
+ghost use Rattle.std.specs.Prelude.{◌≡◌};
 ghost use Rattle.format.specs.Fmt.{also};
+ghost use Rattle.format.specs.Promises.{out_of, plain};
+ghost use Rattle.format.specs.Refusals.{code_of};
 ghost use Rattle.format.specs.Message.{fields_of};
 ghost use Rattle.warning.specs.Promises.{Reads};
-ghost use Rattle.warning.specs.Warning.{warning, warnings, record_of, answer_of, refusal_of};
-ghost use Rattle.warning.specs.declared.reading.Answer.TheVariants.{Good, Refused};
+ghost use Rattle.warning.specs.Warning.{warning, warnings, record_of};
 
 pub use ais_common::head::AUTHORITY;
-use format::Refusal;
+use format::{Reason, Refusal};
 
 #[derive(Clone, Copy)]
 pub struct Warning {
@@ -19,34 +20,6 @@ pub struct Warning {
     pub body: crate::bodies::Body,
     pub time: ais_common::time::Time,
     pub hours: u8,
-}
-
-#[derive(Clone, Copy)]
-pub enum Answer {
-    Good(Warning),
-    Refused(Refusal),
-}
-
-impl Answer {
-    // The warning, unless a walk over it ended with a refusal.
-    fn told(refusal: Refusal, r: Warning) -> Answer
-        ensures { result ≡ cond (eqb refusal.code 0) (Good r) (Refused refusal) }
-    {
-        if refusal.code != 0 {
-            return Answer::Refused(refusal);
-        }
-        Answer::Good(r)
-    }
-
-    // Its refusal: none for a good one.
-    pub fn refusal(self) -> Refusal
-        ensures { result ≡ refusal_of self }
-    {
-        match self {
-            Answer::Good(_) => Refusal::NONE,
-            Answer::Refused(refusal) => refusal,
-        }
-    }
 }
 
 impl Warning {
@@ -64,19 +37,16 @@ pub const APPLICATION: u64 = 3;
 // Both as they stand, side by side.
 const APPLIED: u64 = AUTHORITY * 64 + APPLICATION;
 
-pub fn read(s: &[u8]) -> Answer
+pub fn read(s: &[u8]) -> Result<Warning, Refusal>
     ensures { Reads s.now result }
 {
-    let code = lead(s);
-    if code != 0 {
-        return Answer::Refused(Refusal::bare(code));
-    }
+    lead(s)?;
     fields(s)
 }
 
 // The first tests: smallest size; message, application and warning type; size.
-pub fn lead(s: &[u8]) -> u8
-    ensures { result ≡ warnings.lead s.now }
+pub fn lead(s: &[u8]) -> Result<(), Reason>
+    ensures { code_of result ≡ warnings.lead s.now }
 {
     let head = ais_common::head::Head {
         message: bits::get(s, 0, 6),
@@ -94,35 +64,33 @@ pub fn lead(s: &[u8]) -> u8
 
 // The fields in bit order. Another size is refused at once: no field has then to be tested for it. What is
 // refused up to the warning type is answered there.
-pub fn fields(s: &[u8]) -> Answer
-    ensures { result ≡ answer_of (also record_of (fields_of warning 23 23 s.now)) }
+pub fn fields(s: &[u8]) -> Result<Warning, Refusal>
+    ensures { out_of result ≡ plain (also record_of (fields_of warning 23 23 s.now)) }
 {
     if s.len() != Warning::LEAST {
-        return Answer::Refused(Refusal::SIZE);
+        return Err(Reason::Size.into());
     }
-    let w = walk::walk::Walk::begin(0, 0).code(s, 6, MESSAGE);
+    let w = walk::walk::Walk::begin(0).code(s, 6, MESSAGE);
     let w = w.num(s, 2, 0, 3);
     let repeat = w.v as u8;
     let w = w.num(s, 30, 0, 999_999_999);
     let source = w.v as u32;
     let w = w.fill(s, 2).code(s, 10, AUTHORITY).code(s, 6, APPLICATION);
-    let w = w.number(s, 4, false, 1, 5, format::KIND);
+    let w = w.number(s, 4, false, 1, 5, Reason::Kind);
     let kind = w.v;
-    if w.code != 0 {
-        return Answer::Refused(w.refusal());
-    }
+    w.passed()?;
     let w = w.num(s, 23, 0, 7_200_000);
     let longitude = w.v as u32;
     let w = w.num(s, 23, 0, 7_200_000);
     let latitude = w.v as u32;
-    let passed = crate::bodies::read(s, kind, w);
-    let body = passed.body;
-    let w = ais_common::time::read(s, passed.walk);
+    let (w, body) = crate::bodies::read(s, kind, w);
+    let w = ais_common::time::read(s, w);
     let time = ais_common::time::Time::of(w.v);
     let w = w.num(s, 6, 0, 48);
     let hours = w.v as u8;
     let w = w.fill(s, 2).end(s);
-    let r = Warning {
+    w.passed()?;
+    Ok(Warning {
         repeat,
         source,
         longitude,
@@ -130,6 +98,5 @@ pub fn fields(s: &[u8]) -> Answer
         body,
         time,
         hours,
-    };
-    Answer::told(w.refusal(), r)
+    })
 }

@@ -1,5 +1,5 @@
 -- `refusal` goes by the number that stands in the first six bits.
-use mathlib.Core.Path.{refl, ap, ◌∙◌}
+use mathlib.Core.Path.{ap, ◌∙◌}
 use Prim.Native.Nat.{◌≤◌}
 use native.Mathlib.Omega.{arith}
 use lib.Dec.{lit≤}
@@ -11,7 +11,7 @@ use Rattle.ais.proofs.refusal.Goals as goal
 
 pub returns-then-s-lt-SMALLEST : goal.returns-then-s-lt-SMALLEST
 unfolding refusal_of
-returns-then-s-lt-SMALLEST c = let s = c.args.s.now in rw (lt-leb 23 (length s) c.if-s-lt-SMALLEST.true) refl
+returns-then-s-lt-SMALLEST c = let s = c.args.s.now in rw (lt-leb 23 (length s) c.if-s-lt-SMALLEST.true) c.into.ensures
 
 pub returns : goal.returns
 unfolding refusal_of

@@ -1,29 +1,41 @@
 -- `refusal_as` takes the reading that the message's number names.
-use mathlib.Core.Path.{refl, ap, ◌∙◌}
-use borrow.Author.Tests.{eq-eqb, ne_eqb}
+use Rattle.std.proofs.Common.{refl, ap, ◌∙◌, arith, eq-eqb, ne_eqb}
+use Rattle.format.specs.Fmt.{accepted}
 use Rattle.format.specs.Message.{read_message}
+use Rattle.format.specs.Promises.{refused_by, verdict_of}
 use Rattle.format.specs.Laws.Answers.{numbered}
-use Rattle.area.specs.Area.{areas, record_of as area_of, refusal_of as area_refusal}
-use Rattle.area.specs.declared.reading.Answer.TheVariants.{Good as area_good, Refused as area_bad}
-use Rattle.warning.specs.Warning.{warnings, record_of as warning_of, refusal_of as warning_refusal}
-use Rattle.warning.specs.declared.reading.Answer.TheVariants.{Good as warning_good, Refused as warning_bad}
+use Rattle.format.specs.Laws.Outcomes.{told_exit}
+use Rattle.area.specs.Area.{areas, record_of as area_of}
+use Rattle.warning.specs.Warning.{warnings, record_of as warning_of}
 use Rattle.ais.specs.Ais.{refusal_as}
 use Rattle.ais.proofs.refusal_as.Goals as goal
 
-pub returns-then-message-eq-MESSAGE : goal.returns-then-message-eq-MESSAGE
+pub returns-in_err-read-in-6 : goal.returns-in_err-read-in-6
 unfolding refusal_as
-returns-then-message-eq-MESSAGE c =
+returns-in_err-read-in-6 c =
     let a = c.args in
-    rw (eq-eqb a.message 6 c.if-message-eq-MESSAGE.true) (c.refusal.ensures ∙ ap area_refusal c.read.ensures ∙ numbered area_good area_bad area_of area_refusal (λ r. refl) (λ c. refl) (read_message areas a.s.now))
+    rw (eq-eqb a.message 6 c.in-6.is) (told_exit c.from_residual.result _ c.from_residual.ensures.1 ∙ ap verdict_of c.in_err-read-in-6.ensures ∙ numbered accepted refused_by area_of verdict_of (λ r. refl) (λ c. refl) (read_message areas a.s.now))
 
-pub returns-then-message-eq-MESSAGE-2 : goal.returns-then-message-eq-MESSAGE-2
+pub returns-in_ok-read-in-6 : goal.returns-in_ok-read-in-6
 unfolding refusal_as
-returns-then-message-eq-MESSAGE-2 c =
+returns-in_ok-read-in-6 c =
     let a = c.args in
-    rw (ne_eqb a.message 6 c.if-message-eq-MESSAGE.false, eq-eqb a.message 8 c.if-message-eq-MESSAGE-2.true) (c.refusal-then-message-eq-MESSAGE-2.ensures ∙ ap warning_refusal c.read-then-message-eq-MESSAGE-2.ensures ∙ numbered warning_good warning_bad warning_of warning_refusal (λ r. refl) (λ c. refl) (read_message warnings a.s.now))
+    rw (eq-eqb a.message 6 c.in-6.is) (ap verdict_of c.in_ok-read-in-6.ensures ∙ numbered accepted refused_by area_of verdict_of (λ r. refl) (λ c. refl) (read_message areas a.s.now))
 
-pub returns : goal.returns
+pub returns-in_err-read-in-8 : goal.returns-in_err-read-in-8
 unfolding refusal_as
-returns c =
+returns-in_err-read-in-8 c =
     let a = c.args in
-    rw (ne_eqb a.message 6 c.if-message-eq-MESSAGE.false, ne_eqb a.message 8 c.if-message-eq-MESSAGE-2.false) refl
+    rw (c.in-8.is) (told_exit c.from_residual-in_err-read-in-8.result _ c.from_residual-in_err-read-in-8.ensures.1 ∙ ap verdict_of c.in_err-read-in-8.ensures ∙ numbered accepted refused_by warning_of verdict_of (λ r. refl) (λ c. refl) (read_message warnings a.s.now))
+
+pub returns-in_ok-read-in-8 : goal.returns-in_ok-read-in-8
+unfolding refusal_as
+returns-in_ok-read-in-8 c =
+    let a = c.args in
+    rw (c.in-8.is) (ap verdict_of c.in_ok-read-in-8.ensures ∙ numbered accepted refused_by warning_of verdict_of (λ r. refl) (λ c. refl) (read_message warnings a.s.now))
+
+pub returns-in_default : goal.returns-in_default
+unfolding refusal_as
+returns-in_default c =
+    let a = c.args in
+    rw (ne_eqb a.message 6 (λ e. omega (arith, e)), ne_eqb a.message 8 (λ e. omega (arith, e))) c.into.ensures

@@ -8,11 +8,11 @@ use Rattle.bits.specs.Laws.Answers.{got_fits}
 use Rattle.walk.specs.Laws.Sign.{spell_int}
 use Rattle.format.specs.Fmt.{Spot, accepted, end, spot}
 use Rattle.format.specs.Settled.{Settled}
-use Rattle.format.specs.Promises.{read_record, Writes, Corrects}
+use Rattle.format.specs.Promises.{read_record, out_of, plain, Writes, Corrects}
 use Rattle.format.specs.Refusals.{bare}
 use Rattle.format.specs.Refusals.{Verdict}
 use Rattle.format.specs.Words.{◌‥◌, num, fill, wide}
-use Rattle.format.specs.Laws.Answers.{good_read, answer_plain}
+use Rattle.format.specs.Laws.Answers.{plain_good}
 use Rattle.format.specs.Laws.Entries.{entries}
 use Rattle.format.specs.Laws.Family.{Family}
 use Rattle.format.proofs.Laws.Family.{one_size, written_front, read_written, read_values}
@@ -23,7 +23,7 @@ use Rattle.format.specs.Laws.Zero.{Judged, Counted, only_numbered}
 use Rattle.ais_common.specs.Time.{short_time, spell_time, time_of, spell_short, short_of}
 use Rattle.ais_common.specs.Laws.Spelling.{time_spell, spell_time_lem, short_spell, spell_short_lem}
 use Rattle.ais_common.specs.Laws.Walking.{time_numbered, short_numbered}
-use Rattle.area.specs.Area.{tail, area, areas, values_as, values_of, record_of, answer_of, out_of}
+use Rattle.area.specs.Area.{tail, area, areas, values_as, values_of, record_of}
 use Rattle.area.specs.Changed.{spot_of, field_of, changed, named_by, spot_by, changed_by}
 use Rattle.area.specs.Promises.{Reads}
 use Rattle.area.specs.Shapes.{Kind, circle, rectangle, kind_of, type_of, shape, shape_kind, shape_values, shape_of}
@@ -35,8 +35,8 @@ use Rattle.area.specs.Laws.Walking.{shape_numbered}
 use Rattle.area.specs.declared.reading.Area.{Area}
 use Rattle.area.specs.declared.reading.shapes.Shape.{Shape}
 use Rattle.area.specs.declared.reading.shapes.Shape.TheVariants.{Circle, Rectangle}
-use Rattle.area.specs.declared.reading.Answer.{Answer}
-use Rattle.area.specs.declared.reading.Answer.TheVariants.{Good, Refused}
+use Rattle.format.specs.declared.Refusal.{Refusal}
+use Rattle.std.specs.Prelude.{Result, Ok}
 
 -- ---- the values of a record
 
@@ -162,16 +162,16 @@ family = record {
 -- ---- said of its promises
 
 -- an answer that is good is an accepted reading
-pub good : (s : List ℕ) (r : Area) → Reads s (Good r) → read_record areas record_of s ≡ accepted r
-good s r = good_read Good Refused out_of (λ q. refl) (λ c. refl) (read_record areas record_of s)
+pub good : (s : List ℕ) (r : Area) → Reads s (Ok r) → read_record areas record_of s ≡ accepted r
+good s r e = plain_good (read_record areas record_of s) (sym e)
 
 -- What is written is read back as the same record.
-pub written_reads : (s : List ℕ) (r : Area) (t : List ℕ) → Writes areas s (bare 0) t (values_of r) → Reads (take 31 t) (Good r)
+pub written_reads : (s : List ℕ) (r : Area) (t : List ℕ) → Writes areas s (bare 0) t (values_of r) → Reads (take 31 t) (Ok r)
 unfolding areas
-written_reads s r t w = sym (ap answer_of (written_front family s r t 31 tt w (one_size areas 31 refl refl (values_of r))))
+written_reads s r t w = sym (ap plain (written_front family s r t 31 tt w (one_size areas 31 refl refl (values_of r))))
 
 -- What is read is written back as the same bytes.
-pub read_writes_back : (s : List ℕ) (r : Area) → Bytes s → Reads s (Good r) → (u : List ℕ) (code : Verdict) (t : List ℕ) → length s ≤ length u → Writes areas u code t (values_of r)
+pub read_writes_back : (s : List ℕ) (r : Area) → Bytes s → Reads s (Ok r) → (u : List ℕ) (code : Verdict) (t : List ℕ) → length s ≤ length u → Writes areas u code t (values_of r)
     → (code ≡ bare 0) × (t ≡ s ++ drop (length s) u)
 read_writes_back s r fine a = read_written family s r fine (good s r a)
 
@@ -191,8 +191,8 @@ looked_stands s n k fine is there r e =
     ap (λ t. spot areas.fmt [] (values_of r) (field_of t n)) (sym shape) ∙ spotted r (field_of k n) ∙ ap (λ t. spot_of t (field_of k n)) (sym kind) ∙ there
 
 -- Demand 3: every correction of an area, by any number and any value.
-pub corrected : (s : List ℕ) (a : Answer) → Bytes s → Reads s a → (n v : ℕ) (code : Verdict) (t : List ℕ) → Corrects areas s (field_of (field_at s 92 2) n) v code t
+pub corrected : (s : List ℕ) (a : Result Area Refusal) → Bytes s → Reads s a → (n v : ℕ) (code : Verdict) (t : List ℕ) → Corrects areas s (field_of (field_at s 92 2) n) v code t
     → Settled areas spot_by values_of changed_by s (out_of a) n v code t
 corrected s a fine reads n v code t c =
     settled_named family (λ r. spot_of (shape_kind r.shape)) spotted s fine (field_of (field_at s 92 2) n) v code t c named_by n (λ r e. ap (λ k. field_of k n) (shape_number s r fine e))
-    (out_of a) (answer_plain Good Refused out_of (λ q. refl) (λ c. refl) (read_record areas record_of s) reads)
+    (out_of a) reads

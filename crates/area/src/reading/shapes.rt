@@ -1,6 +1,7 @@
 // The two shapes of an area (003, tables 39 and 40): 110 bits.
 ghost use Rattle.std.specs.Prelude.{◌≡◌};
 ghost use Rattle.area.specs.Shapes.{circle, rectangle, kind_of, type_of, shape_kind};
+ghost use Rattle.walk.specs.Walk.{seen};
 ghost use Rattle.area.specs.Steps.{east_read, north_read, ShapeRead};
 
 use walk::walk::Walk;
@@ -47,25 +48,18 @@ pub const NORTH: u64 = 134_217_728;
 
 // ---- reading
 
-// A shape, and the walk past it.
-#[derive(Clone, Copy)]
-pub(crate) struct Passed {
-    pub(crate) walk: Walk,
-    pub(crate) shape: Shape,
-}
-
-// The shape of number `kind`; one of no shape's is read as the last.
-pub(crate) fn read(s: &[u8], kind: u64, w: Walk) -> Passed
-    ensures { ShapeRead s.now (kind_of kind) w result }
+// The shape of number `kind`, and the walk past it; one of no shape's is read as the last.
+pub(crate) fn read(s: &[u8], kind: u64, w: Walk) -> (Walk, Shape)
+    ensures { ShapeRead s.now (kind_of kind) (seen w) (seen result.0) result.1 }
 {
-    if kind == 1 {
-        return read_circle(s, w);
+    match kind {
+        1 => read_circle(s, w),
+        _ => read_rectangle(s, w),
     }
-    read_rectangle(s, w)
 }
 
-fn read_circle(s: &[u8], w: Walk) -> Passed
-    ensures { ShapeRead s.now circle w result }
+fn read_circle(s: &[u8], w: Walk) -> (Walk, Shape)
+    ensures { ShapeRead s.now circle (seen w) (seen result.0) result.1 }
 {
     let w = read_longitude(s, w);
     let longitude = walk::sign::int(w.v, EAST);
@@ -79,14 +73,11 @@ fn read_circle(s: &[u8], w: Walk) -> Passed
         latitude,
         radius,
     };
-    Passed {
-        walk: w,
-        shape: Shape::Circle(circle),
-    }
+    (w, Shape::Circle(circle))
 }
 
-fn read_rectangle(s: &[u8], w: Walk) -> Passed
-    ensures { ShapeRead s.now rectangle w result }
+fn read_rectangle(s: &[u8], w: Walk) -> (Walk, Shape)
+    ensures { ShapeRead s.now rectangle (seen w) (seen result.0) result.1 }
 {
     let w = read_longitude(s, w);
     let longitude = walk::sign::int(w.v, EAST);
@@ -102,21 +93,18 @@ fn read_rectangle(s: &[u8], w: Walk) -> Passed
         second_longitude,
         second_latitude,
     };
-    Passed {
-        walk: w,
-        shape: Shape::Rectangle(rectangle),
-    }
+    (w, Shape::Rectangle(rectangle))
 }
 
 // A position's numbers, in two functions: one would be too long for the compiler to put it where it is called.
 fn read_longitude(s: &[u8], w: Walk) -> Walk
-    ensures { result ≡ east_read s.now w }
+    ensures { seen result ≡ east_read s.now (seen w) }
 {
     w.signed(s, 28, 108_000_000, 160_435_456, 108_600_000)
 }
 
 fn read_latitude(s: &[u8], w: Walk) -> Walk
-    ensures { result ≡ north_read s.now w }
+    ensures { seen result ≡ north_read s.now (seen w) }
 {
     w.signed(s, 27, 54_000_000, 80_217_728, 54_600_000)
 }

@@ -3,17 +3,18 @@ ghost use Rattle.std.specs.Prelude.{[]};
 ghost use Rattle.format.specs.Fmt.{write as Fmt·write};
 ghost use Rattle.format.specs.Laws.Putting.{Puts};
 ghost use Rattle.walk.specs.Laws.Judging.{Judged};
+ghost use Rattle.walk.specs.Walk.{seen};
 ghost use Rattle.area.specs.Area.{area, values_as};
 
 use crate::reading::Area;
 
 // `time` and `second` are the numbers that the record's times spell.
 pub(crate) fn judged(r: Area, time: u64, second: u64) -> walk::walk::Walk
-    ensures { Judged (Fmt·write area [] 0 (values_as r time second)) result }
+    ensures { Judged (Fmt·write area [] 0 (values_as r time second)) (seen result) }
 {
     let shape = r.shape;
     let kind = shape.kind();
-    let w = walk::walk::Walk::begin(0, 0).fixed(6, crate::reading::MESSAGE);
+    let w = walk::walk::Walk::begin(0).fixed(6, crate::reading::MESSAGE);
     let w = w.value(2, r.repeat as u64, 0, 3);
     let w = w.value(30, r.source as u64, 0, 999_999_999);
     let w = w.value(2, r.sequence as u64, 0, 3);

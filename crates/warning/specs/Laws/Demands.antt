@@ -13,11 +13,11 @@ use Rattle.warning.specs.declared.bodies.Body.TheVariants.{Cyclone, Gale, Waves,
 use Rattle.warning.specs.Laws.Walking.{body_numbered}
 use Rattle.format.specs.Fmt.{Spot, accepted, end, spot}
 use Rattle.format.specs.Settled.{Settled}
-use Rattle.format.specs.Promises.{read_record, Writes, Corrects}
+use Rattle.format.specs.Promises.{read_record, out_of, plain, Writes, Corrects}
 use Rattle.format.specs.Refusals.{bare}
 use Rattle.format.specs.Refusals.{Verdict}
 use Rattle.format.specs.Words.{◌‥◌, wide, num, fill}
-use Rattle.format.specs.Laws.Answers.{good_read, answer_plain}
+use Rattle.format.specs.Laws.Answers.{plain_good}
 use Rattle.format.specs.Laws.Entries.{entries, entries_behind}
 use Rattle.format.specs.Laws.Family.{Family}
 use Rattle.format.proofs.Laws.Family.{read_values, one_size, written_front, read_written}
@@ -30,13 +30,13 @@ use Rattle.ais_common.specs.Laws.Spelling.{time_spell, spell_time_lem}
 use Rattle.ais_common.specs.Laws.Walking.{time_numbered}
 use Rattle.warning.specs.Changed.{spot_of, field_of, changed, named_by, spot_by, changed_by}
 use Rattle.warning.specs.Promises.{Reads}
-use Rattle.warning.specs.Warning.{tail, warning, warnings, values_as, values_of, record_as, record_of, answer_of, out_of}
+use Rattle.warning.specs.Warning.{tail, warning, warnings, values_as, values_of, record_as, record_of}
 use Rattle.warning.specs.Laws.Correction.{spotted, changed_values}
 use Rattle.warning.specs.Laws.Sound.{front, bytes, type_at, sound}
 use Rattle.warning.specs.Laws.Told.{recorded, kind_type}
 use Rattle.warning.specs.declared.reading.Warning.{Warning}
-use Rattle.warning.specs.declared.reading.Answer.{Answer}
-use Rattle.warning.specs.declared.reading.Answer.TheVariants.{Good, Refused}
+use Rattle.format.specs.declared.Refusal.{Refusal}
+use Rattle.std.specs.Prelude.{Result, Ok}
 
 -- ---- records and values are one another's
 
@@ -219,22 +219,22 @@ looked_stands s n k fine is there r e =
 -- ---- said of the warning's promises
 
 -- an answer that is good is an accepted reading
-pub good : (s : List ℕ) (r : Warning) → Reads s (Good r) → read_record warnings record_of s ≡ accepted r
-good s r = good_read Good Refused out_of (λ q. refl) (λ c. refl) (read_record warnings record_of s)
+pub good : (s : List ℕ) (r : Warning) → Reads s (Ok r) → read_record warnings record_of s ≡ accepted r
+good s r e = plain_good (read_record warnings record_of s) (sym e)
 
 -- What is written is read back as the same record.
-pub written_reads : (s : List ℕ) (r : Warning) (t : List ℕ) → Writes warnings s (bare 0) t (values_of r) → Reads (take 23 t) (Good r)
+pub written_reads : (s : List ℕ) (r : Warning) (t : List ℕ) → Writes warnings s (bare 0) t (values_of r) → Reads (take 23 t) (Ok r)
 unfolding warnings
-written_reads s r t w = sym (ap answer_of (written_front family s r t 23 tt w (one_size warnings 23 refl refl (values_of r))))
+written_reads s r t w = sym (ap plain (written_front family s r t 23 tt w (one_size warnings 23 refl refl (values_of r))))
 
 -- What is read is written back as the same bytes.
-pub read_writes_back : (s : List ℕ) (r : Warning) → Bytes s → Reads s (Good r) → (u : List ℕ) (code : Verdict) (t : List ℕ) → length s ≤ length u → Writes warnings u code t (values_of r)
+pub read_writes_back : (s : List ℕ) (r : Warning) → Bytes s → Reads s (Ok r) → (u : List ℕ) (code : Verdict) (t : List ℕ) → length s ≤ length u → Writes warnings u code t (values_of r)
     → (code ≡ bare 0) × (t ≡ s ++ drop (length s) u)
 read_writes_back s r fine a = read_written family s r fine (good s r a)
 
 -- Demand 3: every correction of a warning, by any number and any value.
-pub corrected : (s : List ℕ) (a : Answer) → Bytes s → Reads s a → (n v : ℕ) (code : Verdict) (t : List ℕ) → Corrects warnings s (field_of (field_at s 56 4) n) v code t
+pub corrected : (s : List ℕ) (a : Result Warning Refusal) → Bytes s → Reads s a → (n v : ℕ) (code : Verdict) (t : List ℕ) → Corrects warnings s (field_of (field_at s 56 4) n) v code t
     → Settled warnings spot_by values_of changed_by s (out_of a) n v code t
 corrected s a fine reads n v code t c =
     settled_named family (λ r. spot_of (body_kind r.body)) spotted s fine (field_of (field_at s 56 4) n) v code t c named_by n (λ r e. ap (λ k. field_of k n) (type_number s r fine e))
-    (out_of a) (answer_plain Good Refused out_of (λ q. refl) (λ c. refl) (read_record warnings record_of s) reads)
+    (out_of a) reads

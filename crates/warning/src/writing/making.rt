@@ -3,17 +3,18 @@ ghost use Rattle.std.specs.Prelude.{[]};
 ghost use Rattle.format.specs.Fmt.{write as Fmt·write};
 ghost use Rattle.format.specs.Laws.Putting.{Puts};
 ghost use Rattle.walk.specs.Laws.Judging.{Judged};
+ghost use Rattle.walk.specs.Walk.{seen};
 ghost use Rattle.warning.specs.Warning.{warning, values_as};
 
 use crate::reading::Warning;
 
 // `time` is the number that the record's time spells.
 pub(crate) fn judged(r: Warning, time: u64) -> walk::walk::Walk
-    ensures { Judged (Fmt·write warning [] 0 (values_as r time)) result }
+    ensures { Judged (Fmt·write warning [] 0 (values_as r time)) (seen result) }
 {
     let body = r.body;
     let kind = body.kind();
-    let w = walk::walk::Walk::begin(0, 0).fixed(6, crate::reading::MESSAGE);
+    let w = walk::walk::Walk::begin(0).fixed(6, crate::reading::MESSAGE);
     let w = w.value(2, r.repeat as u64, 0, 3);
     let w = w.value(30, r.source as u64, 0, 999_999_999);
     let w = w

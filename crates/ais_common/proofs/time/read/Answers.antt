@@ -1,6 +1,6 @@
 -- `read` judges the number that stands there.
 use mathlib.Core.Path.{ap, ◌∙◌}
-use Rattle.walk.specs.Walk.{onward}
+use Rattle.walk.specs.Walk.{seen, onward}
 use Rattle.walk.specs.Laws.Reading.{got_lt}
 use Rattle.ais_common.specs.Steps.{time_judged}
 use Rattle.ais_common.proofs.time.read.Goals as goal
@@ -9,5 +9,5 @@ pub returns : goal.returns
 unfolding onward
 returns c =
     let a = c.args in
-    let e = c.judged.ensures ∙ ap (λ v. time_judged v a.w) c.get.ensures in
+    let e = c.judged.ensures ∙ ap (λ v. time_judged v (seen a.w)) c.get.ensures in
     (e, got_lt a.s.now a.w.at 20 (ap (λ r. r.v) e))

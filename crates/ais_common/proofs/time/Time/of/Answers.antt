@@ -5,4 +5,4 @@ use Rattle.ais_common.proofs.time.Time.of.Goals as goal
 
 pub returns : goal.returns
 unfolding time_of short_of
-returns c = let e = c.of-short.ensures in λ i. record { month = (e i).month; day = (e i).day; hour = (e i).hour; minute = c.args.v % 64 }
+returns c = let e = c.of-month.ensures in λ i. record { month = (e i).month; day = (e i).day; hour = (e i).hour; minute = c.args.v % 64 }

@@ -4,6 +4,7 @@ use mathlib.Core.Bool.{false}
 use Prim.Native.Nat.{◌<◌}
 use native.Mathlib.Omega.{arith}
 use lib.Dec.{lit<}
+use Rattle.walk.specs.Walk.{seen}
 use Rattle.walk.specs.Walk.{onward}
 use Rattle.walk.specs.Laws.Judging.{judge_start, judge_fixed, judge_num, judge_end}
 use Rattle.ais_common.specs.Laws.Walking.{time_judged_lem, short_judged_lem}
@@ -35,7 +36,7 @@ returns c =
     let r8 = judge_fixed 10 1 412 (lit< tt) (lit< tt) r7 c.fixed-2.ensures in
     let r9 = judge_fixed 6 1 11 (lit< tt) (lit< tt) r8 c.fixed-w-2.ensures in
     let r10 = judge_num 4 (lit< tt) 1 14 (lit< tt) r9 c.value-w-6.ensures in
-    let r11 = kind_judged (shape_kind a.r.shape) r10 (c.fixed-w-3.ensures ∙ ap (λ v. onward 2 false v 0 0 c.value-w-6.result) c.kind-kind.ensures) in
+    let r11 = kind_judged (shape_kind a.r.shape) r10 (c.fixed-w-3.ensures ∙ ap (λ v. onward 2 false v 0 0 (seen c.value-w-6.result)) c.kind-kind.ensures) in
     let r12 = c.judged-w.ensures.on r11 in
     let r13 = time_judged_lem (lit< tt) r12 c.judged-w-2.ensures in
     let r14 = short_judged_lem (lit< tt) r13 c.judged_short-w.ensures in
