@@ -3,13 +3,13 @@ use Rattle.std.specs.Prelude.{List, [], ◌∷◌, ◌≡◌, refl, ℕ, set}
 use Rattle.bits.specs.Xor.{xor_of}
 use Rattle.bits.specs.Bits.{bit, value_of, digits, bits_of, field_at}
 use Rattle.distress.specs.Report.{report as fields, reports}
-use Rattle.format.specs.Fmt.{accepted, read_field, read}
+use Rattle.format.specs.Fmt.{accepted, refused, read_field, read}
 use Rattle.format.specs.Message.{read_message}
 use Rattle.format.specs.Words.{walk}
 use Rattle.sentence.specs.Spelling.{figure_of, digit_value, all_digits, decimal, spelt, hex_of, unhexed, closing_of}
 use Rattle.sentence.specs.Pattern.{opening, summed_up, sentence, same_bytes, address_like, pattern_like, lead_of, around_so}
-use Rattle.sentence.specs.Sentence.{read_sentence, heard_of}
-use Rattle.sentence.specs.declared.reading.Heard.TheVariants.{Refused}
+use Rattle.format.specs.Promises.{plain}
+use Rattle.sentence.specs.Sentence.{read_sentence}
 
 -- bdc1075bcd15385c8780d1ba258c8a16c0
 abbrev report : List ℕ
@@ -30,16 +30,16 @@ example_read = refl
 -- ---- refused: by 001, table A.1, the report has 16 bits of code, 32 of MMSI, 25 of longitude, 24 of latitude, 5, 5 and 6 of time, 7 of speed, 9 of course; then the type, 4, at bit 129 of the report, and the fill, 3, at bit 133
 
 -- `c1*53` at the end: the fill is not zero; `1` for `0` turns the last bit of the sum
-fill_refused : heard_of (read_sentence (set (set example 54 0x31) 57 0x33)) ≡ Refused (record { code = 5; bit = 133 })
+fill_refused : plain (read_sentence (set (set example 54 0x31) 57 0x33)) ≡ refused 5 133
 unfolding read_sentence around_so lead_of pattern_like address_like same_bytes all_digits digit_value spelt unhexed closing_of figure_of xor_of read_message reports fields read read_field walk field_at value_of bit digits bits_of
 fill_refused = refl
 
 -- `f8*5F` at the end: type 15; `f` for `c` turns 5 in the sum and `8` for `0` turns 8
-type_refused : heard_of (read_sentence (set (set (set example 53 0x66) 54 0x38) 57 0x46)) ≡ Refused (record { code = 4; bit = 129 })
+type_refused : plain (read_sentence (set (set (set example 53 0x66) 54 0x38) 57 0x46)) ≡ refused 4 129
 unfolding read_sentence around_so lead_of pattern_like address_like same_bytes all_digits digit_value spelt unhexed closing_of figure_of xor_of read_message reports fields read read_field walk field_at value_of bit digits bits_of
 type_refused = refl
 
 -- `0234567` and `*53`: a leading zero is the sentence's own 4, at no field
-zero_refused : heard_of (read_sentence (set (set example 7 0x30) 57 0x33)) ≡ Refused (record { code = 4; bit = 0 })
+zero_refused : plain (read_sentence (set (set example 7 0x30) 57 0x33)) ≡ refused 4 0
 unfolding read_sentence around_so lead_of pattern_like address_like same_bytes all_digits digit_value spelt unhexed closing_of figure_of xor_of
 zero_refused = refl

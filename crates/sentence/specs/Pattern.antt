@@ -1,11 +1,11 @@
 -- The distress sentence around a report (paper 01, "Distress report", second paragraph). Assumes nothing.
-use Rattle.std.specs.Prelude.{ℕ, ◌-◌, ◌≡◌, Bool, true, false, cond, not, ◌&&◌, List, [], ◌∷◌, ◌++◌, leb, eqb, length, take, drop, get_or}
+use Rattle.std.specs.Prelude.{ℕ, ◌-◌, ◌≡◌, Bool, true, false, cond, not, ◌&&◌, List, [], ◌∷◌, ◌++◌, leb, eqb, length, take, drop, get_or, Result, Ok, Err}
 use Rattle.bits.specs.Xor.{xor_of}
 use Rattle.format.specs.Fmt.{Out, accepted, refused, or_bad, check}
 use Rattle.format.specs.Message.{fault, between, ahead}
 use Rattle.sentence.specs.Spelling.{all_digits, decimal, spelt, hex_of, unhexed, closing_of}
-use Rattle.sentence.specs.declared.pattern.Around.{Around}
-use Rattle.sentence.specs.declared.pattern.Around.TheVariants.{Accepted as Accepts, Refused as Refuses}
+use Rattle.format.specs.Refusals.{number}
+use Rattle.format.specs.declared.Reason.{Reason}
 
 -- `$CCTXA,`
 abbrev pub start_mark : List ℕ
@@ -76,14 +76,15 @@ lead_of s =
 unfoldable pub around_so : List ℕ → Out (ℕ × List ℕ)
 around_so s = check (fault (lead_of s)) 0 (check (or_bad (pattern_like s) 4) 0 (accepted (spelt 0 (address_part s), unhexed (hex_part s))))
 
-abbrev pub around_of : Out (ℕ × List ℕ) → Around
-around_of (accepted x) = Accepts x.0
-around_of (refused c p) = Refuses c
+-- what the code tells of it: the address, or the refusal's number
+abbrev pub around_of : Out (ℕ × List ℕ) → Out ℕ
+around_of (accepted x) = accepted x.0
+around_of (refused c p) = refused c 0
 
--- its refusal's number, 0 for none
-abbrev pub refusal_of : Around → ℕ
-refusal_of (Accepts a) = 0
-refusal_of (Refuses c) = c
+-- and how it tells it
+abbrev pub told_around : Result ℕ Reason → Out ℕ
+told_around (Ok a) = accepted a
+told_around (Err r) = refused (number r) 0
 
 -- ---- writing
 

@@ -1,15 +1,12 @@
 -- The distress sentence (paper 01, "Distress report", second paragraph): the report within the pattern. Assumes nothing.
-use Rattle.std.specs.Prelude.{ℕ, ◌≡◌, List, leb, length}
+use Rattle.std.specs.Prelude.{ℕ, ◌≡◌, List, leb, length, Result}
 use Rattle.format.specs.Fmt.{Out, accepted, refused, or_bad, check, also, after}
 use Rattle.format.specs.Message.{write_message, ahead}
-use Rattle.format.specs.Promises.{answered, refused_by, read_record}
+use Rattle.format.specs.Promises.{answered, refused_by, out_of, plain, read_record}
+use Rattle.format.specs.declared.Refusal.{Refusal}
 use Rattle.distress.specs.Report.{reports, values_of, report_of}
 use Rattle.distress.specs.declared.reading.Report.{Report}
 use Rattle.sentence.specs.Pattern.{sentence, address_good, around_so}
-use Rattle.sentence.specs.declared.reading.Heard.{Heard}
-use Rattle.sentence.specs.declared.reading.Heard.TheVariants.{Good, Refused}
-use Rattle.sentence.specs.declared.writing.Sent.{Sent}
-use Rattle.sentence.specs.declared.writing.Sent.TheVariants.{Bytes, Refused as Unsent}
 
 -- The report inside is read only if the sentence around it was accepted. A refusal of the sentence itself has bit 0, for no field is walked there; the report's has the bit that reading the report tells.
 unfoldable pub read_sentence : List ℕ → Out (ℕ × Report)
@@ -26,24 +23,21 @@ room_for s o = after o (λ t. check (or_bad (leb (length t) (length s)) 6) 0 (ac
 
 -- ---- what the calls answer and leave
 
-abbrev pub heard_of : Out (ℕ × Report) → Heard
-heard_of = answered (λ x. Good x.0 x.1) Refused
-
--- such an answer taken apart
-abbrev pub out_of : Heard → Out (ℕ × Report)
-out_of (Good a r) = accepted (a, r)
-out_of (Refused c) = refused_by c
-
-abbrev pub sent_of : Out (List ℕ) → Sent
-sent_of = answered (λ t. Bytes (length t)) Unsent
+-- writing: how many bytes the sentence has
+abbrev pub sent_of : Out (List ℕ) → Out ℕ
+sent_of = answered (λ t. accepted (length t)) refused_by
 
 -- the sentence at the buffer's front, and the bytes past it as they were
 abbrev pub laid_over : Out (List ℕ) → List ℕ → List ℕ
 laid_over (accepted t) s = ahead t s
 laid_over (refused c p) s = s
 
-abbrev pub Hears : List ℕ → Heard → Type 0
-Hears s h = h ≡ heard_of (read_sentence s)
+abbrev pub Hears : List ℕ → Result (ℕ × Report) Refusal → Type 0
+Hears s h = out_of h ≡ plain (read_sentence s)
 
-abbrev pub Sends : List ℕ → ℕ → Report → Sent → List ℕ → Type 0
-Sends s address r sent t = (sent ≡ sent_of (room_for s (write_sentence address r))) × (t ≡ laid_over (room_for s (write_sentence address r)) s)
+-- writing by what is told of it, with t left of s
+abbrev pub SendsOut : List ℕ → ℕ → Report → Out ℕ → List ℕ → Type 0
+SendsOut s address r sent t = (sent ≡ sent_of (room_for s (write_sentence address r))) × (t ≡ laid_over (room_for s (write_sentence address r)) s)
+
+abbrev pub Sends : List ℕ → ℕ → Report → Result ℕ Refusal → List ℕ → Type 0
+Sends s address r sent t = SendsOut s address r (out_of sent) t

@@ -1,8 +1,8 @@
 // The distress sentence (paper 01, "Distress report", second paragraph; 001, A.2): `$CCTXA,` address `,2,2,A4` report `*` sum CR LF.
 #![tactic(auto)]
 
-pub use crate::reading::{Heard, read};
-pub use crate::writing::{Sent, write};
+pub use crate::reading::read;
+pub use crate::writing::write;
 
 pub mod laying;
 pub mod pattern;

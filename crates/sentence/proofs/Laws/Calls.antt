@@ -6,16 +6,14 @@ use Rattle.format.specs.Fmt.{Out, accepted, refused}
 use Rattle.sentence.specs.Pattern.{hex_part, around_so, around_of}
 use Rattle.sentence.specs.Spelling.{unhexed}
 use Rattle.sentence.specs.Laws.Tests.{led, passed, pattern_both}
-use Rattle.sentence.specs.declared.pattern.Around.{Around}
-use Rattle.sentence.specs.declared.pattern.Around.TheVariants.{Accepted as Accepts}
 use Rattle.sentence.specs.Laws.Calls.{Taken}
 
 -- ---- reading
 
-pub taken : (s : List ℕ) (x : Around) (a : ℕ) → x ≡ around_of (around_so s) → x ≡ Accepts a → Taken s a
-taken s x a e f = go (around_so s) refl e
+pub taken : (s : List ℕ) (a : ℕ) → accepted a ≡ around_of (around_so s) → Taken s a
+taken s a e = go (around_so s) refl e
   where
-    go : (o : Out (ℕ × List ℕ)) → around_so s ≡ o → x ≡ around_of o → Taken s a
+    go : (o : Out (ℕ × List ℕ)) → around_so s ≡ o → accepted a ≡ around_of o → Taken s a
     go (refused d p) g e = let z : ◌≡◌ {A = ℕ} 0 1 = cc in absurd (omega arith)
     go (accepted y) g e =
         let p = passed s y g in

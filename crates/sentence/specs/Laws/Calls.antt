@@ -11,23 +11,16 @@ use Rattle.format.specs.Laws.Refusals.{shown_bare}
 use Rattle.format.specs.Refusals.{Verdict}
 use Rattle.format.proofs.Laws.Whole.{made}
 use Rattle.format.proofs.Laws.Family.{never_written}
-use Rattle.format.specs.Promises.{read_record, Writes}
+use Rattle.format.specs.Promises.{read_record, refused_by, plain, Writes}
 use Rattle.distress.specs.Laws.Demands.{long}
 use Rattle.distress.proofs.Laws.Demands.{family}
-use Rattle.distress.specs.Report.{reports, values_of, report_of, answer_of}
+use Rattle.distress.specs.Report.{reports, values_of, report_of}
 use Rattle.sentence.specs.Pattern.{Laid, opening, summed_up, sentence, address_good, hex_part, around_so, around_of}
 use Rattle.sentence.specs.Spelling.{all_digits, decimal, unhexed}
-use Rattle.sentence.specs.Sentence.{read_sentence, write_sentence, room_for, heard_of, sent_of, laid_over, Sends}
+use Rattle.sentence.specs.Sentence.{read_sentence, write_sentence, room_for, sent_of, laid_over, SendsOut}
 use Rattle.sentence.specs.Laws.Parts.{summed_long}
 use Rattle.sentence.specs.Laws.Tests.{around_bare}
 use Rattle.distress.specs.declared.reading.Report.{Report}
-use Rattle.distress.specs.declared.reading.Answer.{Answer}
-use Rattle.distress.specs.declared.reading.Answer.TheVariants.{Good as GoodReport, Refused as BadReport}
-use Rattle.sentence.specs.declared.pattern.Around.{Around}
-use Rattle.sentence.specs.declared.pattern.Around.TheVariants.{Refused as Refuses}
-use Rattle.sentence.specs.declared.reading.Heard.{Heard}
-use Rattle.sentence.specs.declared.reading.Heard.TheVariants.{Good, Refused}
-use Rattle.sentence.specs.declared.writing.Sent.TheVariants.{Bytes as Written, Refused as Unsent}
 
 -- ---- reading
 
@@ -35,12 +28,12 @@ pub heard_fails : (s : List ℕ) (c p : ℕ) → around_so s ≡ refused c p →
 unfolding read_sentence
 heard_fails s c p e = rw e refl
 
-pub heard_refused : (s : List ℕ) (x : Around) (c : ℕ) → x ≡ around_of (around_so s) → x ≡ Refuses c → heard_of (read_sentence s) ≡ Refused (bare c)
-heard_refused s x c e f = go (around_so s) refl e
+pub heard_refused : (s : List ℕ) (c : ℕ) → refused c 0 ≡ around_of (around_so s) → plain (read_sentence s) ≡ refused c 0
+heard_refused s c e = go (around_so s) refl e
   where
-    go : (o : Out (ℕ × List ℕ)) → around_so s ≡ o → x ≡ around_of o → heard_of (read_sentence s) ≡ Refused (bare c)
+    go : (o : Out (ℕ × List ℕ)) → around_so s ≡ o → refused c 0 ≡ around_of o → plain (read_sentence s) ≡ refused c 0
     go (accepted y) g e = let z : ◌≡◌ {A = ℕ} 0 1 = cc in absurd (omega arith)
-    go (refused d p) g e = let z : d ≡ c = cc in ap heard_of (heard_fails s d p g) ∙ ap (λ p. Refused (shown d p)) (around_bare s d p g) ∙ ap Refused (shown_bare d ∙ ap bare z)
+    go (refused d p) g e = let z : d ≡ c = cc in ap plain (heard_fails s d p g) ∙ ap (λ p. refused_by (shown d p)) (around_bare s d p g) ∙ ap refused_by (shown_bare d ∙ ap bare z)
 
 -- an accepted sentence: its size, its digits, and what is inside
 pub record Taken (s : List ℕ) (a : ℕ) : Type 0 where
@@ -49,15 +42,14 @@ pub record Taken (s : List ℕ) (a : ℕ) : Type 0 where
   pub inside : around_so s ≡ accepted (a, unhexed (hex_part s))
 
 -- a report's answer inside a sentence
-abbrev pub heard_as : ℕ → Answer → Heard
-heard_as a (GoodReport r) = Good a r
-heard_as a (BadReport c) = Refused c
+abbrev pub heard_as : ℕ → Out Report → Out (ℕ × Report)
+heard_as a = also (λ r. (a, r))
 
-pub heard_inside : (s : List ℕ) (a : ℕ) (bs : List ℕ) → around_so s ≡ accepted (a, bs) → heard_of (read_sentence s) ≡ heard_as a (answer_of (read_record reports report_of bs))
+pub heard_inside : (s : List ℕ) (a : ℕ) (bs : List ℕ) → around_so s ≡ accepted (a, bs) → plain (read_sentence s) ≡ heard_as a (plain (read_record reports report_of bs))
 unfolding read_sentence
 heard_inside s a bs e = rw e (go (read_record reports report_of bs))
   where
-    go : (o : Out Report) → heard_of (also (λ r. (a, r)) o) ≡ heard_as a (answer_of o)
+    go : (o : Out Report) → plain (also (λ r. (a, r)) o) ≡ heard_as a (plain o)
     go (accepted r) = refl
     go (refused c p) = refl
 
@@ -89,29 +81,29 @@ reported u r code t n (z, x) = go (write_message reports (values_of r)) refl z x
 
 -- ---- writing
 
-pub sends : (s : List ℕ) (a : ℕ) (r : Report) (o : Out (List ℕ)) → room_for s (write_sentence a r) ≡ o → Sends s a r (sent_of o) (laid_over o s)
+pub sends : (s : List ℕ) (a : ℕ) (r : Report) (o : Out (List ℕ)) → room_for s (write_sentence a r) ≡ o → SendsOut s a r (sent_of o) (laid_over o s)
 sends s a r o e = (ap sent_of (sym e), ap (λ o. laid_over o s) (sym e))
 
 module _ (s : List ℕ) (a : ℕ) (r : Report) where
-  pub bad_address : address_good a ≡ false → Sends s a r (Unsent (bare 4)) s
+  pub bad_address : address_good a ≡ false → SendsOut s a r (refused_by (bare 4)) s
   unfolding write_sentence
   bad_address e = sends s a r (refused 4 0) (rw e refl)
 
   module _ (good : address_good a ≡ true) where
-    pub bad_report : (c : Verdict) → (c.code ≡ 0 → ⊥) → c ≡ told (write_message reports (values_of r)) → Sends s a r (Unsent c) s
+    pub bad_report : (c : Verdict) → (c.code ≡ 0 → ⊥) → c ≡ told (write_message reports (values_of r)) → SendsOut s a r (refused_by c) s
     unfolding write_sentence
     bad_report c h e = go (write_message reports (values_of r)) refl e
       where
-        go : (o : Out (List ℕ)) → write_message reports (values_of r) ≡ o → c ≡ told o → Sends s a r (Unsent c) s
+        go : (o : Out (List ℕ)) → write_message reports (values_of r) ≡ o → c ≡ told o → SendsOut s a r (refused_by c) s
         go (accepted m) f e = absurd (h (ap (λ c. c.code) e))
-        go (refused d p) f e = subst (λ c. Sends s a r (Unsent c) s) (sym e) (sends s a r (refused d p) (rw (good, f) refl))
+        go (refused d p) f e = subst (λ c. SendsOut s a r (refused_by c) s) (sym e) (sends s a r (refused d p) (rw (good, f) refl))
 
     module _ (bs : List ℕ) (made : write_message reports (values_of r) ≡ accepted bs) where
       wrote : write_sentence a r ≡ accepted (sentence a bs)
       unfolding write_sentence
       wrote = rw (good, made) refl
 
-      no_room : length s < length (sentence a bs) → Sends s a r (Unsent (bare 6)) s
+      no_room : length s < length (sentence a bs) → SendsOut s a r (refused_by (bare 6)) s
       no_room h = sends s a r (refused 6 0) (ap (room_for s) wrote ∙ rw (lt-leb (length (sentence a bs)) (length s) h) refl)
 
       pub all_sent : length (sentence a bs) ≤ length s → room_for s (write_sentence a r) ≡ accepted (sentence a bs)
@@ -127,15 +119,15 @@ module _ (s : List ℕ) (a : ℕ) (r : Report) where
         unfolding sentence
         is = ap (λ d. summed_up (opening d bs)) q
 
-        pub all_laid : (n : ℕ) → n ≡ 53 + length (decimal 7 a) → b ≡ true → Sends s a r (Written n) t
+        pub all_laid : (n : ℕ) → n ≡ 53 + length (decimal 7 a) → b ≡ true → SendsOut s a r (accepted n) t
         all_laid n k e =
             let room = leb-true (length (summed_up (opening ds bs))) (length s) (sym laid.0 ∙ e) in
             let x = all_sent (omega (arith, room, ap length is)) in (
-              ap Written (k ∙ sym sentence_size) ∙ ap sent_of (sym x),
+              ap accepted (k ∙ sym sentence_size) ∙ ap sent_of (sym x),
               laid.1 ∙ ap (λ b. cond b (summed_up (opening ds bs) ++ drop (length (summed_up (opening ds bs))) s) s) e ∙ ap (λ w. w ++ drop (length w) s) is ∙ ap (λ o. laid_over o s) (sym x),
             )
 
-        pub none_laid : b ≡ false → Sends s a r (Unsent (bare 6)) t
+        pub none_laid : b ≡ false → SendsOut s a r (refused_by (bare 6)) t
         none_laid e =
             let room = leb-false (length (summed_up (opening ds bs))) (length s) (sym laid.0 ∙ e) in
             let x = no_room (omega (arith, room, ap length is)) in

@@ -3,13 +3,18 @@ use Rattle.std.specs.Prelude.{Bool, true, false, cond, not, ◌&&◌, List, [], 
 use Rattle.std.proofs.lemmas.Bool.{false≢true}
 use Rattle.std.proofs.Math.Bool.{and-false, and-eq-true_iff}
 use Rattle.std.proofs.Math.Path.{refl}
-use Rattle.std.proofs.Common.{ap, ◌∙◌, arith, drop-cons, add-one}
+use Rattle.std.proofs.Common.{sym, ap, ◌∙◌, arith, drop-cons, add-one}
 use borrow.Author.Tests.{le-leb, lt-leb, leb-true, eqb-true, eqb-false, eq-eqb, ne_eqb, not-true}
 use Rattle.bits.specs.Xor.{xor_of}
+use Rattle.std.specs.Prelude.{Some, None, ok_or, Result, Ok, Err, IsErrAnd}
+use Rattle.format.specs.declared.Reason.{Reason}
+use Rattle.format.specs.Refusals.{number}
+use Rattle.format.specs.Laws.Outcomes.{number_some}
+use Rattle.format.specs.declared.Reason.TheVariants.{Range}
 use Rattle.format.specs.Fmt.{Out, accepted, refused, or_bad, check}
 use Rattle.format.specs.Message.{fault, between}
 use Rattle.sentence.specs.Spelling.{all_digits, spelt, unhexed, closing_of}
-use Rattle.sentence.specs.Pattern.{start_mark, inner_mark, same_bytes, address_good, address_part, inner_part, hex_part, summed, last_five, address_like, pattern_like, lead_of, around_so}
+use Rattle.sentence.specs.Pattern.{start_mark, inner_mark, same_bytes, address_good, address_part, inner_part, hex_part, summed, last_five, address_like, pattern_like, lead_of, around_so, around_of, told_around}
 use Rattle.sentence.specs.Laws.Digits.{spelt_some}
 
 -- ---- tests
@@ -89,6 +94,10 @@ around_led s code e h = rw (← e) (go code h _)
     go : (c : ℕ) → (c ≡ 0 → ⊥) → (o : Out (ℕ × List ℕ)) → check (fault c) 0 o ≡ refused c 0
     go zero h o = absurd (h refl)
     go (suc c) h o = refl
+
+pub around_exit : (s : List ℕ) (x : Result ℕ Reason) (r : Reason) → IsErrAnd x (λ g. g ≡ r) → number r ≡ lead_of s → told_around x ≡ around_of (around_so s)
+around_exit s (Ok a) r h e = absurd h
+around_exit s (Err g) r h e = ap (λ g. refused (number g) 0) h ∙ sym (ap around_of (around_led s (number r) e (number_some r)))
 
 -- a refusal of the sentence itself has no bit
 pub around_bare : (s : List ℕ) (c p : ℕ) → around_so s ≡ refused c p → p ≡ 0
@@ -183,25 +192,19 @@ module _ (ds : List ℕ) where
   unfolding address_like
   address_digits l z e = rw (e, ne_eqb (get_or ds 0 0) 48 z, le-leb 1 (spelt 0 ds) (spelt_some ds l e z)) refl
 
--- the code answers 0 for none
-pub address_none : (ds : List ℕ) (n : ℕ) → n ≡ cond (address_like ds) (spelt 0 ds) 0 → n ≡ 0 → address_like ds ≡ false
-address_none ds n e z = go (address_like ds) refl e
-  where
-    go : (x : Bool) → address_like ds ≡ x → n ≡ cond x (spelt 0 ds) 0 → address_like ds ≡ false
-    go false f e = f
-    go true f e = absurd (omega (arith, (addressed ds f).least))
-
-pub address_some : (ds : List ℕ) (n : ℕ) → n ≡ cond (address_like ds) (spelt 0 ds) 0 → (n ≡ 0 → ⊥) → (address_like ds ≡ true) × (n ≡ spelt 0 ds)
-address_some ds n e z = go (address_like ds) refl e
-  where
-    go : (x : Bool) → address_like ds ≡ x → n ≡ cond x (spelt 0 ds) 0 → (address_like ds ≡ true) × (n ≡ spelt 0 ds)
-    go false f e = absurd (z e)
-    go true f e = (f, e)
-
 pub pattern_is : (s : List ℕ) {x y z : Bool} → same_bytes (inner_part s) inner_mark ≡ x → all_digits 16 (hex_part s) ≡ y → address_like (address_part s) ≡ z
     → pattern_like s ≡ x && (y && z)
 unfolding pattern_like
 pattern_is s e f g = rw (e, f, g) refl
+
+-- behind all other tests the address decides
+pub around_ends : (s : List ℕ) → lead_of s ≡ 0 → same_bytes (inner_part s) inner_mark ≡ true → all_digits 16 (hex_part s) ≡ true
+    → told_around (ok_or (cond (address_like (address_part s)) (Some (spelt 0 (address_part s))) None) Range) ≡ around_of (around_so s)
+around_ends s e f g = go (address_like (address_part s)) refl
+  where
+    go : (x : Bool) → address_like (address_part s) ≡ x → told_around (ok_or (cond x (Some (spelt 0 (address_part s))) None) Range) ≡ around_of (around_so s)
+    go true d = sym (ap around_of (around_like s e (pattern_is s f g d)))
+    go false d = sym (ap around_of (around_unlike s e (pattern_is s f g d)))
 
 -- ---- the loop of the comparison
 

@@ -10,7 +10,7 @@ use Rattle.sentence.specs.Pattern.{same_bytes, last_five, summed, start_mark, le
 use Rattle.sentence.specs.Spelling.{closing_of}
 use lib.ListN.{take}
 use Rattle.sentence.specs.Laws.Tests.{lead_short, lead_long, lead_start, lead_sum}
-use Rattle.sentence.proofs.pattern.lead.Goals.{After-same-2}
+use Rattle.sentence.proofs.pattern.lead.Goals.{After-same-2, then-n-lt-LEAST-via-then-n-lt-LEAST, then-n-lt-LEAST-via-else-n-lt-LEAST+then-n-gt-GREATEST}
 use Rattle.sentence.proofs.pattern.lead.Goals as goal
 
 -- the last test, whatever it says
@@ -24,17 +24,21 @@ summing c =
     lead_sum s (omega arith) (omega arith) start (ap (λ u. same_bytes u (closing_of (xor_of (summed s)))) (sym five) ∙ ap (same_bytes (take (n - (n - 5)) (last_five s))) last ∙ sym c.same-2.ensures)
 
 pub returns-then-n-lt-LEAST : goal.returns-then-n-lt-LEAST
-returns-then-n-lt-LEAST c = sym (lead_short c.args.s.now c.if-n-lt-LEAST.true)
-
-pub returns-then-n-gt-GREATEST : goal.returns-then-n-gt-GREATEST
-returns-then-n-gt-GREATEST c = sym (lead_long c.args.s.now c.if-n-gt-GREATEST.true)
+returns-then-n-lt-LEAST c = record {
+  code = elim c.then-n-lt-LEAST.branch [
+    | then-n-lt-LEAST-via-then-n-lt-LEAST w ↦ sym (lead_short c.args.s.now w.if-n-lt-LEAST.true)
+    | then-n-lt-LEAST-via-else-n-lt-LEAST+then-n-gt-GREATEST w ↦ sym (lead_long c.args.s.now w.if-n-gt-GREATEST.true)
+  ];
+  size = tt;
+}
 
 pub returns-then-not-same : goal.returns-then-not-same
 returns-then-not-same c =
-    sym (lead_start c.args.s.now (omega arith) (omega arith) (sym c.same.ensures ∙ c.if-not-same.true))
+    record { code = sym (lead_start c.args.s.now (omega arith) (omega arith) (sym c.same.ensures ∙ c.if-not-same.true)); size = tt }
 
 pub returns-then-not-same-2 : goal.returns-then-not-same-2
-returns-then-not-same-2 c = sym (summing (goal.at.returns-then-not-same-2 c).After-same-2 ∙ ap (λ z. cond z 0 3) (c.if-not-same-2.true))
+returns-then-not-same-2 c =
+    record { code = sym (summing (goal.at.returns-then-not-same-2 c).After-same-2 ∙ ap (λ z. cond z 0 3) c.if-not-same-2.true); size = tt }
 
 pub returns : goal.returns
-returns c = sym (summing (goal.at.returns c).After-same-2 ∙ ap (λ z. cond z 0 3) (c.if-not-same-2.false))
+returns c = record { code = sym (summing (goal.at.returns c).After-same-2 ∙ ap (λ z. cond z 0 3) c.if-not-same-2.false); size = omega arith }
