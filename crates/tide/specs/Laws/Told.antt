@@ -15,7 +15,7 @@ use Rattle.format.specs.Promises.{out_of, refused_by, read_record}
 use Rattle.format.specs.Refusals.{shown, bare}
 use Rattle.format.specs.Refusals.{Verdict}
 use Rattle.format.specs.Words.{◌‥◌}
-use Rattle.format.specs.Laws.Lead.{read_first, held_back, read_led}
+use Rattle.format.specs.Laws.Lead.{read_first, held_back}
 use Rattle.format.specs.Laws.Round.{accepted_inj}
 use Rattle.walk.specs.Faults.{closes}
 use Rattle.walk.specs.Reading.{ranged, ended}
