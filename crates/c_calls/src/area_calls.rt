@@ -1,4 +1,5 @@
 // An area, message 6 with application 412/11: writing and correcting.
+ghost use Rattle.format.specs.Refusals.{told_of};
 ghost use Rattle.std.specs.Prelude.{get_or};
 ghost use Rattle.bits.specs.Bits.{field_at};
 ghost use Rattle.c_rows.specs.Area.{record_of, circle_of, rectangle_of};
@@ -8,14 +9,14 @@ ghost use Rattle.format.specs.Promises.{Writes, Corrects, Packs};
 
 use ais_common::time::{ShortTime, Time};
 use area::{Area, Circle, Rectangle, Shape};
-use format::Refusal;
+use format::{Refusal, packed};
 
 // Makes field number `field` of the area be `value`, or leaves every byte.
 #[unsafe(no_mangle)]
 pub extern "C" fn bellnewt_area_correct(s: &mut [u8], field: usize, value: u64) -> u32
     ensures { Packs (λ refusal. Corrects areas s.old (field_of (field_at s.old 92 2) field) value refusal s.new) result }
 {
-    area::correct(s, field, value).packed()
+    packed(area::correct(s, field, value))
 }
 
 // Writes a circle of these numbers into the front of a lent buffer.
@@ -51,7 +52,7 @@ pub extern "C" fn bellnewt_circle_write(
     let head = [repeat, sequence, resent, kind, advice];
     let time = [month, day, hour, minute];
     let second = [second_month, second_day, second_hour];
-    written(buf, source, destination, head, shape, time, second).packed()
+    packed(written(buf, source, destination, head, shape, time, second))
 }
 
 // Writes a rectangle of these numbers into the front of a lent buffer.
@@ -89,7 +90,7 @@ pub extern "C" fn bellnewt_rectangle_write(
     let head = [repeat, sequence, resent, kind, advice];
     let time = [month, day, hour, minute];
     let second = [second_month, second_day, second_hour];
-    written(buf, source, destination, head, shape, time, second).packed()
+    packed(written(buf, source, destination, head, shape, time, second))
 }
 
 // The area of a source, a destination, its repeat, sequence, resent, kind and advice, a shape and its two times, written into the front of a lent buffer.
@@ -101,8 +102,8 @@ fn written(
     shape: Shape,
     time: [u8; 4],
     second: [u8; 3],
-) -> Refusal
-    ensures { Writes areas buf.old result buf.new (values_of (record_of (get_or head 0 0) source (get_or head 1 0) destination (get_or head 2 0) (get_or head 3 0) shape (get_or time 0 0) (get_or time 1 0) (get_or time 2 0) (get_or time 3 0) (get_or second 0 0) (get_or second 1 0) (get_or second 2 0) (get_or head 4 0))) }
+) -> Result<(), Refusal>
+    ensures { Writes areas buf.old (told_of result) buf.new (values_of (record_of (get_or head 0 0) source (get_or head 1 0) destination (get_or head 2 0) (get_or head 3 0) shape (get_or time 0 0) (get_or time 1 0) (get_or time 2 0) (get_or time 3 0) (get_or second 0 0) (get_or second 1 0) (get_or second 2 0) (get_or head 4 0))) }
 {
     let first = Time {
         month: time[0],

@@ -4,6 +4,8 @@
 ghost use Rattle.c_rows.specs.Slots.{SlotsTold};
 ghost use Rattle.format.specs.Promises.{Packs};
 
+use format::packed;
+
 pub mod area_calls;
 pub mod gljc_calls;
 pub mod notice_calls;
@@ -22,5 +24,5 @@ pub mod warning_calls;
 pub extern "C" fn bellnewt_slots(message: u8, bytes: usize, slots: &mut u8) -> u32
     ensures { Packs (λ refusal. SlotsTold message bytes slots.old refusal slots.new) result }
 {
-    c_rows::slots::slots(message, bytes, slots).packed()
+    packed(c_rows::slots::slots(message, bytes, slots))
 }

@@ -3,6 +3,7 @@ ghost use Rattle.c_rows.specs.Notice.{record_of};
 ghost use Rattle.c_rows.specs.Making.{WritesIn, CorrectsIn};
 ghost use Rattle.format.specs.Promises.{Packs};
 
+use format::packed;
 use notice::Notice;
 
 // Writes the notice of these numbers, areas and text into the front of a lent buffer.
@@ -33,7 +34,7 @@ pub extern "C" fn bellnewt_notice_write(
         expiry,
         count,
     };
-    c_rows::notices::write(buf, areas, text, language, r).packed()
+    packed(c_rows::notices::write(buf, areas, text, language, r))
 }
 
 // Makes field number `field` of the notice be `value`, or leaves every byte.
@@ -46,5 +47,5 @@ pub extern "C" fn bellnewt_notice_correct(
 ) -> u32
     ensures { Packs (λ refusal. CorrectsIn language s.old field value refusal s.new) result }
 {
-    c_rows::notices::correct(s, language, field, value).packed()
+    packed(c_rows::notices::correct(s, language, field, value))
 }

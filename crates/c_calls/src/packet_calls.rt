@@ -6,6 +6,7 @@ ghost use Rattle.packet.specs.Packet.{packets, values_of};
 ghost use Rattle.packet.specs.Splitter.{next_number};
 ghost use Rattle.format.specs.Promises.{Writes, Corrects, Packs};
 
+use format::packed;
 use packet::Packet;
 
 // Writes the packet of these numbers and content into the front of a lent buffer.
@@ -26,7 +27,7 @@ pub extern "C" fn bellnewt_packet_write(
         total,
         own,
     };
-    packet::write(buf, r, content).packed()
+    packed(packet::write(buf, r, content))
 }
 
 // Makes field number `field` of the packet be `value`, or leaves every byte.
@@ -34,7 +35,7 @@ pub extern "C" fn bellnewt_packet_write(
 pub extern "C" fn bellnewt_packet_correct(s: &mut [u8], field: usize, value: u64) -> u32
     ensures { Packs (λ refusal. Corrects packets s.old field value refusal s.new) result }
 {
-    packet::correct(s, field, value).packed()
+    packed(packet::correct(s, field, value))
 }
 
 // Writes packet number `packet` of the content into the front of a lent buffer; a language above 1 is 4 before anything else.
@@ -48,7 +49,7 @@ pub extern "C" fn bellnewt_split(
 ) -> u32
     ensures { Packs (λ refusal. SplitsIn buf.old content.now language number packet refusal buf.new) result }
 {
-    c_rows::packets::split(buf, content, language, number, packet).packed()
+    packed(c_rows::packets::split(buf, content, language, number, packet))
 }
 
 // The next message number: after 255 it is 0.

@@ -4,6 +4,7 @@ ghost use Rattle.distress.specs.Report.{reports, values_of};
 ghost use Rattle.format.specs.Promises.{Writes, Corrects, Packs};
 
 use distress::Report;
+use format::packed;
 
 // Writes the report of these numbers into the front of a lent buffer.
 #[unsafe(no_mangle)]
@@ -32,7 +33,7 @@ pub extern "C" fn bellnewt_distress_write(
         course,
         kind,
     };
-    distress::write(buf, report).packed()
+    packed(distress::write(buf, report))
 }
 
 // Makes field number `field` of the report be `value`, or leaves every byte.
@@ -40,5 +41,5 @@ pub extern "C" fn bellnewt_distress_write(
 pub extern "C" fn bellnewt_distress_correct(s: &mut [u8], field: usize, value: u64) -> u32
     ensures { Packs (λ refusal. Corrects reports s.old field value refusal s.new) result }
 {
-    distress::correct(s, field, value).packed()
+    packed(distress::correct(s, field, value))
 }

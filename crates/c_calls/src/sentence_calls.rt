@@ -5,13 +5,14 @@ ghost use Rattle.c_rows.specs.Sentence.{sentence_numbers, SentenceWrites};
 ghost use Rattle.format.specs.Promises.{Packs};
 
 use distress::Report;
+use format::packed;
 
 // Reads the sentence into a row of 10: address, then the report's nine.
 #[unsafe(no_mangle)]
 pub extern "C" fn bellnewt_sentence_read(s: &[u8], row: &mut [i64]) -> u32
     ensures { Packs (λ refusal. Fills (sentence_numbers s.now) row.old refusal row.new) result }
 {
-    c_rows::sentences::read(s, row).packed()
+    packed(c_rows::sentences::read(s, row))
 }
 
 // Writes the sentence of these numbers into the front of a lent buffer, and how many bytes it has into `size`.
@@ -43,5 +44,5 @@ pub extern "C" fn bellnewt_sentence_write(
         course,
         kind,
     };
-    c_rows::sentences::write(buf, size, address, report).packed()
+    packed(c_rows::sentences::write(buf, size, address, report))
 }

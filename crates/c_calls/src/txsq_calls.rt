@@ -3,6 +3,7 @@ ghost use Rattle.c_rows.specs.Txsq.{record_of};
 ghost use Rattle.txsq.specs.Txsq.{txsqs, values_of};
 ghost use Rattle.format.specs.Promises.{Writes, Corrects, Packs};
 
+use format::packed;
 use txsq::Txsq;
 
 // Writes the frame of these numbers and content into the front of a lent buffer.
@@ -29,7 +30,7 @@ pub extern "C" fn bellnewt_txsq_write(
         size,
         answer,
     };
-    txsq::write(buf, r, content).packed()
+    packed(txsq::write(buf, r, content))
 }
 
 // Makes field number `field` of the frame be `value`, or leaves every byte.
@@ -37,5 +38,5 @@ pub extern "C" fn bellnewt_txsq_write(
 pub extern "C" fn bellnewt_txsq_correct(s: &mut [u8], field: usize, value: u64) -> u32
     ensures { Packs (λ refusal. Corrects txsqs s.old field value refusal s.new) result }
 {
-    txsq::correct(s, field, value).packed()
+    packed(txsq::correct(s, field, value))
 }

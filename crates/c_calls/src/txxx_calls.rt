@@ -3,6 +3,7 @@ ghost use Rattle.c_rows.specs.Txxx.{record_of};
 ghost use Rattle.txxx.specs.Txxx.{txxxs, values_of};
 ghost use Rattle.format.specs.Promises.{Writes, Corrects, Packs};
 
+use format::packed;
 use txxx::Txxx;
 
 // Writes the frame of these numbers and content into the front of a lent buffer.
@@ -29,7 +30,7 @@ pub extern "C" fn bellnewt_txxx_write(
         size,
         mark,
     };
-    txxx::write(buf, r, content).packed()
+    packed(txxx::write(buf, r, content))
 }
 
 // Makes field number `field` of the frame be `value`, or leaves every byte.
@@ -37,5 +38,5 @@ pub extern "C" fn bellnewt_txxx_write(
 pub extern "C" fn bellnewt_txxx_correct(s: &mut [u8], field: usize, value: u64) -> u32
     ensures { Packs (λ refusal. Corrects txxxs s.old field value refusal s.new) result }
 {
-    txxx::correct(s, field, value).packed()
+    packed(txxx::correct(s, field, value))
 }

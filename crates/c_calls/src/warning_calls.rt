@@ -1,4 +1,5 @@
 // A warning, message 8 with application 412/03: writing and correcting.
+ghost use Rattle.format.specs.Refusals.{told_of};
 ghost use Rattle.std.specs.Prelude.{get_or};
 ghost use Rattle.bits.specs.Bits.{field_at};
 ghost use Rattle.c_rows.specs.Warning.{record_of, cyclone_of, gale_of, waves_of, fog_of, surge_of};
@@ -7,7 +8,7 @@ ghost use Rattle.warning.specs.Changed.{field_of};
 ghost use Rattle.warning.specs.Warning.{warnings, values_of};
 
 use ais_common::time::Time;
-use format::Refusal;
+use format::{Refusal, packed};
 use warning::Warning;
 use warning::bodies::{Body, Cyclone, Fog, Gale, Surge, Waves};
 
@@ -16,7 +17,7 @@ use warning::bodies::{Body, Cyclone, Fog, Gale, Surge, Waves};
 pub extern "C" fn bellnewt_warning_correct(s: &mut [u8], field: usize, value: u64) -> u32
     ensures { Packs (λ refusal. Corrects warnings s.old (field_of (field_at s.old 56 4) field) value refusal s.new) result }
 {
-    warning::correct(s, field, value).packed()
+    packed(warning::correct(s, field, value))
 }
 
 // Writes a cyclone's warning of these numbers into the front of a lent buffer.
@@ -53,7 +54,7 @@ pub extern "C" fn bellnewt_cyclone_write(
     };
     let body = Body::Cyclone(numbers);
     let when = [month, day, hour, minute, hours];
-    written(buf, repeat, source, longitude, latitude, body, when).packed()
+    packed(written(buf, repeat, source, longitude, latitude, body, when))
 }
 
 // Writes a gale's warning of these numbers into the front of a lent buffer.
@@ -84,7 +85,7 @@ pub extern "C" fn bellnewt_gale_write(
     };
     let body = Body::Gale(numbers);
     let when = [month, day, hour, minute, hours];
-    written(buf, repeat, source, longitude, latitude, body, when).packed()
+    packed(written(buf, repeat, source, longitude, latitude, body, when))
 }
 
 // Writes a warning of waves of these numbers into the front of a lent buffer.
@@ -113,7 +114,7 @@ pub extern "C" fn bellnewt_waves_write(
     };
     let body = Body::Waves(numbers);
     let when = [month, day, hour, minute, hours];
-    written(buf, repeat, source, longitude, latitude, body, when).packed()
+    packed(written(buf, repeat, source, longitude, latitude, body, when))
 }
 
 // Writes a warning of fog of these numbers into the front of a lent buffer.
@@ -137,7 +138,7 @@ pub extern "C" fn bellnewt_fog_write(
     let numbers = Fog { radius, visibility };
     let body = Body::Fog(numbers);
     let when = [month, day, hour, minute, hours];
-    written(buf, repeat, source, longitude, latitude, body, when).packed()
+    packed(written(buf, repeat, source, longitude, latitude, body, when))
 }
 
 // Writes a warning of a storm surge of these numbers into the front of a lent buffer.
@@ -168,7 +169,7 @@ pub extern "C" fn bellnewt_surge_write(
     };
     let body = Body::Surge(numbers);
     let when = [month, day, hour, minute, hours];
-    written(buf, repeat, source, longitude, latitude, body, when).packed()
+    packed(written(buf, repeat, source, longitude, latitude, body, when))
 }
 
 // The warning of these numbers, a body, and its time with how many hours it holds, written into the front of a lent buffer.
@@ -180,8 +181,8 @@ fn written(
     latitude: u32,
     body: Body,
     when: [u8; 5],
-) -> Refusal
-    ensures { Writes warnings buf.old result buf.new (values_of (record_of repeat source longitude latitude body (get_or when 0 0) (get_or when 1 0) (get_or when 2 0) (get_or when 3 0) (get_or when 4 0))) }
+) -> Result<(), Refusal>
+    ensures { Writes warnings buf.old (told_of result) buf.new (values_of (record_of repeat source longitude latitude body (get_or when 0 0) (get_or when 1 0) (get_or when 2 0) (get_or when 3 0) (get_or when 4 0))) }
 {
     let time = Time {
         month: when[0],

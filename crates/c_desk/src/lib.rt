@@ -4,6 +4,8 @@
 ghost use Rattle.format.specs.Promises.{Packs};
 ghost use Rattle.desk_bytes.specs.Promises.{AcceptsIn, AsksIn, DropsIn};
 
+use format::packed;
+
 // A packet comes in; `again` becomes 1 where it came before, 0 where it is new.
 #[unsafe(no_mangle)]
 pub extern "C" fn bellnewt_desk_accept(
@@ -14,7 +16,7 @@ pub extern "C" fn bellnewt_desk_accept(
 ) -> u32
     ensures { Packs (λ refusal. AcceptsIn places.old store.old packet.now again.old refusal places.new store.new again.new) result }
 {
-    desk_bytes::accept(places, store, packet, again).packed()
+    packed(desk_bytes::accept(places, store, packet, again))
 }
 
 // Asks for the notice of that message number: its bytes into the front of `notice`, how many they are into `count`, and its
@@ -31,7 +33,7 @@ pub extern "C" fn bellnewt_desk_ask(
 ) -> u32
     ensures { Packs (λ refusal. AsksIn places.old store.now number notice.old missing.old count.old language.old refusal places.new notice.new missing.new count.new language.new) result }
 {
-    desk_bytes::ask(places, store, number, notice, missing, count, language).packed()
+    packed(desk_bytes::ask(places, store, number, notice, missing, count, language))
 }
 
 // Drops the notice of that message number.
@@ -39,5 +41,5 @@ pub extern "C" fn bellnewt_desk_ask(
 pub extern "C" fn bellnewt_desk_drop(places: &mut [u8], store: &[u8], number: u8) -> u32
     ensures { Packs (λ refusal. DropsIn places.old store.now number refusal places.new) result }
 {
-    desk_bytes::drop(places, store, number).packed()
+    packed(desk_bytes::drop(places, store, number))
 }

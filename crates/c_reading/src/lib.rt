@@ -16,12 +16,14 @@ ghost use Rattle.c_rows.specs.Notice.{NoticeFills};
 ghost use Rattle.c_rows.specs.Tide.{TideTold};
 ghost use Rattle.format.specs.Promises.{Packs};
 
+use format::packed;
+
 // Reads the report into a row of 9: mmsi, longitude, latitude, day, hour, minute, speed, course, kind.
 #[unsafe(no_mangle)]
 pub extern "C" fn bellnewt_distress_read(s: &[u8], row: &mut [i64]) -> u32
     ensures { Packs (λ refusal. Fills (Report·numbersOf s.now) row.old refusal row.new) result }
 {
-    c_rows::reports::read(s, row).packed()
+    packed(c_rows::reports::read(s, row))
 }
 
 // Reads the frame GLJC into a row of 2: address, minutes.
@@ -29,7 +31,7 @@ pub extern "C" fn bellnewt_distress_read(s: &[u8], row: &mut [i64]) -> u32
 pub extern "C" fn bellnewt_gljc_read(s: &[u8], row: &mut [i64]) -> u32
     ensures { Packs (λ refusal. Fills (Gljc·numbersOf s.now) row.old refusal row.new) result }
 {
-    c_rows::gljcs::read(s, row).packed()
+    packed(c_rows::gljcs::read(s, row))
 }
 
 // Reads the frame TXSQ into a row of 9: address, category, mode, password, receiver, size, answer, where the content begins and its bytes.
@@ -37,7 +39,7 @@ pub extern "C" fn bellnewt_gljc_read(s: &[u8], row: &mut [i64]) -> u32
 pub extern "C" fn bellnewt_txsq_read(s: &[u8], row: &mut [i64]) -> u32
     ensures { Packs (λ refusal. Fills (Txsq·numbersOf s.now) row.old refusal row.new) result }
 {
-    c_rows::txsqs::read(s, row).packed()
+    packed(c_rows::txsqs::read(s, row))
 }
 
 // Reads the frame TXXX into a row of 9: address, class, sender, hour, minute, size, mark, where the content begins and its bytes.
@@ -45,7 +47,7 @@ pub extern "C" fn bellnewt_txsq_read(s: &[u8], row: &mut [i64]) -> u32
 pub extern "C" fn bellnewt_txxx_read(s: &[u8], row: &mut [i64]) -> u32
     ensures { Packs (λ refusal. Fills (Txxx·numbersOf s.now) row.old refusal row.new) result }
 {
-    c_rows::txxxs::read(s, row).packed()
+    packed(c_rows::txxxs::read(s, row))
 }
 
 // Reads the frame TXHZ into a row of 23: address, receiver, count, then each receipt's sent hour, sent minute, receipt hour, receipt minute.
@@ -53,7 +55,7 @@ pub extern "C" fn bellnewt_txxx_read(s: &[u8], row: &mut [i64]) -> u32
 pub extern "C" fn bellnewt_txhz_read(s: &[u8], row: &mut [i64]) -> u32
     ensures { Packs (λ refusal. Fills (Txhz·numbersOf s.now) row.old refusal row.new) result }
 {
-    c_rows::txhzs::read(s, row).packed()
+    packed(c_rows::txhzs::read(s, row))
 }
 
 // Reads the warning into a row of 17: repeat, source, warning type, longitude, latitude, seven numbers of its body, month, day, hour, minute, hours.
@@ -61,7 +63,7 @@ pub extern "C" fn bellnewt_txhz_read(s: &[u8], row: &mut [i64]) -> u32
 pub extern "C" fn bellnewt_warning_read(s: &[u8], row: &mut [i64]) -> u32
     ensures { Packs (λ refusal. Fills (Warning·numbersOf s.now) row.old refusal row.new) result }
 {
-    c_rows::warnings::read(s, row).packed()
+    packed(c_rows::warnings::read(s, row))
 }
 
 // Reads the area into a row of 19: repeat, source, sequence, destination, resent, kind, shape, four numbers of its shape, month, day, hour, minute, second month, second day, second hour, advice.
@@ -69,7 +71,7 @@ pub extern "C" fn bellnewt_warning_read(s: &[u8], row: &mut [i64]) -> u32
 pub extern "C" fn bellnewt_area_read(s: &[u8], row: &mut [i64]) -> u32
     ensures { Packs (λ refusal. Fills (Area·numbersOf s.now) row.old refusal row.new) result }
 {
-    c_rows::areas::read(s, row).packed()
+    packed(c_rows::areas::read(s, row))
 }
 
 // Reads the packet into a row of 6: language, number, total, own, where the content begins and its bytes.
@@ -77,7 +79,7 @@ pub extern "C" fn bellnewt_area_read(s: &[u8], row: &mut [i64]) -> u32
 pub extern "C" fn bellnewt_packet_read(s: &[u8], row: &mut [i64]) -> u32
     ensures { Packs (λ refusal. Fills (Packet·numbersOf s.now) row.old refusal row.new) result }
 {
-    c_rows::packets::read(s, row).packed()
+    packed(c_rows::packets::read(s, row))
 }
 
 // Reads the notice into a row of 10: source, station, serial, year, type, subtype, expiry, how many areas, how many numbers
@@ -92,7 +94,7 @@ pub extern "C" fn bellnewt_notice_read(
 ) -> u32
     ensures { Packs (λ refusal. NoticeFills language s.now row.old areas.old text.old refusal row.new areas.new text.new) result }
 {
-    c_rows::notices::read(s, language, row, areas, text).packed()
+    packed(c_rows::notices::read(s, language, row, areas, text))
 }
 
 // Reads the tide telegram: how many records into `count`, how many numbers these have into `numbers`, and the numbers into the
@@ -106,5 +108,5 @@ pub extern "C" fn bellnewt_tide_read(
 ) -> u32
     ensures { Packs (λ refusal. TideTold s.now count.old numbers.old row.old refusal count.new numbers.new row.new) result }
 {
-    c_rows::tides::read(s, count, numbers, row).packed()
+    packed(c_rows::tides::read(s, count, numbers, row))
 }

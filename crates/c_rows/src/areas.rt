@@ -1,9 +1,10 @@
 // An area as numbers in a lent row. Each call hands on what the family's own call promises.
+ghost use Rattle.format.specs.Refusals.{told_of};
 ghost use Rattle.std.specs.Prelude.{◌≡◌};
 ghost use Rattle.c_rows.specs.Row.{Fills};
 ghost use Rattle.c_rows.specs.Area.{four_of, row_of, numbers_of};
 
-use area::{Answer, Area, Shape};
+use area::{Area, Shape};
 use format::Refusal;
 
 // A shape's numbers in the paper's order: a circle has three, and 0 behind them.
@@ -16,17 +17,11 @@ struct Four {
 }
 
 // Reads the area into a row of 19: repeat, source, sequence, destination, resent, kind, shape, four numbers of its shape, month, day, hour, minute, second month, second day, second hour, advice.
-pub fn read(s: &[u8], row: &mut [i64]) -> Refusal
-    ensures { Fills (numbers_of s.now) row.old result row.new }
+pub fn read(s: &[u8], row: &mut [i64]) -> Result<(), Refusal>
+    ensures { Fills (numbers_of s.now) row.old (told_of result) row.new }
 {
-    let answer = area::read(s);
-    match answer {
-        Answer::Good(r) => {
-            let numbers = numbers(r);
-            crate::signed::fill(row, &numbers)
-        },
-        Answer::Refused(refusal) => refusal,
-    }
+    let r = area::read(s)?;
+    crate::fill(row, &numbers(r))
 }
 
 fn numbers(r: Area) -> [i64; 19]

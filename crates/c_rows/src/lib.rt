@@ -1,10 +1,11 @@
 // Each family read into a lent row of numbers, as C and Rust are given it.
 #![tactic(auto)]
 
+ghost use Rattle.format.specs.Refusals.{told_of};
 ghost use Rattle.format.specs.Fmt.{accepted};
-ghost use Rattle.c_rows.specs.Row.{Fills, entries};
+ghost use Rattle.c_rows.specs.Row.{Fills};
 
-use format::Refusal;
+use format::{Reason, Refusal};
 
 pub mod areas;
 pub mod gljcs;
@@ -13,7 +14,6 @@ pub mod outlines;
 pub mod packets;
 pub mod reports;
 pub mod sentences;
-mod signed;
 pub mod slots;
 pub mod tides;
 pub mod txhzs;
@@ -22,17 +22,12 @@ pub mod txxxs;
 pub mod warnings;
 
 // Stores the numbers at the front of a row that has room; the entries past them stay.
-pub(crate) fn fill(row: &mut [i64], numbers: &[u32]) -> Refusal
-    ensures { Fills (accepted (entries numbers.now)) row.old result row.new }
+pub(crate) fn fill(row: &mut [i64], numbers: &[i64]) -> Result<(), Refusal>
+    ensures { Fills (accepted numbers.now) row.old (told_of result) row.new }
 {
     if row.len() < numbers.len() {
-        return Refusal::ROOM;
+        return Err(Reason::Room.into());
     }
-    let mut i: usize = 0;
-    while i < numbers.len() {
-        let number = numbers[i];
-        row[i] = number as i64;
-        i += 1;
-    }
-    Refusal::NONE
+    row[..numbers.len()].copy_from_slice(numbers);
+    Ok(())
 }

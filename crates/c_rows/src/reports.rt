@@ -1,23 +1,18 @@
 // The distress report as numbers.
+ghost use Rattle.format.specs.Refusals.{told_of};
 ghost use Rattle.std.specs.Prelude.{◌≡◌, ◌∷◌, pos};
 ghost use Rattle.c_rows.specs.Row.{Fills};
 ghost use Rattle.c_rows.specs.Report.{row_of, numbers_of};
 
-use distress::{Answer, Report};
+use distress::Report;
 use format::Refusal;
 
 // Reads the report into a row of 9: mmsi, longitude, latitude, day, hour, minute, speed, course, kind.
-pub fn read(s: &[u8], row: &mut [i64]) -> Refusal
-    ensures { Fills (numbers_of s.now) row.old result row.new }
+pub fn read(s: &[u8], row: &mut [i64]) -> Result<(), Refusal>
+    ensures { Fills (numbers_of s.now) row.old (told_of result) row.new }
 {
-    let answer = distress::read(s);
-    match answer {
-        Answer::Good(report) => {
-            let numbers = numbers(0, report);
-            crate::signed::fill(row, &numbers[1..])
-        },
-        Answer::Refused(refusal) => refusal,
-    }
+    let report = distress::read(s)?;
+    crate::fill(row, &numbers(0, report)[1..])
 }
 
 // A sentence's numbers in the paper's order: its address, then the report's.

@@ -1,34 +1,35 @@
 // The frame TXHZ as numbers in a lent row. Each call hands on what the family's own call promises.
+ghost use Rattle.format.specs.Refusals.{told_of};
 ghost use Rattle.std.specs.Prelude.{◌≡◌, ◌+◌, ◌≤◌, length};
-ghost use Rattle.c_rows.specs.Row.{Fills};
+ghost use Rattle.c_rows.specs.Row.{Fills, entries};
 ghost use Rattle.c_rows.specs.Txhz.{row_of, numbers_of, receipt_at, TxhzWrites};
 
-use format::Refusal;
-use txhz::{Answer, Receipt, Txhz};
+use format::{Reason, Refusal};
+use txhz::{Receipt, Txhz};
 
 // The bytes of five receipts.
 const RECEIPTS: usize = 20;
 
 // Reads the frame into a row of 23: address, receiver, count, then each receipt's sent hour, sent minute, receipt hour, receipt minute.
-pub fn read(s: &[u8], row: &mut [i64]) -> Refusal
-    ensures { Fills (numbers_of s.now) row.old result row.new }
+pub fn read(s: &[u8], row: &mut [i64]) -> Result<(), Refusal>
+    ensures { Fills (numbers_of s.now) row.old (told_of result) row.new }
 {
-    let answer = txhz::read(s);
-    match answer {
-        Answer::Good(r) => {
-            let numbers = numbers(r);
-            crate::fill(row, &numbers)
-        },
-        Answer::Refused(refusal) => refusal,
-    }
+    let r = txhz::read(s)?;
+    crate::fill(row, &numbers(r))
 }
 
 // Writes the frame of these numbers and the 20 bytes of its receipts into the front of a lent buffer.
-pub fn write(buf: &mut [u8], receipts: &[u8], address: u32, receiver: u32, count: u8) -> Refusal
-    ensures { TxhzWrites buf.old receipts.now address receiver count result buf.new }
+pub fn write(
+    buf: &mut [u8],
+    receipts: &[u8],
+    address: u32,
+    receiver: u32,
+    count: u8,
+) -> Result<(), Refusal>
+    ensures { TxhzWrites buf.old receipts.now address receiver count (told_of result) buf.new }
 {
     if receipts.len() != RECEIPTS {
-        return Refusal::SIZE;
+        return Err(Reason::Size.into());
     }
     let r = Txhz {
         address,
@@ -56,8 +57,8 @@ fn receipt(bytes: &[u8], at: usize) -> Receipt
     }
 }
 
-fn numbers(r: Txhz) -> [u32; 23]
-    ensures { result ≡ row_of r }
+fn numbers(r: Txhz) -> [i64; 23]
+    ensures { result ≡ entries (row_of r) }
 {
     let a = r.first;
     let b = r.second;
@@ -65,28 +66,28 @@ fn numbers(r: Txhz) -> [u32; 23]
     let d = r.fourth;
     let e = r.fifth;
     [
-        r.address,
-        r.receiver,
-        r.count as u32,
-        a.sent_hour as u32,
-        a.sent_minute as u32,
-        a.receipt_hour as u32,
-        a.receipt_minute as u32,
-        b.sent_hour as u32,
-        b.sent_minute as u32,
-        b.receipt_hour as u32,
-        b.receipt_minute as u32,
-        c.sent_hour as u32,
-        c.sent_minute as u32,
-        c.receipt_hour as u32,
-        c.receipt_minute as u32,
-        d.sent_hour as u32,
-        d.sent_minute as u32,
-        d.receipt_hour as u32,
-        d.receipt_minute as u32,
-        e.sent_hour as u32,
-        e.sent_minute as u32,
-        e.receipt_hour as u32,
-        e.receipt_minute as u32,
+        r.address as i64,
+        r.receiver as i64,
+        r.count as i64,
+        a.sent_hour as i64,
+        a.sent_minute as i64,
+        a.receipt_hour as i64,
+        a.receipt_minute as i64,
+        b.sent_hour as i64,
+        b.sent_minute as i64,
+        b.receipt_hour as i64,
+        b.receipt_minute as i64,
+        c.sent_hour as i64,
+        c.sent_minute as i64,
+        c.receipt_hour as i64,
+        c.receipt_minute as i64,
+        d.sent_hour as i64,
+        d.sent_minute as i64,
+        d.receipt_hour as i64,
+        d.receipt_minute as i64,
+        e.sent_hour as i64,
+        e.sent_minute as i64,
+        e.receipt_hour as i64,
+        e.receipt_minute as i64,
     ]
 }

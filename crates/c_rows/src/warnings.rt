@@ -1,11 +1,12 @@
 // A warning as numbers in a lent row. Each call hands on what the family's own call promises.
+ghost use Rattle.format.specs.Refusals.{told_of};
 ghost use Rattle.std.specs.Prelude.{◌≡◌};
-ghost use Rattle.c_rows.specs.Row.{Fills};
+ghost use Rattle.c_rows.specs.Row.{Fills, entries};
 ghost use Rattle.c_rows.specs.Warning.{four_of, seven_of, row_of, numbers_of};
 
 use format::Refusal;
+use warning::Warning;
 use warning::bodies::Body;
-use warning::{Answer, Warning};
 
 // A body's numbers in the paper's order, and 0 where the body has no more.
 #[derive(Clone, Copy)]
@@ -20,44 +21,38 @@ struct Seven {
 }
 
 // Reads the warning into a row of 17: repeat, source, warning type, longitude, latitude, seven numbers of its body, month, day, hour, minute, hours.
-pub fn read(s: &[u8], row: &mut [i64]) -> Refusal
-    ensures { Fills (numbers_of s.now) row.old result row.new }
+pub fn read(s: &[u8], row: &mut [i64]) -> Result<(), Refusal>
+    ensures { Fills (numbers_of s.now) row.old (told_of result) row.new }
 {
-    let answer = warning::read(s);
-    match answer {
-        Answer::Good(r) => {
-            let numbers = numbers(r);
-            crate::fill(row, &numbers)
-        },
-        Answer::Refused(refusal) => refusal,
-    }
+    let r = warning::read(s)?;
+    crate::fill(row, &numbers(r))
 }
 
-fn numbers(r: Warning) -> [u32; 17]
-    ensures { result ≡ row_of r }
+fn numbers(r: Warning) -> [i64; 17]
+    ensures { result ≡ entries (row_of r) }
 {
     let body = r.body;
     let kind = body.kind();
     let n = of_body(body);
     let time = r.time;
     [
-        r.repeat as u32,
-        r.source,
-        kind as u32,
-        r.longitude,
-        r.latitude,
-        n.first as u32,
-        n.second as u32,
-        n.third as u32,
-        n.fourth as u32,
-        n.fifth as u32,
-        n.sixth as u32,
-        n.seventh as u32,
-        time.month as u32,
-        time.day as u32,
-        time.hour as u32,
-        time.minute as u32,
-        r.hours as u32,
+        r.repeat as i64,
+        r.source as i64,
+        kind as i64,
+        r.longitude as i64,
+        r.latitude as i64,
+        n.first as i64,
+        n.second as i64,
+        n.third as i64,
+        n.fourth as i64,
+        n.fifth as i64,
+        n.sixth as i64,
+        n.seventh as i64,
+        time.month as i64,
+        time.day as i64,
+        time.hour as i64,
+        time.minute as i64,
+        r.hours as i64,
     ]
 }
 

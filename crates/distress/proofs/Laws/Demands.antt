@@ -4,7 +4,7 @@ use Rattle.std.proofs.Common.{sym, ap, ◌∙◌, subst, lit≤}
 use Rattle.bits.specs.Bits.{Bytes}
 use Rattle.format.specs.Refusals.{bare}
 use Rattle.format.specs.Refusals.{Verdict}
-use Rattle.format.specs.Promises.{read_record, out_of, plain, Writes, Corrects}
+use Rattle.format.specs.Promises.{out_of, plain, Writes, Corrects}
 use Rattle.format.specs.Laws.Entries.{entries, legal_entries}
 use Rattle.format.specs.Laws.Family.{Family}
 use Rattle.format.proofs.Laws.Family.{written_front, read_written}

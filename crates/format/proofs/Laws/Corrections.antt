@@ -1,11 +1,11 @@
 -- A family's correction in place, from its own answers: laws/Correcting said of the record that was read and where its fields stand. Assumes nothing.
 use Rattle.std.specs.Prelude.{◌≡◌, Bool, true, false, List, [], ℕ, ◌-◌, ◌≤◌, length, eqb, Result, IsErrAnd}
-use Rattle.std.proofs.Common.{refl, sym, ap, ◌∙◌, subst, arith, length-take-le, eq-eqb, ne_eqb, eqb-true}
+use Rattle.std.proofs.Common.{refl, sym, ap, ◌∙◌, subst, arith, length-take-le, eqb-true}
 use Rattle.std.proofs.lemmas.Bool.{eqb-false}
 use Rattle.bits.specs.Bits.{Bytes, bits_of}
 use Rattle.format.specs.declared.Refusal.{Refusal}
 use Rattle.format.specs.Correcting.{standing, admitted, put_in, Begins, Finishes, InPlace}
-use Rattle.format.specs.Fmt.{Out, accepted, refused, also, read, spot}
+use Rattle.format.specs.Fmt.{Out, accepted, also, read, spot}
 use Rattle.format.specs.Message.{Layout, body, fields_of, told, read_message}
 use Rattle.format.specs.Refusals.{bare, seen_refusal, told_of}
 use Rattle.format.specs.Refusals.{Verdict}

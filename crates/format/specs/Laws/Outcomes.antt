@@ -1,10 +1,10 @@
 -- A call's Result by what it tells: a reason's number is 1 or more, and Results that tell the same are the same. What a `?` hands on, and what reading answers where its first tests or its walk end. Assumes nothing.
-use Rattle.std.specs.Prelude.{◌≡◌, refl, Bool, true, false, cond, ℕ, List, eqb, Result, Ok, Err, IsErrAnd, is_err}
-use Rattle.std.proofs.Common.{sym, ap, ◌∙◌, arith, eq-eqb, ne_eqb}
+use Rattle.std.specs.Prelude.{◌≡◌, refl, true, false, cond, ℕ, List, eqb, Result, Ok, Err, IsErrAnd, is_err}
+use Rattle.std.proofs.Common.{sym, ap, ◌∙◌, arith, ne_eqb}
 use Rattle.format.specs.declared.Reason.{Reason}
 use Rattle.format.specs.declared.Reason.TheVariants.{Size, Kind, Checksum, Range, Fill, Room, Contradicts, Taken, Incomplete, Field, Unknown}
 use Rattle.format.specs.declared.Refusal.{Refusal}
-use Rattle.format.specs.Refusals.{Verdict, number, shown, bare, seen_refusal, told_of, code_of}
+use Rattle.format.specs.Refusals.{number, shown, bare, seen_refusal, told_of, code_of}
 use Rattle.format.specs.Fmt.{Out, accepted, refused, also}
 use Rattle.format.specs.Message.{Layout, first}
 use Rattle.format.specs.Promises.{read_record, out_of, verdict_of, refused_by, plain}
@@ -55,6 +55,14 @@ one_told (Ok a) (Ok b) e = refl
 one_told (Ok a) (Err g) e = absurd (number_some g.reason (sym (ap (λ v. v.code) e)))
 one_told (Err f) (Ok b) e = absurd (number_some f.reason (ap (λ v. v.code) e))
 one_told (Err f) (Err g) e = ap Err (one_refusal f g e)
+
+pub one_outcome : {R : Type 0} (x y : Result R Refusal) → out_of x ≡ out_of y → x ≡ y
+one_outcome (Ok a) (Ok b) e = let same : a ≡ b = cc in ap Ok same
+one_outcome (Ok a) (Err g) e = absurd cc
+one_outcome (Err f) (Ok b) e = absurd cc
+one_outcome (Err f) (Err g) e =
+    let told : seen_refusal f ≡ seen_refusal g = ap verdict_of e in
+    ap Err (one_refusal f g told)
 
 -- ---- tests
 

@@ -1,5 +1,5 @@
 -- `admits`: a field that may be corrected takes a value that its bits hold; one of 64 bits holds each.
-use Rattle.std.proofs.Common.{◌^◌, ◌<◌, refl, ap, arith, lt_of_lt_of_le, pow_mono, ne_eqb}
+use Rattle.std.proofs.Common.{◌^◌, ◌<◌, refl, arith, lt_of_lt_of_le, pow_mono, ne_eqb}
 use borrow.Author.Tests.{lt-ltb}
 use Rattle.bits.specs.Laws.Digits.{small}
 use Rattle.change.proofs.correcting.admits.Goals.{else-spot-lt64-via-then-spot-lt64+else-v-spot-ne0, else-spot-lt64-via-else-spot-lt64}

@@ -6,7 +6,7 @@ use Rattle.format.proofs.Laws.Corrections.{family_exit, family_in_place, fields_
 use Rattle.distress.specs.Report.{report, reports, report_of}
 use Rattle.distress.specs.Laws.Correction.{spotted}
 use Rattle.distress.proofs.Laws.Demands.{family}
-use Rattle.std.proofs.Common.{sym, ap, ◌∙◌}
+use Rattle.std.proofs.Common.{ap, ◌∙◌}
 use Rattle.distress.proofs.correcting.correct.Goals as goal
 
 -- the message was refused

@@ -1,5 +1,5 @@
 -- `walked` walks the report as its layout stands: one step a field, then the record is that of the values.
-use Rattle.std.proofs.Common.{ℕ, ◌^◌, [], ◌∷◌, List, refl, sym, ap, ◌∙◌, arith}
+use Rattle.std.proofs.Common.{[], ◌∷◌, sym, ap, ◌∙◌, arith}
 use lib.Dec.{lit<, lit≤}
 use mir.Syntax.{w32}
 use mir.ValLaws.{to_z-of_z}

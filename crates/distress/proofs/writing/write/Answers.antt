@@ -1,7 +1,6 @@
 -- `write` answers as the walk over the values and the room decide.
 use Rattle.std.proofs.Common.{subst, sym, ap, ◌∙◌}
 use Rattle.format.specs.Promises.{Writes}
-use Rattle.format.specs.Refusals.{told_of}
 use Rattle.walk.specs.Laws.Flat.{fails_exit, write_cramped, write_flat}
 use Rattle.distress.specs.Report.{reports, plain}
 use Rattle.distress.proofs.writing.write.Goals as goal
