@@ -1,5 +1,4 @@
 -- What is proved of them.
-pub mod Outcomes
 pub mod Sound
 pub mod Walking
 pub mod Turns

@@ -16,7 +16,9 @@ pub fn write(buf: &mut [u8], r: Tide, row: &[u32]) -> Result<(), Refusal>
 {
     let judged = making::judged(r, row);
     let room = room(row.len(), judged.next, buf.len());
-    judged.walk.closes(false, Tide::LEAST, Tide::GREATEST, room)?;
+    judged
+        .walk
+        .closes(false, Tide::LEAST, Tide::GREATEST, room)?;
     making::put(buf, r, row);
     Ok(())
 }

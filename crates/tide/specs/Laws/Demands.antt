@@ -3,7 +3,7 @@ use Rattle.std.specs.Prelude.{◌≡◌, refl, Bool, true, false, List, [], ◌�
 use Rattle.std.proofs.Common.{sym, ap, ap₂, ◌∙◌, subst, append-nil, arith, le-leb, length-drop, take_at}
 use Rattle.format.specs.Codes.{codes, headed}
 use Rattle.format.specs.Fmt.{Out, accepted, refused, check, or_bad, also, end, none, found, spot}
-use Rattle.tide.specs.Laws.Outcomes.{one_out}
+use Rattle.format.specs.Laws.Outcomes.{one_outcome}
 use Rattle.format.specs.declared.Refusal.{Refusal}
 use Rattle.format.specs.Groups.{repeat}
 use Rattle.format.specs.Message.{ahead}
@@ -152,7 +152,7 @@ longer_row r row us full =
 
 -- Two answers that reading may give to the same bytes and row are equal, and leave the same.
 pub one_reading : (s row : List ℕ) (a b : Result Told Refusal) (row₁ row₂ : List ℕ) → Reads s row a row₁ → Reads s row b row₂ → (a ≡ b) × (row₁ ≡ row₂)
-one_reading s row a b row₁ row₂ (x, y) (x', y') = (one_out a b (x ∙ sym x'), y ∙ sym y')
+one_reading s row a b row₁ row₂ (x, y) (x', y') = (one_outcome a b (x ∙ sym x'), y ∙ sym y')
 
 -- the telegram that a good answer tells: its records' numbers stand in front of the row
 abbrev pub whole_of : Told → List ℕ → Whole

@@ -13,7 +13,7 @@ use Rattle.std.specs.Int.{w32}
 use Rattle.std.proofs.lemmas.Int.{to_z_pos, to_z-of_z}
 use Rattle.bits.specs.Answers.{got}
 use Rattle.format.specs.Fmt.{accepted, refused}
-use Rattle.tide.specs.Laws.Outcomes.{one_out}
+use Rattle.format.specs.Laws.Outcomes.{one_outcome}
 use Rattle.format.specs.declared.Refusal.{Refusal}
 use Rattle.format.specs.Promises.{out_of, refused_by, read_record}
 use Rattle.format.specs.Refusals.{shown, bare}
@@ -86,7 +86,7 @@ module _ (s : List ℕ) (row : List ℤ) where
 
   -- two answers that the promise allows are equal
   pub one_showing : (a b : Result ℕ Refusal) (t u : List ℤ) → Shows s row a t → Shows s row b u → (a ≡ b) × (t ≡ u)
-  one_showing a b t u f g = (one_out a b (f.0 ∙ sym g.0), f.1 ∙ sym g.1)
+  one_showing a b t u f g = (one_outcome a b (f.0 ∙ sym g.0), f.1 ∙ sym g.1)
 
 -- ---- 32 signed bits
 

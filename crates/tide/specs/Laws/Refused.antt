@@ -9,7 +9,7 @@ use Rattle.format.specs.Laws.Outcomes.{number_some}
 use Rattle.format.proofs.Laws.Family.{never_read}
 use Rattle.format.specs.Laws.Lent.{tested_zero}
 use Rattle.format.specs.Laws.Round.{clash}
-use Rattle.tide.specs.Laws.Outcomes.{one_out}
+use Rattle.format.specs.Laws.Outcomes.{one_outcome}
 use Rattle.tide.specs.HeightsPromises.{heights_read, shown, Shows}
 use Rattle.tide.specs.Promises.{housed, told_of, Reads}
 use Rattle.tide.specs.Record.{Whole, record_of}
@@ -33,7 +33,7 @@ module _ (s row : List ℕ) (a : Result Told Refusal) (row' : List ℕ) (e : Rea
   pub zero_reading : (verdict_of (out_of a)).code ≡ 0 → (x : Whole) × (read_record tides record_of s ≡ accepted x) × (length x.1 ≤ length row) × (a ≡ Ok (told_of x)) × (row' ≡ ahead x.1 row)
   zero_reading z =
       let (x, is, fits, all) = tested_zero (λ x. leb (length x.1) (length row)) (read_record tides record_of s) (never_read family s) (number (housed (length row) (read_record tides record_of s)) (ap (λ o. (verdict_of o).code) (sym e.0) ∙ z)) in
-      (x, is, leb-true (length x.1) (length row) fits, one_out a (Ok (told_of x)) (e.0 ∙ ap (λ o. plain (also told_of o)) all), e.1 ∙ ap (answered (λ x. ahead x.1 row) (λ c. row)) all)
+      (x, is, leb-true (length x.1) (length row) fits, one_outcome a (Ok (told_of x)) (e.0 ∙ ap (λ o. plain (also told_of o)) all), e.1 ∙ ap (answered (λ x. ahead x.1 row) (λ c. row)) all)
     where
       number : (o : Out Whole) → (verdict_of (plain (also told_of o))).code ≡ 0 → (told o).code ≡ 0
       number (accepted x) q = refl

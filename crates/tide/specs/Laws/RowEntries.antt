@@ -1,6 +1,6 @@
 -- Good entries, judged one by one by a walk that seeks no field, leave it 32 bits further on each: a field, an entry, and by induction n of them. Assumes nothing.
-use Prim.Native.Nat.{ℕ, zero, suc, ◌+◌, ◌-◌, ◌*◌, ◌%◌, ◌^◌, ◌≤◌, ◌<◌}
-use Rattle.std.specs.Prelude.{◌≡◌, refl, Bool, true, false, List, [], ◌∷◌, eqb, length, get_or, Option, Some, None, is_some, is_none, Result, Ok, Err, is_ok}
+use Prim.Native.Nat.{ℕ, zero, suc, ◌+◌, ◌-◌, ◌*◌, ◌^◌, ◌≤◌, ◌<◌}
+use Rattle.std.specs.Prelude.{◌≡◌, refl, Bool, true, false, List, [], ◌∷◌, eqb, length, get_or, Option, Some, None, is_some, Result, Ok, Err, is_ok}
 use Rattle.std.proofs.Common.{sym, ◌∙◌, eqb-true}
 use Rattle.std.proofs.Math.Path.{ap, subst}
 use Rattle.std.proofs.Math.Nat.{mod-eq_of_lt}
@@ -91,10 +91,10 @@ good_turn row k n g fits e j l = go (eqb j n) refl
     go false b = let other = eqb-false j n b in g j (omega (arith, other))
 
 -- a walk of the code that has refused nothing and seeks no field
-pub quiet_seen : (w : Declared) → is_ok w.verdict ≡ true → is_none w.sought ≡ true → seen w ≡ quiet w.at w.v (at_of w.spot) (width_of w.spot)
+pub quiet_seen : (w : Declared) → is_ok w.verdict ≡ true → is_some w.sought ≡ false → seen w ≡ quiet w.at w.v (at_of w.spot) (width_of w.spot)
 quiet_seen w e d = go w.verdict w.sought e d
   where
-    go : (x : Result Unit Refusal) (o : Option ℕ) → is_ok x ≡ true → is_none o ≡ true
+    go : (x : Result Unit Refusal) (o : Option ℕ) → is_ok x ≡ true → is_some o ≡ false
         → record { at = w.at; code = (told_of x).code; offset = (told_of x).bit; v = w.v; seek = is_some o; left = left_of o; spot = at_of w.spot; width = width_of w.spot } ≡ quiet w.at w.v (at_of w.spot) (width_of w.spot)
     go (Ok a) None e d = refl
     go (Ok a) (Some n) e d = absurd cc

@@ -1,6 +1,6 @@
 -- What was read is what stands in the bits: the count in nine bits at 12, the records from bit 21 on; and so are the heights. Assumes nothing.
 use Rattle.std.specs.Prelude.{ℕ, ◌≡◌, refl, Bool, true, false, cond, List, [], leb, ℤ, length, Ok}
-use Rattle.std.proofs.Common.{sym, ap, ◌∙◌, arith, eq-eqb}
+use Rattle.std.proofs.Common.{sym, ap, ◌∙◌, eq-eqb}
 use Rattle.bits.specs.Answers.{got}
 use Rattle.format.specs.Fmt.{Out, accepted, refused, check, or_bad, also}
 use Rattle.format.specs.Message.{told, leaves, into, ahead, read_message}

@@ -12,10 +12,10 @@ use Rattle.format.specs.Correcting.{standing}
 use Rattle.format.specs.Fmt.{Out, accepted, refused, check, also, Fmt, spot, end}
 use Rattle.format.specs.Message.{fault, told, read_message, ahead}
 use Rattle.format.specs.Promises.{out_of, refused_by, read_record}
-use Rattle.format.specs.Refusals.{shown, bare}
-use Rattle.format.specs.Refusals.{Verdict}
+use Rattle.format.specs.Refusals.{Verdict, shown, bare, seen_refusal}
 use Rattle.format.specs.Words.{◌‥◌}
-use Rattle.format.specs.Laws.Lead.{read_first, held_back, read_led}
+use Rattle.format.specs.Laws.Lead.{read_first, held_back}
+use Rattle.format.specs.Laws.Outcomes.{number_some}
 use Rattle.format.specs.Laws.Round.{accepted_inj}
 use Rattle.walk.specs.Faults.{closes}
 use Rattle.walk.specs.Reading.{ranged, ended}
@@ -29,7 +29,8 @@ use Rattle.tide.specs.Promises.{told_of, Reads}
 use Rattle.tide.specs.Record.{Whole, leading, record_of}
 use Rattle.tide.specs.Shapes.{filled}
 use Rattle.tide.specs.Standing.{front, records_at}
-use Rattle.tide.specs.Steps.{Course, records_walked, fields_read, head_read, unread_by, behind, course_of}
+use Rattle.tide.specs.declared.reading.Course.{Course as Declared}
+use Rattle.tide.specs.Steps.{Course, course, records_walked, fields_read, head_read, unread_by, behind, course_of}
 use Rattle.tide.specs.Tide.{rest, tides}
 use Rattle.format.specs.declared.Refusal.{Refusal}
 use Rattle.tide.specs.declared.reading.Told.{Told}
@@ -186,6 +187,17 @@ module _ (i : ℕ) (s : List ℕ) (f : Course) (d : f ≡ course_of i s) where
       let c : f.walk.code ≡ 0 = ap (λ (r : Verdict). r.code) (walked_told ∙ ap told a) in
       let same = accepted_inj (sym (x.walked.so ∙ clear f.walk _ c) ∙ a) in
       ap (λ vs. spot tides.fmt [] vs i) (sym same) ∙ x.walked.spots c
+
+-- what reading's fields answered, by what they told
+module _ (i : ℕ) (s : List ℕ) where
+  abbrev w : Walk
+  w = (course_of i s).walk
+
+  pub fields_refused : (f : Refusal) → seen_refusal f ≡ shown w.code w.offset → read_message tides s ≡ refused w.code w.offset
+  fields_refused f told = walked_bad i s (course_of i s) refl (λ z. number_some f.reason (ap (λ (v : Verdict). v.code) told ∙ z))
+
+  pub fields_passed : (f : Declared) → bare 0 ≡ shown w.code w.offset → course f ≡ course_of i s → read_record tides record_of s ≡ accepted (f.tide, records_at s f.tide.count front)
+  fields_passed f told is = walked_good i s (course f) is (ap (λ (f : Course). f.walk.code) is ∙ sym (ap (λ (v : Verdict). v.code) told))
 
 -- of all that is no longer than a telegram, the fields' walk is the fields' answer
 pub fields_again : (t : List ℕ) → length t ≤ 210 → {g : Course} → g ≡ behind t (head_read 0 t) → shown g.walk.code g.walk.offset ≡ told (fields_read t)

@@ -6,7 +6,7 @@ use Rattle.format.specs.Correcting.{standing}
 use Rattle.format.specs.Fmt.{accepted, spot}
 use Rattle.format.specs.Message.{told, read_message}
 use Rattle.format.specs.Promises.{plain, read_record, Corrects}
-use Rattle.format.specs.Refusals.{Verdict, shown, told_of}
+use Rattle.format.specs.Refusals.{shown, told_of}
 use Rattle.format.specs.declared.Refusal.{Refusal}
 use Rattle.walk.specs.Walk.{seen}
 use Rattle.tide.specs.declared.reading.Course.{Course as Declared}
@@ -20,7 +20,7 @@ use Rattle.tide.specs.Standing.{front, records_at}
 use Rattle.tide.specs.Steps.{Course, course, course_of, behind, head_read, fields_read}
 use Rattle.tide.specs.Tide.{tides}
 use Rattle.tide.specs.Laws.Demands.{family}
-use Rattle.tide.specs.Laws.Told.{walked_good, walked_told, stands, fields_again, fields_are}
+use Rattle.tide.specs.Laws.Told.{fields_passed, walked_told, stands, fields_again, fields_are}
 use Rattle.tide.proofs.correcting.correct.Goals as goal
 
 -- where the walk of a telegram that was read found the field
@@ -48,7 +48,7 @@ returns c =
     let i = a.field in
     let f = course c.in_ok-was.was' in
     let x = c.in_ok-was.ensures in
-    let good = walked_good i s f x.passed (ap (λ (f : Course). f.walk.code) x.passed ∙ sym (ap (λ (v : Verdict). v.code) x.told)) in
+    let good = fields_passed i s c.in_ok-was.was' x.told x.passed in
     family_in_place family s (λ i. (c.slice_known-1.given i).fits) i a.value _ _ (f.tide, records_at s f.tide.count front) (ap plain (sym good))
     (found_so i s f x.passed) (fields_are i s x.passed).walked.slim
     (λ t d least most z. search (rules, again t d most)) c.in_place.ensures
