@@ -11,23 +11,23 @@ use places::{PLACES, Place, Reply, Turn};
 mod placing;
 
 // The packet's own refusals, the first tests, then its notice where it is open, or the lowest free place.
-pub fn accept(places: [Place; PLACES], store: &mut [u8], packet: &[u8]) -> Turn
-    ensures { AcceptTurn places store.old packet.now result store.new }
+pub fn accept(places: &[Place; PLACES], store: &mut [u8], packet: &[u8]) -> Turn
+    ensures { AcceptTurn places.now store.old packet.now result store.new }
 {
     let answer = packet::read(packet);
     match answer {
         Answer::Good(r) => {
-            let code = places::first_tests(&places, store);
+            let code = places::first_tests(places, store);
             if code != 0 {
                 return Turn::staying(places[0], Reply::Refused(Refusal::bare(code)));
             }
             let content = &packet[Packet::CONTENT..];
-            match places::open_at(&places, r.number) {
+            match places::open_at(places, r.number) {
                 Some(i) => {
-                    let p = places::place_at(&places, i);
+                    let p = places::place_at(places, i);
                     placing::join(places[0], i, p, store, r, content)
                 },
-                None => placing::begin(&places, store, r, content),
+                None => placing::begin(places, store, r, content),
             }
         },
         Answer::Refused(refusal) => Turn::staying(places[0], Reply::Refused(refusal)),

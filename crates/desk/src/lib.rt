@@ -22,7 +22,7 @@ pub fn accept(places: &mut [Place], store: &mut [u8], packet: &[u8]) -> Reply
         return crate::accepting::unplaced(packet);
     }
     let four = front(places);
-    let accepted = crate::accepting::accept(four, store, packet);
+    let accepted = crate::accepting::accept(&four, store, packet);
     places[accepted.at] = accepted.place;
     accepted.reply
 }
@@ -41,7 +41,7 @@ pub fn ask(
         return Reply::Refused(SHORT);
     }
     let four = front(places);
-    let asked = crate::asking::ask(four, store, number, notice, missing);
+    let asked = crate::asking::ask(&four, store, number, notice, missing);
     places[asked.at] = asked.place;
     asked.reply
 }
@@ -54,7 +54,7 @@ pub fn drop(places: &mut [Place], store: &[u8], number: u8) -> Reply
         return Reply::Refused(SHORT);
     }
     let four = front(places);
-    let dropped = crate::asking::drop(four, store, number);
+    let dropped = crate::asking::drop(&four, store, number);
     places[dropped.at] = dropped.place;
     dropped.reply
 }
