@@ -13,18 +13,18 @@ use places::{PLACES, Place, Turn};
 mod placing;
 
 // The packet's own refusals, the first tests, then its notice where it is open, or the lowest free place.
-pub fn accept(places: [Place; PLACES], store: &mut [u8], packet: &[u8]) -> Result<Turn, Refusal>
-    ensures { AcceptTurn places store.old packet.now (turned (place_at places 0) result) store.new }
+pub fn accept(places: &[Place; PLACES], store: &mut [u8], packet: &[u8]) -> Result<Turn, Refusal>
+    ensures { AcceptTurn places.now store.old packet.now (turned (place_at places.now 0) result) store.new }
 {
     let r = packet::read(packet)?;
-    places::first_tests(&places, store)?;
+    places::first_tests(places, store)?;
     let content = &packet[Packet::CONTENT..];
-    match places::open_at(&places, r.number) {
+    match places::open_at(places, r.number) {
         Some(i) => {
-            let p = places::place_at(&places, i);
+            let p = places::place_at(places, i);
             placing::join(places[0], i, p, store, r, content)
         },
-        None => placing::begin(&places, store, r, content),
+        None => placing::begin(places, store, r, content),
     }
 }
 

@@ -11,31 +11,31 @@ mod joining;
 
 // The notice of that message number, joined in the buffer, and its place free; or, where packets are missing, their numbers in the row.
 pub fn ask(
-    places: [Place; PLACES],
+    places: &[Place; PLACES],
     store: &[u8],
     number: u8,
     notice: &mut [u8],
     missing: &mut [u16],
 ) -> Result<Turn, Refusal>
-    ensures { AskTurn places store.now number notice.old missing.old (turned (place_at places 0) result) notice.new missing.new }
+    ensures { AskTurn places.now store.now number notice.old missing.old (turned (place_at places.now 0) result) notice.new missing.new }
 {
-    places::first_tests(&places, store)?;
-    let Some(at) = places::open_at(&places, number) else {
+    places::first_tests(places, store)?;
+    let Some(at) = places::open_at(places, number) else {
         return Err(Reason::Unknown.into());
     };
-    let p = places::place_at(&places, at);
+    let p = places::place_at(places, at);
     answering::answer(places[0], at, p, store, notice, missing)
 }
 
 // The notice of that message number is given up, and its place free.
-pub fn drop(places: [Place; PLACES], store: &[u8], number: u8) -> Result<Turn, Refusal>
-    ensures { DropTurn places store.now number (turned (place_at places 0) result) }
+pub fn drop(places: &[Place; PLACES], store: &[u8], number: u8) -> Result<Turn, Refusal>
+    ensures { DropTurn places.now store.now number (turned (place_at places.now 0) result) }
 {
-    places::first_tests(&places, store)?;
-    let Some(at) = places::open_at(&places, number) else {
+    places::first_tests(places, store)?;
+    let Some(at) = places::open_at(places, number) else {
         return Err(Reason::Unknown.into());
     };
-    let dropped = places::place_at(&places, at);
+    let dropped = places::place_at(places, at);
     Ok(Turn {
         at,
         place: dropped.freed(),

@@ -20,7 +20,7 @@ pub fn accept(places: &mut [Place], store: &mut [u8], packet: &[u8]) -> Result<R
         return Err(crate::accepting::unplaced(packet));
     }
     let four = front(places);
-    let accepted = crate::accepting::accept(four, store, packet)?;
+    let accepted = crate::accepting::accept(&four, store, packet)?;
     places[accepted.at] = accepted.place;
     Ok(accepted.reply)
 }
@@ -39,7 +39,7 @@ pub fn ask(
         return Err(Reason::Room.into());
     }
     let four = front(places);
-    let asked = crate::asking::ask(four, store, number, notice, missing)?;
+    let asked = crate::asking::ask(&four, store, number, notice, missing)?;
     places[asked.at] = asked.place;
     Ok(asked.reply)
 }
@@ -52,7 +52,7 @@ pub fn drop(places: &mut [Place], store: &[u8], number: u8) -> Result<Reply, Ref
         return Err(Reason::Room.into());
     }
     let four = front(places);
-    let dropped = crate::asking::drop(four, store, number)?;
+    let dropped = crate::asking::drop(&four, store, number)?;
     places[dropped.at] = dropped.place;
     Ok(dropped.reply)
 }

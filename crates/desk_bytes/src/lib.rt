@@ -25,7 +25,7 @@ pub fn accept(places: &mut [u8], store: &mut [u8], packet: &[u8], again: &mut u8
         return desk::accepting::unplaced(packet).refusal();
     }
     let four = row(places);
-    let turn = desk::accepting::accept(four, store, packet);
+    let turn = desk::accepting::accept(&four, store, packet);
     *again = again_of(turn.reply, *again);
     settle(places, turn);
     turn.reply.refusal()
@@ -47,7 +47,7 @@ pub fn ask(
         return Refusal::ROOM;
     }
     let four = row(places);
-    let turn = desk::asking::ask(four, store, number, notice, missing);
+    let turn = desk::asking::ask(&four, store, number, notice, missing);
     *count = count_of(turn.reply, *count);
     *language = language_of(turn.reply, *language);
     settle(places, turn);
@@ -61,7 +61,7 @@ pub fn drop(places: &mut [u8], store: &[u8], number: u8) -> Refusal
         return Refusal::ROOM;
     }
     let four = row(places);
-    let turn = desk::asking::drop(four, store, number);
+    let turn = desk::asking::drop(&four, store, number);
     settle(places, turn);
     turn.reply.refusal()
 }

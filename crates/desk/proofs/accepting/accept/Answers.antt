@@ -39,8 +39,8 @@ returns-then-code-ne0 c =
     let a = c.args in
     let r = c.in-Good.r in
     let (long, is, fit) = good m in
-    of_four a.places a.store.now a.packet.now _ _ _ (refused_tests a.places a.store.now a.packet.now r (content m) is (λ z. c.if-code-ne0.true (tests ∙ z)))
-    (settled (place_at a.places 0) (turned_away a.store.now (bare (first_tests a.places a.store.now))) (turned_away a.store.now c.bare.result) _ _
+    of_four a.places.now a.store.now a.packet.now _ _ _ (refused_tests a.places.now a.store.now a.packet.now r (content m) is (λ z. c.if-code-ne0.true (tests ∙ z)))
+    (settled (place_at a.places.now 0) (turned_away a.store.now (bare (first_tests a.places.now a.store.now))) (turned_away a.store.now c.bare.result) _ _
     (ap (turned_away a.store.now) (sym (c.bare.ensures ∙ ap bare tests))) c.staying.ensures (lit< tt) refl)
 
 pub slice_bounds-content-count : goal.slice_bounds-content-count
@@ -50,10 +50,10 @@ pub slice_bounds-content-start : goal.slice_bounds-content-start
 slice_bounds-content-start c = omega (arith, (good (goal.at.slice_bounds-content-start c).In-Good).0)
 
 -- the open place of the packet's number, and which it is
-here : (k : After-place_at-p) → let a = k.args in let n = open_at a.places k.in-Good.r.number in (k.in-Some.i ≡ n) × (n < four_places) × (k.place_at-p.result ≡ place_at a.places n)
+here : (k : After-place_at-p) → let a = k.args in let n = open_at a.places.now k.in-Good.r.number in (k.in-Some.i ≡ n) × (n < four_places) × (k.place_at-p.result ≡ place_at a.places.now n)
 here k =
-    let (there, low) = one_some k.in-Some.i (open_at k.args.places k.in-Good.r.number) (sym k.in-Some.is ∙ k.open_at.ensures) in
-    (there, low, k.place_at-p.ensures ∙ ap (place_at k.args.places) (last_of_four k.in-Some.i (omega (arith, there, low)) ∙ there))
+    let (there, low) = one_some k.in-Some.i (open_at k.args.places.now k.in-Good.r.number) (sym k.in-Some.is ∙ k.open_at.ensures) in
+    (there, low, k.place_at-p.ensures ∙ ap (place_at k.args.places.now) (last_of_four k.in-Some.i (omega (arith, there, low)) ∙ there))
 
 pub join-requires : goal.join-requires
 join-requires c =
@@ -62,9 +62,9 @@ join-requires c =
     let r = c.in-Good.r in
     let fit = (good (goal.at.join-requires c).In-Good).2 in
     let zero = let k = (goal.at.join-requires c).After-content-1 in sym k.first_tests-code.ensures ∙ k.if-code-ne0.false in
-    let (deep, good) = tests_passed a.places a.store.now zero in
+    let (deep, good) = tests_passed a.places.now a.store.now zero in
     let (there, low, is) = here k in
-    let sized = open_sized a.places r.number good low in
+    let sized = open_sized a.places.now r.number good low in
     let own = fit.own in
     let total = fit.total in
     (omega (arith, there, low), deep, subst (λ p. held p r.own ≤ part_bytes_of) (sym is) (sized.small r.own (omega arith)), omega arith, fit.few)
@@ -78,8 +78,8 @@ returns-in-Some c =
     let (long, reads, fit) = good m in
     let zero = let k = (goal.at.returns-in-Some c).After-content-1 in sym k.first_tests-code.ensures ∙ k.if-code-ne0.false in
     let (there, low, is) = here k in
-    of_four a.places a.store.now a.packet.now _ _ _ (joins_open a.places a.store.now a.packet.now r (content m) reads (search rules) zero low)
-    (subst₂ (λ i p. Gives (place_at a.places 0) (joins a.store.now i p r (content m)) c.join.result c.join.new.store) there is c.join.ensures)
+    of_four a.places.now a.store.now a.packet.now _ _ _ (joins_open a.places.now a.store.now a.packet.now r (content m) reads (search rules) zero low)
+    (subst₂ (λ i p. Gives (place_at a.places.now 0) (joins a.store.now i p r (content m)) c.join.result c.join.new.store) there is c.join.ensures)
 
 pub begin-requires : goal.begin-requires
 begin-requires c =
@@ -87,7 +87,7 @@ begin-requires c =
     let a = c.args in
     let fit = (good m).2 in
     let zero = let k = (goal.at.begin-requires c).After-content-1 in sym k.first_tests-code.ensures ∙ k.if-code-ne0.false in
-    let (deep, _) = tests_passed a.places a.store.now zero in
+    let (deep, _) = tests_passed a.places.now a.store.now zero in
     let own = fit.own in
     let total = fit.total in
     (deep, omega arith, fit.few)
@@ -99,11 +99,11 @@ returns-in-None c =
     let r = c.in-Good.r in
     let (long, reads, fit) = good m in
     let zero = let k = (goal.at.returns-in-None c).After-content-1 in sym k.first_tests-code.ensures ∙ k.if-code-ne0.false in
-    let none = one_none (open_at a.places r.number) (sym c.in-None.is ∙ c.open_at.ensures) in
-    of_four a.places a.store.now a.packet.now _ _ _ (opens_free a.places a.store.now a.packet.now r (content m) reads (search rules) zero none) c.begin.ensures
+    let none = one_none (open_at a.places.now r.number) (sym c.in-None.is ∙ c.open_at.ensures) in
+    of_four a.places.now a.store.now a.packet.now _ _ _ (opens_free a.places.now a.store.now a.packet.now r (content m) reads (search rules) zero none) c.begin.ensures
 
 pub returns-in-Refused : goal.returns-in-Refused
 returns-in-Refused c =
     let a = c.args in
-    of_four a.places a.store.now a.packet.now _ _ _ (refused_packet a.places a.store.now a.packet.now _ (sym c.in-Refused.is ∙ c.read-answer.ensures))
-    (settled (place_at a.places 0) (turned_away a.store.now _) (turned_away a.store.now _) _ _ refl c.staying-in-Refused.ensures (lit< tt) refl)
+    of_four a.places.now a.store.now a.packet.now _ _ _ (refused_packet a.places.now a.store.now a.packet.now _ (sym c.in-Refused.is ∙ c.read-answer.ensures))
+    (settled (place_at a.places.now 0) (turned_away a.store.now _) (turned_away a.store.now _) _ _ refl c.staying-in-Refused.ensures (lit< tt) refl)
