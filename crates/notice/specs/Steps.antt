@@ -1,19 +1,51 @@
 -- What the code's walk over a notice gives: its head, its text and the end, and all of it. Assumes nothing.
-use Rattle.std.specs.Prelude.{ℕ, ◌*◌, Bool, true, false, cond, ◌&&◌, List, [], eqb, length}
+use Rattle.std.specs.Prelude.{ℕ, ◌≡◌, ◌*◌, Result, IfOk, Bool, true, false, cond, ◌&&◌, List, [], eqb, length}
 use Rattle.bits.specs.Answers.{spanned}
 use Rattle.bits.specs.Bits.{bits_of, bytes_at}
 use Rattle.walk.specs.Faults.{wholly}
 use Rattle.format.specs.Fmt.{Out, read}
+use Rattle.format.specs.Refusals.{shown, told_of}
+use Rattle.format.specs.declared.Refusal.{Refusal}
 use Rattle.walk.specs.Reading.{ranged, ended}
-use Rattle.walk.specs.Walk.{begun, onward}
-use Rattle.walk.specs.Walk.{Walk}
+use Rattle.walk.specs.Walk.{Walk, seen, begun, onward}
 use Rattle.notice_fields.specs.Steps.{areas_walked}
 use Rattle.notice_fields.specs.PartsSteps.{least_subtype, most_subtype, expiry_read}
 use Rattle.text.specs.Text.{in_language}
 use Rattle.notice.specs.Notice.{ours, notice, sizes}
-use Rattle.notice.specs.declared.reading.Opening.{Opening}
-use Rattle.notice.specs.declared.reading.Ending.{Ending}
-use Rattle.notice.specs.declared.reading.Course.{Course}
+use Rattle.notice.specs.declared.reading.Notice.{Notice}
+use Rattle.notice.specs.declared.reading.Opening.{Opening as DeclaredOpening}
+use Rattle.notice.specs.declared.reading.Ending.{Ending as DeclaredEnding}
+use Rattle.notice.specs.declared.reading.Course.{Course as DeclaredCourse}
+
+-- the walk in front of the areas, and what stands there
+pub record Opening : Type 0 where
+  pub walk : Walk
+  pub notice : Notice
+
+abbrev pub opening : DeclaredOpening → Opening
+opening h = record { walk = seen h.walk; notice = h.notice }
+
+-- the walk behind the text, and how many bytes it has
+pub record Ending : Type 0 where
+  pub walk : Walk
+  pub text : ℕ
+
+abbrev pub ending : DeclaredEnding → Ending
+ending t = record { walk = seen t.walk; text = t.text }
+
+-- the walk over a whole notice, its record, and where its text stands and how many bytes it has
+pub record Course : Type 0 where
+  pub walk : Walk
+  pub notice : Notice
+  pub at : ℕ
+  pub text : ℕ
+
+abbrev pub course : DeclaredCourse → Course
+course f = record { walk = seen f.walk; notice = f.notice; at = f.at; text = f.text }
+
+-- what is given of the course c: all of it, or what its walk refused
+abbrev pub Gives : Course → Result DeclaredCourse Refusal → Type 0
+Gives c x = (told_of x ≡ shown c.walk.code c.walk.offset) × IfOk x (λ f. course f ≡ c)
 
 -- what reading the fields of s answers
 abbrev pub fields_read : Bool → List ℕ → Out (List ℕ)

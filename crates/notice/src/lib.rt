@@ -2,7 +2,7 @@
 #![tactic(auto)]
 
 pub use crate::correcting::correct;
-pub use crate::reading::{Answer, Notice, Told, read, refusal};
+pub use crate::reading::{Notice, Told, read, refusal};
 pub use crate::writing::write;
 
 pub mod correcting;

@@ -1,13 +1,17 @@
 // The notice telegram (paper 01, "Notice and packet"; 000, 5.2.2): the joined bytes of its packets, read with their language.
-ghost use Rattle.std.specs.Prelude.{◌≡◌, ◌≤◌, length};
+ghost use Rattle.std.specs.Prelude.{◌≡◌, ◌≤◌, ◌&&◌, cond, length};
+ghost use Rattle.bits.specs.Answers.{spanned};
+ghost use Rattle.bits.specs.Bits.{bytes_at};
 ghost use Rattle.format.specs.Message.{told, read_message};
+ghost use Rattle.format.specs.Refusals.{code_of, told_of};
 ghost use Rattle.notice.specs.Notice.{ours, notices, sizes};
 ghost use Rattle.notice.specs.Promises.{Reads};
-ghost use Rattle.notice.specs.Steps.{opening_of, ending_of, unread_by, course_of};
+ghost use Rattle.notice.specs.Steps.{opening, opening_of, ending, ending_of, course_of, Gives};
 ghost use Rattle.packet.specs.Packet.{joined};
+ghost use Rattle.text.specs.Text.{in_language};
+ghost use Rattle.walk.specs.Walk.{seen};
 
-use format::Refusal;
-use walk::choosing::choose_code;
+use format::{Reason, Refusal};
 use walk::walk::Walk;
 
 // The numbers of its areas stand beside the record in a row, one area behind another, and its text in a buffer: both are lent.
@@ -37,12 +41,6 @@ pub struct Told {
     pub notice: Notice,
     pub numbers: usize,
     pub text: usize,
-}
-
-#[derive(Clone, Copy)]
-pub enum Answer {
-    Good(Told),
-    Refused(Refusal),
 }
 
 impl Notice {
@@ -79,105 +77,71 @@ pub struct Course {
 }
 
 // Reads a notice: its record, the numbers of its areas into the front of the row, its text into the front of the buffer.
-pub fn read(s: &[u8], english: bool, areas: &mut [u32], text: &mut [u8]) -> Answer
+pub fn read(s: &[u8], english: bool, areas: &mut [u32], text: &mut [u8]) -> Result<Told, Refusal>
     ensures { Reads (ours english) s.now areas.old text.old result areas.new text.new }
 {
-    let f = fields(s, 0, english);
-    let walk = f.walk;
-    let code = walk.code;
-    if code != 0 {
-        return Answer::Refused(walk.refusal());
-    }
+    let f = fields(s, 0, english)?;
     let notice = f.notice;
     let n = f.text;
     if text.len() < n {
-        return Answer::Refused(Refusal::ROOM);
+        return Err(Reason::Room.into());
     }
     // A row that is too short stays as it was.
     let numbers = notice_fields::row::fill(s, notice.count, areas);
     if areas.len() < numbers {
-        return Answer::Refused(Refusal::ROOM);
+        return Err(Reason::Room.into());
     }
     bits::whole_bytes::get_bytes(s, f.at, n, text);
-    Answer::Good(Told {
+    Ok(Told {
         notice,
         numbers,
         text: n,
     })
 }
 
-// What reading a notice answers, where room is enough: its refusal, or none.
-pub fn refusal(s: &[u8], english: bool) -> Refusal
-    ensures { result ≡ told (read_message (notices (ours english)) s.now) }
+// What reading a notice answers, where room is enough: its refusal, if any.
+pub fn refusal(s: &[u8], english: bool) -> Result<(), Refusal>
+    ensures { told_of result ≡ told (read_message (notices (ours english)) s.now) }
 {
-    let course = fields(s, 0, english);
-    let walk = course.walk;
-    walk.refusal()
+    fields(s, 0, english)?;
+    Ok(())
 }
 
 // The size, then the fields in bit order; on the way, field number `want` is found. Of another size nothing is walked.
-pub fn fields(s: &[u8], want: usize, english: bool) -> Course
-    ensures { result ≡ course_of english want s.now }
+pub fn fields(s: &[u8], want: usize, english: bool) -> Result<Course, Refusal>
+    ensures { Gives (course_of english want s.now) result }
 {
-    let size = lead(s);
-    if size != 0 {
-        return unread(size);
-    }
+    lead(s)?;
     let head = head(s, want);
     let notice = head.notice;
     let front = head.walk;
     let areas = notice_fields::areas::walk(s, front, notice.count);
     let ending = close(s, areas, english);
     let walk = ending.walk;
-    Course {
+    walk.passed()?;
+    Ok(Course {
         walk,
         notice,
         at: areas.at,
         text: ending.text,
-    }
+    })
 }
 
 // The first test: the size.
-fn lead(s: &[u8]) -> u8
-    ensures { result ≡ sizes s.now }
+fn lead(s: &[u8]) -> Result<(), Reason>
+    ensures { code_of result ≡ sizes s.now }
 {
-    if s.len() < Notice::LEAST {
-        return format::SIZE;
-    }
-    if Notice::GREATEST < s.len() {
-        return format::SIZE;
-    }
-    0
-}
-
-// No walk, no record: what the first test refused by `code`.
-fn unread(code: u8) -> Course
-    ensures { result ≡ unread_by code }
-{
-    let walk = Walk::begin(code, 0);
-    let notice = Notice {
-        source: 0,
-        station: 0,
-        serial: 0,
-        year: 0,
-        kind: 0,
-        subtype: 0,
-        expiry: 0,
-        count: 0,
-    };
-    Course {
-        walk,
-        notice,
-        at: 0,
-        text: 0,
+    match s.len() {
+        Notice::LEAST..=Notice::GREATEST => Ok(()),
+        _ => Err(Reason::Size),
     }
 }
 
 // Up to the areas.
 fn head(s: &[u8], want: usize) -> Opening
-    ensures { result ≡ opening_of want s.now }
+    ensures { opening result ≡ opening_of want s.now }
 {
-    let w = Walk::begin(0, want).num(s, 5, 1, 21);
+    let w = Walk::begin(want).num(s, 5, 1, 21);
     let source = w.v as u8;
     let w = w.num(s, 4, 1, 3);
     let station = w.v as u8;
@@ -214,15 +178,26 @@ fn head(s: &[u8], want: usize) -> Opening
 // Behind the areas: the text, all whole bytes that are left, and the fill.
 fn close(s: &[u8], w: Walk, english: bool) -> Ending
     requires { length s.now ≤ joined }
-    ensures { result ≡ ending_of english s.now w }
+    ensures { ending result ≡ ending_of english s.now (seen w) }
 {
-    if w.code != 0 {
+    if w.verdict.is_err() {
         return Ending { walk: w, text: 0 };
     }
     let rest = w.rest(s);
     let text = rest.v as usize;
-    let fault = choose_code(text::in_language(s, w.at, text, english), 0, format::RANGE);
+    let judged = judged_text(s, w.at, text, english);
     // A text is refused at its first bit, whichever byte of it is bad.
-    let walk = rest.on(text * 8, false, 0, fault, 0).end(s);
+    let walk = rest.on(text * 8, false, 0, judged, 0).end(s);
     Ending { walk, text }
+}
+
+// What is wrong with the n bytes of text from bit `at` on, if anything.
+pub(crate) fn judged_text(s: &[u8], at: usize, n: usize, english: bool) -> Result<(), Reason>
+    ensures { code_of result ≡ cond (spanned (length s.now) at n && in_language english (bytes_at s.now at n)) 0 4 }
+{
+    if text::in_language(s, at, n, english) {
+        Ok(())
+    } else {
+        Err(Reason::Range)
+    }
 }

@@ -1,5 +1,5 @@
 -- The notice is a family of format/specs/Laws/Family, whose theorems are demands 2 and 3; said here of the notice's own promises, and once more of the expiry, whose correction must leave the count of areas. Assumes nothing.
-use Rattle.std.specs.Prelude.{◌≡◌, refl, false, List, [], ◌∷◌, ◌++◌, ℕ, ◌*◌, ◌≤◌, ◌<◌, ◌^◌, length, drop}
+use Rattle.std.specs.Prelude.{◌≡◌, refl, false, List, [], ◌∷◌, ◌++◌, ℕ, ◌*◌, ◌≤◌, ◌<◌, ◌^◌, length, drop, Ok}
 use Rattle.std.proofs.Common.{sym, ap, ap₂, ◌∙◌, subst, lit≤}
 use Rattle.std.proofs.Math.Path.{subst⁻¹}
 use Rattle.bits.specs.Bits.{Bytes, digits, field_at}
@@ -22,7 +22,6 @@ use Rattle.notice_fields.specs.Terms.{Terms, our_point}
 use Rattle.notice.specs.Notice.{notice, notices}
 use Rattle.notice.specs.Promises.{told_of, Reads}
 use Rattle.notice.specs.Record.{Whole, headed, texted, values_of, head_of, text_of, record_of}
-use Rattle.notice.specs.declared.reading.Answer.TheVariants.{Good}
 use Rattle.notice.specs.declared.reading.Notice.{Notice}
 use Rattle.notice.specs.declared.reading.Told.{Told}
 use Rattle.notice.specs.Laws.Correction.{Lent, spotted}
@@ -73,12 +72,12 @@ family terms = record {
 -- What is written from a row and a text is read back as the same record, the numbers that the row was asked for, and the same text, where there is room for them.
 pub written_reads : (terms : Terms) (s : List ℕ) (r : Notice) (row t u : List ℕ) → Bytes t → Writes (notices terms) s (bare 0) u (values_of (r, (row, t))) → let xs = areas_told r.count row in
     (m : List ℕ) × (u ≡ m ++ drop (length m) s)
-    × ((areas text : List ℕ) → length xs ≤ length areas → length t ≤ length text → Reads terms m areas text (Good (told_of (r, (xs, t)))) (ahead xs areas) (ahead t text))
+    × ((areas text : List ℕ) → length xs ≤ length areas → length t ≤ length text → Reads terms m areas text (Ok (told_of (r, (xs, t)))) (ahead xs areas) (ahead t text))
 written_reads terms s r row t u fine w =
     let y = written_read (family terms) s (r, (areas_told r.count row, t)) u (exact_told (some_areas terms.point r.count) row, fine) (subst⁻¹ (Writes (notices terms) s (bare 0) u) (asked_row r row t) w) in
     (y.message, y.front, λ areas text k l. reads_good terms y.message areas text y.reads k l)
 
-module _ (terms : Terms) (s row text : List ℕ) (a : Told) (row' text' : List ℕ) (fine : Bytes s) (reads : Reads terms s row text (Good a) row' text') where
+module _ (terms : Terms) (s row text : List ℕ) (a : Told) (row' text' : List ℕ) (fine : Bytes s) (reads : Reads terms s row text (Ok a) row' text') where
   -- What is read is written back as the same bytes.
   pub read_writes_back : (u : List ℕ) (code : Verdict) (t : List ℕ) → length s ≤ length u → Writes (notices terms) u code t (values_of (whole_of a row' text')) → (code ≡ bare 0) × (t ≡ s ++ drop (length s) u)
   read_writes_back = read_written (family terms) s (whole_of a row' text') fine (good terms s row text a row' text' reads)

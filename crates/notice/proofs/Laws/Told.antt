@@ -1,21 +1,21 @@
 -- The record of a head's, areas' and text's values is these; the three ways in which reading answers; and what the walk over a notice is: reading's answer. Assumes nothing.
-use Rattle.std.specs.Prelude.{◌≡◌, Bool, List, [], ◌++◌, ℕ, leb, ltb, length, get_or}
+use Rattle.std.specs.Prelude.{◌≡◌, ◌≤◌, Bool, Result, List, [], ◌++◌, ℕ, ltb, length, get_or}
 use Rattle.std.proofs.Math.Path.{refl, sym, subst⁻¹}
-use Rattle.std.proofs.Common.{ap, ◌∙◌, ltb-true, eqb-true}
+use Rattle.std.proofs.Common.{ap, ◌∙◌, ltb-true, eqb-true, le-leb}
 use Rattle.std.proofs.Math.Bool.{true, false, cond}
 use native.Mathlib.Omega.{arith}
 use Rattle.std.proofs.Math.Dec.{eqb}
 use Rattle.std.proofs.lemmas.Bool.{eqb-false}
 use Rattle.format.specs.Fmt.{accepted, refused, check, also, none, spot}
-use Rattle.format.specs.Message.{between, fault, told as Message·told, read_message}
+use Rattle.format.specs.Message.{fault, told as Message·told, read_message}
 use Rattle.format.specs.Promises.{read_record}
-use Rattle.format.specs.Refusals.{shown}
-use Rattle.format.specs.Refusals.{Verdict}
+use Rattle.format.specs.Refusals.{Verdict, shown, told_of}
+use Rattle.format.specs.declared.Refusal.{Refusal}
 use Rattle.bits.specs.Bits.{bytes_at}
 use Rattle.bits.specs.Laws.Runs.{bytes_run}
 use Rattle.format.specs.Correcting.{standing}
 use Rattle.format.specs.Laws.Round.{accepted_inj}
-use Rattle.format.specs.Laws.Lead.{read_first, held_back, read_led}
+use Rattle.format.specs.Laws.Lead.{read_first, held_back}
 use Rattle.walk.specs.Walk.{begun}
 use Rattle.walk.specs.Laws.Step.{clear, stuck}
 use Rattle.walk.specs.Laws.Walked.{same_values}
@@ -24,12 +24,12 @@ use Rattle.notice_fields.specs.Steps.{areas_walked}
 use Rattle.notice_fields.specs.Laws.Walking.{areas_along}
 use Rattle.packet.specs.Packet.{joined}
 use Rattle.notice.specs.Notice.{ours, notice, notices, sizes}
-use Rattle.notice.specs.Steps.{fields_read, opening_of, ending_of, unread_by, behind, course_of}
+use Rattle.notice.specs.Steps.{fields_read, opening_of, ending_of, unread_by, behind, course_of, Course, Gives}
 use Rattle.notice.specs.Changed.{spots}
 use Rattle.notice.specs.Laws.Correction.{head_stands}
 use Rattle.notice.specs.Laws.Opening.{opened}
 use Rattle.notice.specs.Laws.Closing.{closed}
-use Rattle.notice.specs.declared.reading.Course.{Course}
+use Rattle.notice.specs.declared.reading.Course.{Course as Declared}
 use Rattle.notice.specs.Record.{headed, texted, record_of}
 use Rattle.notice.specs.Laws.Told.{told, sizes_small, FieldsAre}
 
@@ -111,9 +111,7 @@ module _ (english : Bool) (i : ℕ) (s : List ℕ) (f : Course) (d : f ≡ cours
       go c true e = head_stands (ours english) f.notice _ i (ltb-true i 8 e)
       go c false e = x.walked.spots c
 
-  -- what was read has a good size, and so has all that is as long
-  pub fields_again : f.walk.code ≡ 0 → (t : List ℕ) → length t ≡ length s → read_message (notices (ours english)) t ≡ fields_read english t
-  unfolding notices
-  fields_again z t e =
-      let size : sizes s ≡ 0 = read_led (notices (ours english)) s (sym walked_code ∙ z) in
-      read_on english t (ap (λ n. cond (leb 8 n) (cond (between 8 joined n) 0 1) 1) e ∙ size)
+-- what reads the fields of a message of a good size tells what their reading does
+pub fields_told : (english : Bool) (t : List ℕ) (d : Result Declared Refusal) → 8 ≤ length t → length t ≤ joined → Gives (course_of english 0 t) d → told_of d ≡ Message·told (fields_read english t)
+fields_told english t d least most is =
+    walked_refusal english 0 t (course_of english 0 t) refl is.0 ∙ ap Message·told (read_on english t (rw (le-leb 8 (length t) least, le-leb (length t) joined most) refl))

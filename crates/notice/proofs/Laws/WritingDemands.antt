@@ -1,5 +1,5 @@
 -- Demands 2 and 3 of the notice, of the promises that its reading, writing and correcting make: a row with the numbers that its areas ask for is written as every layout's values are. Assumes nothing.
-use Rattle.std.specs.Prelude.{◌≡◌, true, false, List, ◌++◌, ℕ, ◌≤◌, length, take, drop}
+use Rattle.std.specs.Prelude.{◌≡◌, true, false, List, ◌++◌, ℕ, ◌≤◌, length, take, drop, Ok}
 use Rattle.std.proofs.Common.{sym, ap, ◌∙◌, subst, arith, le-leb, length-append}
 use Rattle.bits.specs.Bits.{Bytes}
 use Rattle.format.specs.Fmt.{accepted, refused, check}
@@ -22,7 +22,6 @@ use Rattle.notice_fields.specs.Terms.{Terms}
 use Rattle.notice.specs.Notice.{notices}
 use Rattle.notice.specs.Promises.{told_of, Reads}
 use Rattle.notice.specs.Record.{values_of, record_of}
-use Rattle.notice.specs.declared.reading.Answer.TheVariants.{Good}
 use Rattle.notice.specs.declared.reading.Notice.{Notice}
 use Rattle.notice.specs.declared.reading.Told.{Told}
 use Rattle.notice.specs.Laws.Correction.{Lent, spotted}
@@ -47,11 +46,11 @@ accepted_writes terms s r row t u fine = accepted_lays (notices terms) (values_o
 -- What is written from a row and a text is read back as the same record, the numbers that the row was asked for, and the same text, where there is room for them.
 pub written_reads : (terms : Terms) (s : List ℕ) (r : Notice) (row t u : List ℕ) → Bytes t → NoticeWrites terms s r row t (bare 0) u → let xs = areas_told r.count row in
     (m : List ℕ) × (u ≡ m ++ drop (length m) s)
-    × ((areas text : List ℕ) → length xs ≤ length areas → length t ≤ length text → Reads terms m areas text (Good (told_of (r, (xs, t)))) (ahead xs areas) (ahead t text))
+    × ((areas text : List ℕ) → length xs ≤ length areas → length t ≤ length text → Reads terms m areas text (Ok (told_of (r, (xs, t)))) (ahead xs areas) (ahead t text))
 written_reads terms s r row t u fine x = written_values terms s r row t u fine (accepted_writes terms s r row t u fine x).1
 
 -- s is a notice that reading answered with a, the row and the text
-module _ (terms : Terms) (s row text : List ℕ) (a : Told) (row' text' : List ℕ) (fine : Bytes s) (reads : Reads terms s row text (Good a) row' text') where
+module _ (terms : Terms) (s row text : List ℕ) (a : Told) (row' text' : List ℕ) (fine : Bytes s) (reads : Reads terms s row text (Ok a) row' text') where
   -- the row has what the notice's areas ask for, and so has a longer one
   lent : Lent (whole_of a row' text')
   lent = (read_values (family terms) s (whole_of a row' text') fine (good terms s row text a row' text' reads)).1
@@ -69,7 +68,7 @@ module _ (terms : Terms) (s row text : List ℕ) (a : Told) (row' text' : List �
 -- ---- demand 3
 
 -- Every correction of a notice, by any number and any value. Its own refusal is c; where that is none, a, row' and text' are what reading it gave.
-pub corrected : (terms : Terms) (s row text : List ℕ) (a : Told) (row' text' : List ℕ) → Bytes s → (c : Verdict) → c ≡ Message·told (read_message (notices terms) s) → (c.code ≡ 0 → Reads terms s row text (Good a) row' text')
+pub corrected : (terms : Terms) (s row text : List ℕ) (a : Told) (row' text' : List ℕ) → Bytes s → (c : Verdict) → c ≡ Message·told (read_message (notices terms) s) → (c.code ≡ 0 → Reads terms s row text (Ok a) row' text')
     → (i v : ℕ) (code : Verdict) (t : List ℕ) → Corrects (notices terms) s i v code t
     → SettledBy (λ x u d y. let z = changed i v x in NoticeWrites terms u z.0 z.1.0 z.1.1 d y) (λ x. spot_of terms.point x i) false s (check (fault c.code) c.bit (accepted (whole_of a row' text'))) v code t
 unfolding notices

@@ -15,7 +15,7 @@ use Rattle.walk.specs.Judging.{beyond}
 use Rattle.walk.specs.Walk.{onward}
 use Rattle.walk.specs.Laws.Judging.{Judging, Judged, judge_bytes, judge_beyond, judge_end}
 use Rattle.walk.specs.Laws.Loops.{Going}
-use Rattle.walk.specs.Laws.Step.{clear, stuck}
+use Rattle.walk.specs.Laws.Step.{sticky, clear, stuck}
 use Rattle.walk.specs.Walk.{Walk}
 use Rattle.text.specs.Text.{in_language}
 use Rattle.notice_fields.specs.Making.{fresh}
@@ -58,11 +58,9 @@ same_judged {o} w c r small x = record {
     zero_is true e z = eqb-true k 0 e
     zero_is false e z = z
 
-    go : (t : Bool) → eqb k 0 ≡ t
-        → cond (eqb k 0) (accepted x.laid) (refused k (cond (eqb r.code 0) r.at r.offset))
-        ≡ cond (eqb (cond (eqb k 0) 0 k) 0) (accepted x.laid) (refused (cond (eqb k 0) 0 k) (cond (eqb k 0) ((r.at + 0) % 2 ^ 64) (cond (eqb r.code 0) ((r.at + 0) % 2 ^ 64) r.offset)))
+    go : (t : Bool) → eqb k 0 ≡ t → sticky (beyond w c r) (accepted x.laid) ≡ sticky (beyond w 0 (onward 0 false 0 c 0 r)) (accepted x.laid)
     go true e = rw e refl
-    go false e = rw (e, e) (ap (λ a. refused k (cond (eqb r.code 0) a r.offset)) (sym here))
+    go false e = rw (e, e) (ap (λ a. refused k (cond (eqb r.code 0) (cond (eqb c 0) 0 a) r.offset)) (sym here))
 
 pub text_judged : {o : Out (List Bool)} (english : Bool) (t : List ℕ) (c : ℕ) {r q : Walk} → Bytes t → r.at < 2 ^ 64 → c ≡ cond (in_language english t) 0 4 → q ≡ onward 0 false 0 c 0 r
     → Going o (text (ours english) end) (texted t) r → Judged o (beyond (length t * 8) 0 q)

@@ -14,7 +14,7 @@ use Rattle.notice_fields.specs.Laws.PartsWalking.{expiry_read_lem}
 use Rattle.notice.specs.Notice.{ours, rest, notice}
 use Rattle.notice.specs.Record.{headed}
 use Rattle.notice.specs.Steps.{fields_read, opening_of}
-use Rattle.notice.specs.declared.reading.Opening.{Opening}
+use Rattle.notice.specs.Steps.{Opening}
 
 -- reading stands at the areas
 pub record HeadIs (english : Bool) (i : ℕ) (s : List ℕ) (h : Opening) : Type 0 where

@@ -1,5 +1,5 @@
 -- The record of a head's, areas' and text's values is these; the three ways in which reading answers; and what the walk over a notice is: reading's answer. Assumes nothing.
-use Rattle.std.specs.Prelude.{◌≡◌, Bool, ◌&&◌, List, [], ◌∷◌, ◌++◌, ℕ, ◌+◌, ◌-◌, ◌*◌, ◌≤◌, ◌<◌, leb, length, take, drop, get_or}
+use Rattle.std.specs.Prelude.{◌≡◌, Bool, ◌&&◌, List, [], ◌∷◌, ◌++◌, ℕ, ◌+◌, ◌-◌, ◌*◌, ◌≤◌, ◌<◌, leb, length, take, drop, get_or, Result, Ok, Err}
 use Rattle.std.proofs.Math.Path.{refl, sym}
 use Rattle.std.proofs.Common.{ap, ◌∙◌, length-append, take_at, get_or-drop, get_or-append-add, zero-add, le-leb, leb-true}
 use Rattle.std.proofs.Math.Bool.{true, false, cond, and-false}
@@ -9,9 +9,9 @@ use Rattle.std.proofs.lemmas.Bool.{lt-leb}
 use Rattle.bits.specs.Bits.{Bytes, value_of, bits_of}
 use Rattle.format.specs.Fmt.{accepted, refused}
 use Rattle.format.specs.Message.{read_message, ahead}
-use Rattle.format.specs.Promises.{read_record}
-use Rattle.format.specs.Refusals.{shown, bare}
-use Rattle.format.specs.Refusals.{Verdict}
+use Rattle.format.specs.Promises.{read_record, out_of, refused_by}
+use Rattle.format.specs.Refusals.{Verdict, shown, bare, seen_refusal}
+use Rattle.format.specs.declared.Refusal.{Refusal}
 use Rattle.bits.specs.Bits.{bytes_at}
 use Rattle.bits.specs.Answers.{gettable}
 use Rattle.bits.specs.Laws.Runs.{length_run}
@@ -22,11 +22,11 @@ use Rattle.notice_fields.specs.Shapes.{filled}
 use Rattle.packet.specs.Packet.{joined}
 use Rattle.notice_fields.specs.Terms.{Terms}
 use Rattle.notice.specs.Notice.{ours, notice, notices, sizes}
-use Rattle.notice.specs.declared.reading.Course.{Course}
+use Rattle.notice.specs.Steps.{Course}
 use Rattle.notice.specs.Promises.{told_of, Reads}
 use Rattle.notice.specs.Record.{Whole, headed, texted, head_of, text_of, record_of}
 use Rattle.notice.specs.declared.reading.Notice.{Notice}
-use Rattle.notice.specs.declared.reading.Answer.TheVariants.{Good, Refused}
+use Rattle.notice.specs.declared.reading.Told.{Told}
 
 pub recorded : (r : Notice) (xs : List ℕ) (n v : ℕ) → record_of (headed r (xs ++ (n ∷ v ∷ []))) ≡ (r, (xs, text_of n v))
 unfolding record_of head_of
@@ -46,17 +46,17 @@ unfolding text_of
 told r xs t fine = recorded r xs (length t) (value_of (bits_of t)) ∙ ap (λ t. (r, (xs, t))) (run_again t fine)
 
 module _ (terms : Terms) (s a t : List ℕ) where
-  pub reads_refused : {c p : ℕ} {r : Verdict} → r ≡ shown c p → read_record (notices terms) record_of s ≡ refused c p → Reads terms s a t (Refused r) a t
-  reads_refused is e = rw e (ap Refused is, refl, refl)
+  pub reads_refused : {c p : ℕ} {r : Verdict} (x : Result Told Refusal) → out_of x ≡ refused_by r → r ≡ shown c p → read_record (notices terms) record_of s ≡ refused c p → Reads terms s a t x a t
+  reads_refused x out is e = rw e (out ∙ ap refused_by is, refl, refl)
 
   module _ {x : Whole} (e : read_record (notices terms) record_of s ≡ accepted x) where
-    pub reads_few : length a < length x.1.0 → Reads terms s a t (Refused (bare 6)) a t
-    reads_few l = rw (e, lt-leb (length x.1.0) (length a) l) (refl, refl, refl)
+    pub reads_few : (f : Refusal) → seen_refusal f ≡ bare 6 → length a < length x.1.0 → Reads terms s a t (Err f) a t
+    reads_few f is l = rw (e, lt-leb (length x.1.0) (length a) l) (ap refused_by is, refl, refl)
 
-    pub reads_short : length t < length x.1.1 → Reads terms s a t (Refused (bare 6)) a t
-    reads_short l = rw (e, lt-leb (length x.1.1) (length t) l, and-false (leb (length x.1.0) (length a))) (refl, refl, refl)
+    pub reads_short : (f : Refusal) → seen_refusal f ≡ bare 6 → length t < length x.1.1 → Reads terms s a t (Err f) a t
+    reads_short f is l = rw (e, lt-leb (length x.1.1) (length t) l, and-false (leb (length x.1.0) (length a))) (ap refused_by is, refl, refl)
 
-    pub reads_good : length x.1.0 ≤ length a → length x.1.1 ≤ length t → Reads terms s a t (Good (told_of x)) (ahead x.1.0 a) (ahead x.1.1 t)
+    pub reads_good : length x.1.0 ≤ length a → length x.1.1 ≤ length t → Reads terms s a t (Ok (told_of x)) (ahead x.1.0 a) (ahead x.1.1 t)
     reads_good k l = rw (e, le-leb (length x.1.0) (length a) k, le-leb (length x.1.1) (length t) l) (refl, refl, refl)
 
 -- ---- what goes into what is lent

@@ -2,18 +2,18 @@
 ghost use Rattle.std.specs.Prelude.{◌≤◌, length};
 ghost use Rattle.packet.specs.Packet.{joined};
 ghost use Rattle.notice.specs.Making.{HeadJudged, NoticeJudged, HeadPut, NoticePut};
+ghost use Rattle.walk.specs.Walk.{seen, stepped};
 
-use crate::reading::Notice;
-use walk::choosing::choose_code;
+use crate::reading::{Notice, judged_text};
 use walk::making::Stepped;
 use walk::walk::Walk;
 
 // The values in bit order, the text by itself, and how many numbers of the row were asked for.
 pub(crate) fn judged(r: Notice, areas: &[u32], text: &[u8], english: bool) -> Stepped
-    ensures { NoticeJudged english r areas.now text.now result }
+    ensures { NoticeJudged english r areas.now text.now (stepped result) }
 {
     let head = judged_head(r);
-    if head.code != 0 {
+    if head.verdict.is_err() {
         return Stepped {
             walk: head,
             next: 0,
@@ -22,21 +22,16 @@ pub(crate) fn judged(r: Notice, areas: &[u32], text: &[u8], english: bool) -> St
     let all = notice_fields::making::judge(areas, r.count);
     let next = all.next;
     let behind = all.walk;
-    let fault = choose_code(
-        text::in_language(text, 0, text.len(), english),
-        0,
-        format::RANGE,
-    );
-    let walk = behind.wide(0, fault);
+    let walk = behind.wide(0, judged_text(text, 0, text.len(), english));
     Stepped { walk, next }
 }
 
 // Up to the areas.
 fn judged_head(r: Notice) -> Walk
-    ensures { HeadJudged r result }
+    ensures { HeadJudged r (seen result) }
 {
     let kind = r.kind as u64;
-    let w = Walk::begin(0, 0).value(5, r.source as u64, 1, 21);
+    let w = Walk::begin(0).value(5, r.source as u64, 1, 21);
     let w = w.value(4, r.station as u64, 1, 3);
     let w = w.value(14, r.serial as u64, 1, 9_999);
     let w = w.value(7, r.year as u64, 0, 99);

@@ -1,15 +1,34 @@
--- `correct` is the correction in place of every layout, with the notice's walk before the change and behind it, and where `stands` found the field.
-use mathlib.Core.Path.{sym, ap, ◌∙◌}
-use Rattle.format.specs.Message.{told}
-use Rattle.format.proofs.Laws.Correcting.{in_place}
-use Rattle.notice.specs.Notice.{ours, notices}
-use Rattle.notice.specs.Laws.Sound.{sound, judged}
-use Rattle.notice.proofs.Laws.Told.{walked_refusal, stands, fields_again, fields_are}
+-- `correct` is the correction in place of every family, with the notice's fields read before and behind the change and where `stands` found the field.
+use mathlib.Core.List.{[]}
+use mathlib.Core.Path.{refl, sym, ap, ◌∙◌, subst}
+use Rattle.bits.specs.Bits.{bytes_at}
+use Rattle.format.specs.Fmt.{also, spot}
+use Rattle.format.specs.Laws.Outcomes.{number_some}
+use Rattle.format.specs.Laws.Round.{also_inv}
+use Rattle.format.specs.Message.{read_message}
+use Rattle.format.specs.Promises.{plain, refused_by}
+use Rattle.format.proofs.Laws.Corrections.{family_exit, family_in_place}
+use Rattle.format.proofs.Laws.Family.{record_values}
+use Rattle.notice_fields.specs.Standing.{front, areas_at}
+use Rattle.notice.specs.Notice.{ours, notice, notices}
+use Rattle.notice.specs.Record.{values_of, record_of}
+use Rattle.notice.specs.Steps.{Course, course, course_of, Gives}
+use Rattle.notice.proofs.Laws.Demands.{family}
+use Rattle.notice.proofs.Laws.Told.{walked_good, walked_bad, stands, fields_told, fields_are}
 use Rattle.notice.proofs.correcting.correct.Goals as goal
+
+-- the message was refused
+pub returns-in_err-course : goal.returns-in_err-course
+returns-in_err-course c =
+    let a = c.args in
+    let s = a.buf.now in
+    let told = c.in_err-course.ensures.0 in
+    let n = walked_bad a.english a.field s (course_of a.english a.field s) refl (λ z. number_some _ (ap (λ v. v.code) told ∙ z)) in
+    family_exit (notices (ours a.english)) record_of s a.field a.value c.from_residual.result _ c.from_residual.ensures.1 (ap refused_by told ∙ sym (ap (λ o. plain (also record_of o)) n))
 
 -- the walk finds no wide field
 pub stands-spot-requires : goal.stands-spot-requires
-stands-spot-requires c = let a = c.args in (fields_are a.english a.field a.buf.now c.fields-was.ensures).walked.slim
+stands-spot-requires c = let a = c.args in (fields_are a.english a.field a.buf.now c.in_ok-course.ensures.1).walked.slim
 
 pub returns : goal.returns
 unfolding notices
@@ -18,8 +37,13 @@ returns c =
     let e = a.english in
     let i = a.field in
     let s = a.buf.now in
-    let r = c.fields-was.result in
-    let x = c.fields-was.ensures in
+    let f = c.in_ok-course.course in
+    let d = c.in_ok-course.ensures.1 in
+    let clear = ap (λ (k : Course). k.walk.code) d ∙ sym (ap (λ v. v.code) c.in_ok-course.ensures.0) in
     let (there, slim) = c.stands-spot.ensures in
-    in_place (notices (ours e)) (sound (ours e)) (judged (ours e)) s i a.value c.stands-spot.result.at c.stands-spot.result.width (walked_refusal e i s r x c.refusal.ensures) (λ vs z. stands e i s r x vs z ∙ there) slim (λ i. (c.slice_known-1.given i).fits)
-    c.begin-begun.ensures (λ z same. walked_refusal e 0 _ c.fields-again.result c.fields-again.ensures c.refusal-2.ensures ∙ ap told (fields_again e i s r x (ap (λ r. r.code) (sym c.refusal.ensures) ∙ z) _ same)) c.finish.ensures
+    family_in_place (family (ours e)) s (λ i. (c.slice_known-1.given i).fits) i a.value _ _ (f.notice, (areas_at s f.notice.count front, bytes_at s f.at f.text)) (sym (ap plain (walked_good e i s (course f) d clear)))
+    (λ q k.
+    let (vs, m, is) = also_inv record_of (read_message (notices (ours e)) s) k in
+    ap (λ vs. spot (notice (ours e)) [] vs i) (ap values_of (sym is) ∙ record_values (family (ours e)) s vs m) ∙ stands e i s (course f) d vs m ∙ there)
+    slim
+    (λ t d least most z. fields_told e t d least most (subst (λ b. Gives (course_of e 0 b) d) z.2 z.1)) c.in_place.ensures

@@ -2,7 +2,7 @@
 use mathlib.Core.Path.{ap, ap₂, ◌∙◌}
 use mathlib.Core.Bool.{true, false}
 use Rattle.walk.specs.Reading.{ranged}
-use Rattle.walk.specs.Walk.{Walk}
+use Rattle.walk.specs.Walk.{Walk, seen}
 use Rattle.notice_fields.specs.PartsSteps.{least_subtype, most_subtype, expiry_read}
 use Rattle.notice.specs.Steps.{opening_of}
 use Rattle.notice.proofs.reading.head.Goals as goal
@@ -16,7 +16,7 @@ returns c =
     let serial = c.num-w-3.ensures.0 ∙ ap (λ (r : Walk). ranged s 14 true 1 9_999 4 r) station in
     let year = c.num-w-4.ensures.0 ∙ ap (λ (r : Walk). ranged s 7 true 0 99 4 r) serial in
     let kind = c.num-w-5.ensures.0 ∙ ap (λ (r : Walk). ranged s 4 true 1 8 4 r) year in
-    let subtype = c.num-w-6.ensures.0 ∙ ap₂ (λ lo hi. ranged s 4 true lo hi 4 c.num-w-5.result) c.least_subtype.ensures c.most_subtype.ensures
+    let subtype = c.num-w-6.ensures.0 ∙ ap₂ (λ lo hi. ranged s 4 true lo hi 4 (seen c.num-w-5.result)) c.least_subtype.ensures c.most_subtype.ensures
     ∙ ap (λ (r : Walk). ranged s 4 true (least_subtype r.v) (most_subtype r.v) 4 r) kind in
     let expiry = c.expiry-w.ensures.0 ∙ ap (λ (r : Walk). expiry_read s r) subtype in
     let count = c.decide-walk.ensures.0 ∙ ap (λ (r : Walk). ranged s 4 false 0 15 4 r) expiry in

@@ -3,6 +3,7 @@ use mathlib.Core.Path.{ap₂, ◌∙◌}
 use mathlib.Core.List.{[], ◌∷◌}
 use lib.Dec.{lit<}
 use Rattle.walk.specs.Judging.{valued}
+use Rattle.walk.specs.Walk.{seen}
 use Rattle.walk.specs.Laws.Judging.{judge_start, judge_num, judge_limits, judge_deciding, valued_between}
 use Rattle.notice_fields.specs.Parts.{subtypes, subtype}
 use Rattle.notice_fields.specs.PartsSteps.{least_subtype, most_subtype}
@@ -17,7 +18,7 @@ unfolding Notice·notice
 returns c =
     let r = c.args.r in
     let kind = r.kind in
-    let limits = c.value-w-6.ensures ∙ ap₂ (λ lo hi. valued 4 r.subtype lo hi c.value-w-5.result) c.least_subtype.ensures c.most_subtype.ensures in
+    let limits = c.value-w-6.ensures ∙ ap₂ (λ lo hi. valued 4 r.subtype lo hi (seen c.value-w-5.result)) c.least_subtype.ensures c.most_subtype.ensures in
     record {
       past = r.count ∷ r.expiry ∷ r.subtype ∷ kind ∷ r.year ∷ r.serial ∷ r.station ∷ r.source ∷ [];
       is = λ english vs.
@@ -30,5 +31,5 @@ returns c =
           let r6 = judge_limits 4 (lit< tt) (subtype subtypes) (least_subtype kind) (most_subtype kind) (most_subtype_fits kind) (λ _. subtype_limits kind _ r.subtype) r5 limits in
           let r7 = expiry_judged_lem (lit< tt) r6 c.judged_expiry-w.ensures in
           judge_deciding 4 (lit< tt) 0 15 (lit< tt) r7 c.value.ensures;
-      few = λ z. (valued_between c.judged_expiry-w.result 4 r.count 0 15 c.value.ensures z).1;
+      few = λ z. (valued_between (seen c.judged_expiry-w.result) 4 r.count 0 15 c.value.ensures z).1;
     }
