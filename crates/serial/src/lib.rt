@@ -7,7 +7,7 @@ ghost use Rattle.serial.specs.Serial.{refusal_as, refusal_of};
 
 use format::{Reason, Refusal};
 
-// The refusal of reading a frame as that of its letters; success for a good one.
+// Whether a frame is read as that of its letters, or its refusal.
 pub fn refusal(s: &[u8]) -> Result<(), Refusal>
     ensures { told_of result ≡ refusal_of s.now }
 {
@@ -24,22 +24,10 @@ fn refusal_as(letters: u64, s: &[u8]) -> Result<(), Refusal>
     ensures { told_of result ≡ refusal_as letters s.now }
 {
     match letters {
-        gljc::LETTERS => {
-            gljc::read(s)?;
-            Ok(())
-        },
-        txsq::LETTERS => {
-            txsq::read(s)?;
-            Ok(())
-        },
-        txxx::LETTERS => {
-            txxx::read(s)?;
-            Ok(())
-        },
-        txhz::LETTERS => {
-            txhz::read(s)?;
-            Ok(())
-        },
+        gljc::LETTERS => gljc::read(s).map(|_| ()),
+        txsq::LETTERS => txsq::read(s).map(|_| ()),
+        txxx::LETTERS => txxx::read(s).map(|_| ()),
+        txhz::LETTERS => txhz::read(s).map(|_| ()),
         _ => Err(Reason::Kind.into()),
     }
 }

@@ -1,10 +1,12 @@
--- What a frame with content tells of it: its record alone, and the content is shown beside that. Assumes nothing.
-use Rattle.std.specs.Prelude.{◌≡◌, refl, true, false, List, ℕ, Result, Ok, Err, is_err}
-use Rattle.std.proofs.Common.{sym}
+-- What is told of a frame: of one with content its record alone, which the content is shown beside; and what calls hand on of that. Assumes nothing.
+use Rattle.std.specs.Prelude.{◌≡◌, refl, true, false, List, ℕ, Result, Ok, Err, is_err, IsOkAnd, MatchResult}
+use Rattle.std.proofs.Common.{sym, ap, ◌∙◌}
 use Rattle.format.specs.Fmt.{Out, accepted, refused, also}
-use Rattle.format.specs.Promises.{answered, plain, refused_by}
+use Rattle.format.specs.Message.{Layout, told, read_message}
+use Rattle.format.specs.Promises.{answered, read_record, out_of, plain, refused_by, verdict_of}
 use Rattle.format.specs.Refusals.{told_of}
-use Rattle.format.specs.Laws.Outcomes.{number_some}
+use Rattle.format.specs.Laws.Answers.{numbered}
+use Rattle.format.specs.Laws.Outcomes.{number_some, told_out}
 use Rattle.format.specs.Laws.Round.{clash, accepted_inj}
 use Rattle.format.specs.declared.Refusal.{Refusal}
 
@@ -32,3 +34,13 @@ refused_told (Err f) e z = number_some f.reason z
 pub passed_told : {A : Type 0} (x : Result A Refusal) → is_err x ≡ false → (told_of x).code ≡ 0
 passed_told (Ok a) e = refl
 passed_told (Err f) e = absurd cc
+
+-- another good value tells the same
+pub mapped_told : {A B : Type 0} (P : A → B → Type 0) (x : Result A Refusal) (y : Result B Refusal) → MatchResult x (λ a. IsOkAnd y (P a)) (λ e. y ≡ Err e) → told_of y ≡ told_of x
+mapped_told P (Ok a) (Ok b) h = refl
+mapped_told P (Ok a) (Err f) h = absurd h
+mapped_told P (Err f) y h = ap told_of h
+
+-- and an answer what the reading tells
+pub reading_told : {R : Type 0} (l : Layout) (record_of : List ℕ → R) (s : List ℕ) (a : Result R Refusal) → out_of a ≡ plain (read_record l record_of s) → told_of a ≡ told (read_message l s)
+reading_told l record_of s a e = told_out a ∙ ap verdict_of e ∙ numbered accepted refused_by record_of verdict_of (λ r. refl) (λ c. refl) (read_message l s)
