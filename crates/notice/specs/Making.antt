@@ -5,8 +5,7 @@ use Rattle.format.specs.Fmt.{accepted, write}
 use Rattle.format.specs.Laws.Putting.{Putting, Puts}
 use Rattle.walk.specs.Judging.{beyond}
 use Rattle.walk.specs.Laws.Judging.{Judging, Judged}
-use Rattle.walk.specs.Walk.{Walk}
-use Rattle.walk.specs.Walk.{Stepped}
+use Rattle.walk.specs.Walk.{Walk, Stepped}
 use Rattle.notice_fields.specs.Row.{areas_long}
 use Rattle.notice_fields.specs.Standing.{front}
 use Rattle.notice.specs.Notice.{ours, rest, notice}

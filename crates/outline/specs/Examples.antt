@@ -1,8 +1,9 @@
 -- Angles of zero, and a notice with a line of two points, drawn and refused, computed from the definitions.
 use Rattle.std.specs.Prelude.{◌≡◌, refl, true, List, [], ◌∷◌, ℕ, ℤ, pos, neg_ℤ, take, set}
 use Rattle.bits.specs.Bits.{bit, value_of, digits, bits_of, bytes_of}
-use Rattle.format.specs.Fmt.{accepted, read_field, read}
+use Rattle.format.specs.Fmt.{accepted, refused, read_field, read}
 use Rattle.format.specs.Message.{read_message}
+use Rattle.format.specs.Promises.{plain}
 use Rattle.format.specs.Words.{walk, wide, or_zero}
 use Rattle.text.specs.Text.{english, in_language}
 use Rattle.notice_fields.specs.Parts.{subtypes, subtype}
@@ -11,8 +12,7 @@ use Rattle.notice.specs.Notice.{notice, notices}
 use Rattle.notice.specs.Record.{head_of, text_of, record_of}
 use Rattle.outline.specs.Angles.{northing}
 use Rattle.outline.specs.Outline.{outline_of}
-use Rattle.outline.specs.Promises.{drawn, counted, answer_of}
-use Rattle.outline.specs.declared.Answer.TheVariants.{Refused}
+use Rattle.outline.specs.Promises.{drawn, counted}
 
 -- N 0°00.00' and S 0°00.00'
 zero_north : northing 0 ≡ pos 0
@@ -34,7 +34,7 @@ unfolding read_message notices notice read read_field walk wide or_zero subtypes
 line_drawn = (refl, refl)
 
 -- A line of one point is refused as reading refuses it: the kind stands at bit 63, how many points at 66. Room has no bit: a row of three.
-line_refused : (answer_of (counted true (set line 8 0x86) row) ≡ Refused (record { code = 4; bit = 66 })) × (answer_of (counted true line (take 3 row)) ≡ Refused (record { code = 6; bit = 0 }))
+line_refused : (plain (counted true (set line 8 0x86) row) ≡ refused 4 66) × (plain (counted true line (take 3 row)) ≡ refused 6 0)
 unfolding read_message notices notice read read_field walk wide or_zero subtypes subtype repeat in_language english value_of bit digits bits_of bytes_of head_of text_of record_of repeat_told repeat_of
 line_refused = (refl, refl)
 

@@ -1,13 +1,12 @@
 -- What the outline of a notice promises of the bytes s and of the row that it is lent. Assumes nothing.
-use Rattle.std.specs.Prelude.{ℕ, ◌≡◌, Bool, List, ℤ}
-use Rattle.format.specs.Fmt.{Out, accepted, also}
+use Rattle.std.specs.Prelude.{ℕ, ◌≡◌, Bool, List, ℤ, Result}
+use Rattle.format.specs.declared.Refusal.{Refusal}
+use Rattle.format.specs.Fmt.{Out, also}
 use Rattle.format.specs.Message.{leaves, into}
-use Rattle.format.specs.Promises.{answered, refused_by, read_record}
+use Rattle.format.specs.Promises.{read_record, out_of, plain}
 use Rattle.notice.specs.Notice.{ours, notices}
 use Rattle.notice.specs.Record.{Whole, record_of}
 use Rattle.outline.specs.Outline.{outline_of, point_count}
-use Rattle.outline.specs.declared.Answer.{Answer}
-use Rattle.outline.specs.declared.Answer.TheVariants.{Good, Refused}
 
 -- the notice that the bytes are read as
 abbrev pub told : Bool → List ℕ → Out Whole
@@ -32,15 +31,6 @@ points_told english s = leaves (also count_in (told english s)) 0
 abbrev pub counted : Bool → List ℕ → List ℤ → Out ℕ
 counted english s row = also (λ t. points_told english s) (drawn english s row)
 
--- the paper's refusals and values
-abbrev pub answer_of : Out ℕ → Answer
-answer_of = answered Good Refused
-
--- an answer taken apart
-abbrev pub out_of : Answer → Out ℕ
-out_of (Good n) = accepted n
-out_of (Refused c) = refused_by c
-
 -- the answer, and the row t that is left
-abbrev pub Outlines : Bool → List ℕ → List ℤ → Answer → List ℤ → Type 0
-Outlines english s row a t = (a ≡ answer_of (counted english s row)) × (t ≡ leaves (drawn english s row) row)
+abbrev pub Outlines : Bool → List ℕ → List ℤ → Result ℕ Refusal → List ℤ → Type 0
+Outlines english s row a t = (out_of a ≡ plain (counted english s row)) × (t ≡ leaves (drawn english s row) row)

@@ -6,8 +6,7 @@ use Rattle.bits.specs.Bits.{Bytes, digits, field_at}
 use Rattle.bits.specs.Laws.Bytes.{length_bytes, bytes_below}
 use Rattle.format.specs.Message.{ahead}
 use Rattle.format.specs.Promises.{Writes, Corrects}
-use Rattle.format.specs.Refusals.{bare}
-use Rattle.format.specs.Refusals.{Verdict}
+use Rattle.format.specs.Refusals.{bare, Verdict}
 use Rattle.format.specs.Laws.Family.{Family}
 use Rattle.format.proofs.Laws.Family.{written_read, read_written}
 use Rattle.format.specs.Settled.{Differs}

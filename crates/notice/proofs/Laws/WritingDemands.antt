@@ -5,8 +5,7 @@ use Rattle.bits.specs.Bits.{Bytes}
 use Rattle.format.specs.Fmt.{accepted, refused, check}
 use Rattle.format.specs.Message.{fault, told as Message·told, read_message, write_message, ahead}
 use Rattle.format.specs.Promises.{plain, read_record, Writes, Corrects}
-use Rattle.format.specs.Refusals.{bare}
-use Rattle.format.specs.Refusals.{Verdict}
+use Rattle.format.specs.Refusals.{bare, Verdict}
 use Rattle.format.proofs.Laws.Family.{never_read, never_written, read_values}
 use Rattle.format.specs.Settled.{SettledBy}
 use Rattle.format.specs.Laws.Answers.{plain_good, code_plain}

@@ -22,8 +22,7 @@ use Rattle.packet.specs.Packet.{joined}
 use Rattle.text.specs.Text.{in_language}
 use Rattle.notice.specs.Notice.{ours, text}
 use Rattle.notice.specs.Record.{texted}
-use Rattle.notice.specs.Steps.{text_walked, ending_of}
-use Rattle.notice.specs.Steps.{Ending}
+use Rattle.notice.specs.Steps.{text_walked, ending_of, Ending}
 
 -- text that lies within the message: its fault is the language's
 text_steps : (english : Bool) (s : List ℕ) (at n : ℕ) (h : List ℕ) (c : ℕ) → at + n * 8 ≤ length s * 8 → length s ≤ joined → c ≡ cond (spanned (length s) at n && in_language english (bytes_at s at n)) 0 4

@@ -48,7 +48,7 @@ record_is terms vs l = ap record_of l.is ∙ recorded (head_of vs) l.row l.size 
 -- ---- said of the notice's promises
 
 -- results that tell the same are the same
-pub one_out : (a b : Result Told Refusal) → out_of a ≡ out_of b → a ≡ b
+pub one_out : {R : Type 0} (a b : Result R Refusal) → out_of a ≡ out_of b → a ≡ b
 one_out (Ok a) (Ok b) e = ap Ok (accepted_inj e)
 one_out (Ok a) (Err g) e = clash (sym e)
 one_out (Err f) (Ok b) e = clash e

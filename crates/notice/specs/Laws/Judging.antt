@@ -12,11 +12,10 @@ use Rattle.format.specs.Words.{unless}
 use Rattle.format.specs.Laws.Extent.{opens_field}
 use Rattle.format.specs.Laws.Tells.{blamed, wrong}
 use Rattle.walk.specs.Judging.{beyond}
-use Rattle.walk.specs.Walk.{onward}
+use Rattle.walk.specs.Walk.{onward, Walk}
 use Rattle.walk.specs.Laws.Judging.{Judging, Judged, judge_bytes, judge_beyond, judge_end}
 use Rattle.walk.specs.Laws.Loops.{Going}
 use Rattle.walk.specs.Laws.Step.{sticky, clear, stuck}
-use Rattle.walk.specs.Walk.{Walk}
 use Rattle.text.specs.Text.{in_language}
 use Rattle.notice_fields.specs.Making.{fresh}
 use Rattle.notice_fields.specs.Standing.{front}

@@ -13,8 +13,7 @@ use Rattle.notice_fields.specs.Laws.Subtypes.{subtype_limits}
 use Rattle.notice_fields.specs.Laws.PartsWalking.{expiry_read_lem}
 use Rattle.notice.specs.Notice.{ours, rest, notice}
 use Rattle.notice.specs.Record.{headed}
-use Rattle.notice.specs.Steps.{fields_read, opening_of}
-use Rattle.notice.specs.Steps.{Opening}
+use Rattle.notice.specs.Steps.{fields_read, opening_of, Opening}
 
 -- reading stands at the areas
 pub record HeadIs (english : Bool) (i : ℕ) (s : List ℕ) (h : Opening) : Type 0 where

@@ -6,13 +6,12 @@ use Rattle.std.proofs.Math.Bool.{true, false, cond, and-false}
 use native.Mathlib.Omega.{arith}
 use Rattle.std.proofs.lemmas.List.Edits.{sets-eq}
 use Rattle.std.proofs.lemmas.Bool.{lt-leb}
-use Rattle.bits.specs.Bits.{Bytes, value_of, bits_of}
+use Rattle.bits.specs.Bits.{Bytes, value_of, bits_of, bytes_at}
 use Rattle.format.specs.Fmt.{accepted, refused}
 use Rattle.format.specs.Message.{read_message, ahead}
 use Rattle.format.specs.Promises.{read_record, out_of, refused_by}
 use Rattle.format.specs.Refusals.{Verdict, shown, bare, seen_refusal}
 use Rattle.format.specs.declared.Refusal.{Refusal}
-use Rattle.bits.specs.Bits.{bytes_at}
 use Rattle.bits.specs.Answers.{gettable}
 use Rattle.bits.specs.Laws.Runs.{length_run}
 use Rattle.format.specs.Laws.Runs.{run_again}

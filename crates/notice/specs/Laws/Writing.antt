@@ -4,19 +4,17 @@ use Rattle.std.proofs.Math.Path.{refl}
 use Rattle.std.proofs.Common.{sym, ap, ◌∙◌, arith, eqb-true}
 use Rattle.format.specs.Fmt.{accepted, write}
 use Rattle.format.specs.Promises.{room_for}
-use Rattle.format.specs.Refusals.{bare}
-use Rattle.format.specs.Refusals.{Verdict}
+use Rattle.format.specs.Refusals.{bare, Verdict}
 use Rattle.format.specs.Laws.Putting.{Puts}
 use Rattle.walk.specs.Judging.{beyond, closing}
 use Rattle.walk.specs.Laws.RowsMade.{Closes, closes, row_refused, row_stands}
 use Rattle.walk.specs.Laws.Step.{clear}
-use Rattle.walk.specs.Walk.{Walk}
+use Rattle.walk.specs.Walk.{Walk, Stepped}
 use Rattle.notice_fields.specs.Row.{areas_long}
 use Rattle.packet.specs.Packet.{joined}
 use Rattle.notice.specs.Notice.{ours, notice, notices}
 use Rattle.notice.specs.Record.{values_of}
 use Rattle.notice.specs.declared.reading.Notice.{Notice}
-use Rattle.walk.specs.Walk.{Stepped}
 use Rattle.notice.specs.Making.{NoticeJudged}
 use Rattle.notice.specs.WritingPromises.{NoticeWrites}
 

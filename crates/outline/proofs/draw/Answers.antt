@@ -1,9 +1,8 @@
--- `draw` meets its contract: the points of the first i areas stand in the row.
+-- `draw` meets its contract: the points of the areas so far stand in the row.
 use mathlib.Core.Path.{◌≡◌, refl, sym, ap, ◌∙◌}
 use native.Mathlib.Omega.{arith}
 use native.Mathlib.Numerals.{add-one}
-use lib.ListN.{length}
-use lib.Seq.{sets, length-sets}
+use lib.Seq.{sets}
 use Rattle.notice_fields.specs.Standing.{front, area_wide, areas_end}
 use Rattle.notice_fields.specs.Shapes.{shape_at, points_in}
 use Rattle.notice_fields.specs.declared.row.Shape.{Shape}
@@ -14,12 +13,9 @@ use Rattle.outline.specs.Standing.{points_drawn, area_drawn, outline_at}
 use Rattle.outline.proofs.Laws.Drawing.{outline_at_long, points_within, first_near, area_turn}
 use Rattle.outline.proofs.draw.Goals as goal
 
-pub loop-i-init : goal.loop-i-init
+pub loop-init : goal.loop-init
 unfolding repeat_at repeat_end repeat_sum
-loop-i-init c = (omega arith, refl, omega arith, refl, refl, refl)
-
-pub area_at-area-requires : goal.area_at-area-requires
-area_at-area-requires c = omega arith
+loop-init c = (refl, omega arith, refl, refl)
 
 pub draw_points-requires : goal.draw_points-requires
 draw_points-requires c =
@@ -27,61 +23,50 @@ draw_points-requires c =
     let s = a.s.now in
     let x = c.area_at-area.ensures in
     let points = ap (λ (r : Shape). r.points) x in
-    let here = points ∙ ap (λ p. (shape_at s p).points) c.loop-i.invariant.1 in
-    let within = points_within s c.loop-i.i a.count front (omega arith) in
-    let (_, _, few) = area_small s c.loop-i.at in
-    (omega (arith, first_near s c.loop-i.at, ap (λ (r : Shape). r.first) x), omega (arith, few, points), omega (arith, within, here, outline_at_long s a.count front))
+    let here = points ∙ ap (λ p. (shape_at s p).points) c.loop.invariant.0 in
+    let within = points_within s c.loop.counter a.count front (omega arith) in
+    let (_, _, few) = area_small s c.loop.at in
+    (omega (arith, first_near s c.loop.at, ap (λ (r : Shape). r.first) x), omega (arith, few, points), omega (arith, within, here, outline_at_long s a.count front))
 
 pub overflow_mul-k : goal.overflow_mul-k
 overflow_mul-k c =
-    let (_, _, few) = area_small c.args.s.now c.loop-i.at in
+    let (_, _, few) = area_small c.args.s.now c.loop.at in
     omega (arith, few, ap (λ (r : Shape). r.points) c.area_at-area.ensures)
 
 pub overflow_add-k : goal.overflow_add-k
 overflow_add-k c =
     let a = c.args in
     let s = a.s.now in
-    let here = ap (λ (r : Shape). r.points) c.area_at-area.ensures ∙ ap (λ p. (shape_at s p).points) c.loop-i.invariant.1 in
-    let within = points_within s c.loop-i.i a.count front (omega arith) in
+    let here = ap (λ (r : Shape). r.points) c.area_at-area.ensures ∙ ap (λ p. (shape_at s p).points) c.loop.invariant.0 in
+    let within = points_within s c.loop.counter a.count front (omega arith) in
     omega (arith, within, here, outline_at_long s a.count front)
 
 pub overflow_cast-at : goal.overflow_cast-at
 overflow_cast-at c =
-    let (near, _, _) = area_small c.args.s.now c.loop-i.at in
+    let (near, _, _) = area_small c.args.s.now c.loop.at in
     omega (arith, near, ap (λ (r : Shape). r.next) c.area_at-area.ensures)
 
-pub overflow_add-i : goal.overflow_add-i
-overflow_add-i c = omega arith
-
-pub loop-i-smaller : goal.loop-i-smaller
-loop-i-smaller c = omega arith
-
-pub loop-i-preserved : goal.loop-i-preserved
-loop-i-preserved c =
+pub loop-preserved : goal.loop-preserved
+loop-preserved c =
     let a = c.args in
     let s = a.s.now in
-    let i = c.loop-i.i in
-    let v = c.loop-i.invariant in
+    let i = c.loop.counter in
+    let v = c.loop.invariant in
     let x = c.area_at-area.ensures in
     let next = ap (λ (r : Shape). r.next) x in
-    let points = ap (λ (r : Shape). r.points) x ∙ ap (λ p. (shape_at s p).points) v.1 in
-    let (near, _, _) = area_small s c.loop-i.at in
+    let points = ap (λ (r : Shape). r.points) x ∙ ap (λ p. (shape_at s p).points) v.0 in
+    let (near, _, _) = area_small s c.loop.at in
     let one = add-one i in
     let r = c.area_at-area.result in
-    let area : points_drawn s r.points r.first ≡ area_drawn s (areas_end s i front) = ap (λ (r : Shape). points_drawn s r.points r.first) x ∙ ap (area_drawn s) v.1 in (
-      omega arith,
-      next ∙ ap (λ p. (shape_at s p).next) v.1 ∙ next_more s i front ∙ ap (λ n. areas_end s n front) (sym one),
+    let area : points_drawn s r.points r.first ≡ area_drawn s (areas_end s i front) = ap (λ (r : Shape). points_drawn s r.points r.first) x ∙ ap (area_drawn s) v.0 in (
+      next ∙ ap (λ p. (shape_at s p).next) v.0 ∙ next_more s i front ∙ ap (λ n. areas_end s n front) (sym one),
       omega (arith, near, next),
-      omega (arith, v.3, points, sum_more i (λ at. (shape_at s at).points) (area_wide s) front, ap (λ n. points_in s n front) one),
-      ap length c.draw_points.ensures ∙ length-sets c.loop-i.row c.loop-i.k (points_drawn s r.points r.first) ∙ v.4,
-      area_turn s a.row.now 0 front i c.loop-i.k (omega (arith, v.3)) v.5 (c.draw_points.ensures ∙ ap (sets c.loop-i.row c.loop-i.k) area),
+      omega (arith, v.2, points, sum_more i (λ at. (shape_at s at).points) (area_wide s) front, ap (λ n. points_in s n front) one),
+      area_turn s a.row.now 0 front i c.loop.k (omega (arith, v.2)) v.3 (c.draw_points.ensures ∙ ap (sets c.loop.row c.loop.k) area),
     )
-
-pub shape_of-row : goal.shape_of-row
-shape_of-row c = c.loop-i.invariant.4
 
 pub returns : goal.returns
 returns c =
     let a = c.args in
-    let e : c.loop-i.i ≡ a.count = omega arith in
-    c.loop-i.invariant.5 ∙ ap (λ n. sets a.row.now 0 (outline_at a.s.now n front)) e
+    let e : c.loop.counter ≡ a.count = omega arith in
+    c.loop.invariant.3 ∙ ap (λ n. sets a.row.now 0 (outline_at a.s.now n front)) e
