@@ -26,6 +26,7 @@ pub(crate) fn walk(s: &[u8], from: Walk, count: u16) -> Walk
             break 'records;
         }
         let n = w.v;
+        // A run passes several entries at once.
         let mut j: u64 = 0;
         'entries: while j < n {
             let run = crate::entries::pass(s, w, n - j);

@@ -15,10 +15,9 @@ pub fn write(buf: &mut [u8], r: Tide, row: &[u32]) -> Result<(), Refusal>
     ensures { TideWrites buf.old r row.now (told_of result) buf.new }
 {
     let judged = making::judged(r, row);
+    let walk = judged.walk;
     let room = room(row.len(), judged.next, buf.len());
-    judged
-        .walk
-        .closes(false, Tide::LEAST, Tide::GREATEST, room)?;
+    walk.closes(false, Tide::LEAST, Tide::GREATEST, room)?;
     making::put(buf, r, row);
     Ok(())
 }

@@ -37,9 +37,10 @@ entries-preserved c =
     let n = c.open_record-w.result.v - c.entries.j in
     let x = c.pass-run.result in
     let w = seen x.walk in
+    let clear = passed x.walk (sym c.is_err-in-entries.ensures.value ∙ c.if-is_err-2.false) in
     let (some, few, so) = c.pass-run.ensures in
     let left : n - x.count ≡ c.open_record-w.result.v - (c.entries.j + x.count) = omega (arith, few) in
-    (omega (arith, few), c.entries.invariant.1 ∙ so on ∙ ap (λ b. cond b (repeat_walked (n - x.count) (entry_step s) on w) w) (passed x.walk (sym c.is_err-in-entries.ensures.value ∙ c.if-is_err-2.false)) ∙ ap (λ n. repeat_walked n (entry_step s) on w) left, eqb-true _ 0 (passed x.walk (sym c.is_err-in-entries.ensures.value ∙ c.if-is_err-2.false)))
+    (omega (arith, few), c.entries.invariant.1 ∙ so on ∙ ap (λ b. cond b (repeat_walked (n - x.count) (entry_step s) on w) w) clear ∙ ap (λ n. repeat_walked n (entry_step s) on w) left, eqb-true _ 0 clear)
 
 pub records-preserved : goal.records-preserved
 unfolding repeat_walked
