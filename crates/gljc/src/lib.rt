@@ -2,7 +2,7 @@
 #![tactic(auto)]
 
 pub use crate::correcting::correct;
-pub use crate::reading::{Answer, Gljc, LETTERS, read};
+pub use crate::reading::{Gljc, LETTERS, read};
 pub use crate::writing::write;
 
 pub mod correcting;

@@ -2,37 +2,32 @@
 #![tactic(auto)]
 
 ghost use Rattle.std.specs.Prelude.{◌≡◌};
+ghost use Rattle.format.specs.Refusals.{told_of};
 ghost use Rattle.serial.specs.Serial.{refusal_as, refusal_of};
 
-use format::Refusal;
+use format::{Reason, Refusal};
 
-// The refusal of reading a frame as that of its letters; none for a good one.
-pub fn refusal(s: &[u8]) -> Refusal
-    ensures { result ≡ refusal_of s.now }
+// Whether a frame is read as that of its letters, or its refusal.
+pub fn refusal(s: &[u8]) -> Result<(), Refusal>
+    ensures { told_of result ≡ refusal_of s.now }
 {
     if s.len() < frame::LEAST {
-        return Refusal::SIZE;
+        return Err(Reason::Size.into());
     }
     if bits::get(s, 0, 8) != frame::DOLLAR {
-        return Refusal::KIND;
+        return Err(Reason::Kind.into());
     }
     refusal_as(bits::get(s, 8, 32), s)
 }
 
-fn refusal_as(letters: u64, s: &[u8]) -> Refusal
-    ensures { result ≡ refusal_as letters s.now }
+fn refusal_as(letters: u64, s: &[u8]) -> Result<(), Refusal>
+    ensures { told_of result ≡ refusal_as letters s.now }
 {
-    if letters == gljc::LETTERS {
-        return gljc::read(s).refusal();
+    match letters {
+        gljc::LETTERS => gljc::read(s).map(|_| ()),
+        txsq::LETTERS => txsq::read(s).map(|_| ()),
+        txxx::LETTERS => txxx::read(s).map(|_| ()),
+        txhz::LETTERS => txhz::read(s).map(|_| ()),
+        _ => Err(Reason::Kind.into()),
     }
-    if letters == txsq::LETTERS {
-        return txsq::read(s).refusal();
-    }
-    if letters == txxx::LETTERS {
-        return txxx::read(s).refusal();
-    }
-    if letters == txhz::LETTERS {
-        return txhz::read(s).refusal();
-    }
-    Refusal::KIND
 }

@@ -1,5 +1,5 @@
 -- A frame TXHZ with five receipts, laid down by hand from document 004, 4.4.4: read as the record that the document says, written back as the same bytes, corrected; and what paper 01 says of the count, on frames with one receipt.
-use Rattle.std.specs.Prelude.{◌≡◌, refl, List, [], ◌∷◌, ℕ}
+use Rattle.std.specs.Prelude.{◌≡◌, refl, List, [], ◌∷◌, ℕ, Err}
 use Rattle.bits.specs.Bits.{bit, value_of, digits, bits_of, bytes_of, field_at}
 use Rattle.bits.specs.Xor.{xor_of}
 use Rattle.frame.specs.Frame.{leads}
@@ -7,9 +7,9 @@ use Rattle.format.specs.Fmt.{accepted, read_field, read, write_field, write, spo
 use Rattle.format.specs.Message.{told, read_message, write_message, correct_message}
 use Rattle.format.specs.Promises.{read_record}
 use Rattle.format.specs.Words.{walk}
+use Rattle.format.specs.declared.Reason.TheVariants.{Fill, Range}
 use Rattle.txhz.specs.Txhz.{txhz, txhzs, values_of, record_of}
 use Rattle.txhz.specs.Promises.{Reads}
-use Rattle.txhz.specs.declared.reading.Answer.TheVariants.{Refused}
 use Rattle.txhz.specs.declared.reading.Receipt.{Receipt}
 use Rattle.txhz.specs.declared.reading.Txhz.{Txhz}
 
@@ -74,13 +74,13 @@ too_many : told (correct_message txhzs (message 1 0x04) 5 6) ≡ record { code =
 unfolding correct_message read_message write_message txhzs txhz leads read read_field write write_field spot walk field_at value_of bit digits bits_of xor_of
 too_many = refl
 
-too_many_read : Reads (message 6 0x03) (Refused (record { code = 4; bit = 104 }))
+too_many_read : Reads (message 6 0x03) (Err (record { reason = Range; bit = 104 }))
 unfolding read_message txhzs txhz leads read read_field walk field_at value_of bit digits bits_of xor_of
 too_many_read = refl
 
 -- one receipt is counted, and the second, which is not, is zero up to its sent minute: 5 at that byte, 144 + 8
 not_zero : Reads (
     0x24 ∷ 0x54 ∷ 0x58 ∷ 0x48 ∷ 0x5A ∷ 0x00 ∷ 0x23 ∷ 0x00 ∷ 0x00 ∷ 0x01 ∷ 0x00 ∷ 0x00 ∷ 0x02 ∷ 0x01
-    ∷ 12 ∷ 30 ∷ 13 ∷ 0 ∷ 0 ∷ 7 ∷ 0 ∷ 0 ∷ 0 ∷ 0 ∷ 0 ∷ 0 ∷ 0 ∷ 0 ∷ 0 ∷ 0 ∷ 0 ∷ 0 ∷ 0 ∷ 0 ∷ 0x03 ∷ []) (Refused (record { code = 5; bit = 152 }))
+    ∷ 12 ∷ 30 ∷ 13 ∷ 0 ∷ 0 ∷ 7 ∷ 0 ∷ 0 ∷ 0 ∷ 0 ∷ 0 ∷ 0 ∷ 0 ∷ 0 ∷ 0 ∷ 0 ∷ 0 ∷ 0 ∷ 0 ∷ 0 ∷ 0x03 ∷ []) (Err (record { reason = Fill; bit = 152 }))
 unfolding read_message txhzs txhz leads read read_field walk field_at value_of bit digits bits_of xor_of
 not_zero = refl

@@ -4,10 +4,17 @@ use Rattle.bits.specs.Answers.{got}
 use Rattle.walk.specs.Faults.{ranging}
 use Rattle.format.specs.Correcting.{put_in}
 use Rattle.walk.specs.Judging.{valued, filled}
-use Rattle.walk.specs.Walk.{onward}
-use Rattle.walk.specs.Walk.{Walk}
-use Rattle.txhz.specs.declared.reading.Passed.{Passed}
+use Rattle.walk.specs.Walk.{Walk, seen, onward}
+use Rattle.txhz.specs.declared.reading.Passed.{Passed as Declared}
 use Rattle.txhz.specs.declared.reading.Receipt.{Receipt}
+
+-- a receipt, and the walk past it, as the definitions see them
+pub record Passed : Type 0 where
+  pub walk : Walk
+  pub receipt : Receipt
+
+abbrev pub passed : Declared → Passed
+passed x = record { walk = seen x.walk; receipt = x.receipt }
 
 -- a byte read, that of the walk's bit: 0 to most where the receipt is counted, else fill
 abbrev pub slot_read_of : List ℕ → Bool → ℕ → Walk → Walk

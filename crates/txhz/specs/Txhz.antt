@@ -1,16 +1,11 @@
 -- The frame TXHZ (paper 01, "Serial frames"). Assumes nothing.
 use Rattle.std.specs.Prelude.{ℕ, ◌+◌, ◌*◌, Bool, cond, List, [], ◌∷◌, ltb, get_or}
 use Rattle.frame.specs.Frame.{address, last_hour, last_minute, frame, frames}
-use Rattle.format.specs.Fmt.{Out, accepted, Fmt, end, field}
+use Rattle.format.specs.Fmt.{Out, accepted, refused, Fmt, end, field}
 use Rattle.format.specs.Message.{Layout}
-use Rattle.format.specs.Promises.{answered, refused_by}
-use Rattle.format.specs.Refusals.{bare}
-use Rattle.format.specs.Refusals.{Verdict}
 use Rattle.format.specs.Words.{◌‥◌, ◌▹◌, only, num, ago}
 use Rattle.txhz.specs.declared.reading.Receipt.{Receipt}
 use Rattle.txhz.specs.declared.reading.Txhz.{Txhz}
-use Rattle.txhz.specs.declared.reading.Answer.{Answer}
-use Rattle.txhz.specs.declared.reading.Answer.TheVariants.{Good, Refused}
 
 -- `TXHZ`
 abbrev pub letters : ℕ
@@ -71,20 +66,7 @@ record_of vs = record {
   fifth = receipt_of vs 22;
 }
 
--- the paper's refusals and values
-abbrev pub answer_of : Out Txhz → Answer
-answer_of = answered Good Refused
-
--- an answer taken apart, and its refusal
-abbrev pub out_of : Answer → Out Txhz
-out_of (Good r) = accepted r
-out_of (Refused c) = refused_by c
-
-abbrev pub refusal_of : Answer → Verdict
-refusal_of (Good r) = bare 0
-refusal_of (Refused c) = c
-
--- how many receipts an answer's frame counts
-abbrev pub count_of : Answer → ℕ
-count_of (Good r) = r.count
-count_of (Refused c) = 0
+-- how many receipts an answer's frame counts: none where it was refused
+abbrev pub count_of : Out Txhz → ℕ
+count_of (accepted r) = r.count
+count_of (refused c p) = 0

@@ -3,11 +3,14 @@ ghost use Rattle.std.specs.Prelude.{cond, ltb, get_or};
 ghost use Rattle.format.specs.Correcting.{StandsAt};
 ghost use Rattle.format.specs.Fmt.{none};
 ghost use Rattle.format.specs.Promises.{Corrects};
+ghost use Rattle.format.specs.Refusals.{told_of};
+ghost use Rattle.walk.specs.Walk.{at_of, width_of};
 ghost use Rattle.txhz.specs.Changed.{spots};
 ghost use Rattle.txhz.specs.Txhz.{txhzs};
 
 use crate::reading::{Txhz, fields, read};
-use change::correcting::Spot;
+use change::correcting::in_place;
+use walk::walk::Spot;
 use format::Refusal;
 
 impl Txhz {
@@ -23,46 +26,40 @@ impl Txhz {
 }
 
 // Makes field number `field` of the frame be `value`, and its seal anew, or leaves every byte.
-pub fn correct(buf: &mut [u8], field: usize, value: u64) -> Refusal
-    ensures { Corrects txhzs buf.old field value result buf.new }
+pub fn correct(buf: &mut [u8], field: usize, value: u64) -> Result<(), Refusal>
+    ensures { Corrects txhzs buf.old field value (told_of result) buf.new }
 {
-    let was = read(buf);
-    let own = was.refusal();
-    if own.code != 0 {
-        return own;
-    }
-    let spot = stands(was.count(), field);
-    let begun = change::correcting::begin(buf, own, spot, value);
-    let again = fields(change::sealing::inner(buf));
-    change::correcting::finish_sealed(buf, begun, again.refusal())
+    let was = read(buf)?;
+    let spot = stands(was.count, field);
+    in_place(buf, true, spot, value, fields)
 }
 
 // Where each field that may be corrected stands in a frame that counts `count` receipts, and its width.
-fn stands(count: u8, field: usize) -> Spot
-    ensures { StandsAt (get_or (spots count) field none) result.at result.width }
+fn stands(count: u8, field: usize) -> Option<Spot>
+    ensures { StandsAt (get_or (spots count) field none) (at_of result) (width_of result) }
 {
     match field {
-        Txhz::ADDRESS => Spot { at: 56, width: 24 },
-        Txhz::RECEIVER => Spot { at: 80, width: 24 },
-        Txhz::COUNT => Spot { at: 104, width: 8 },
+        Txhz::ADDRESS => Some(Spot { at: 56, width: 24 }),
+        Txhz::RECEIVER => Some(Spot { at: 80, width: 24 }),
+        Txhz::COUNT => Some(Spot { at: 104, width: 8 }),
         _ => receipt(count, field),
     }
 }
 
 // The same of a receipt's field. A receipt has four, of a byte each, and past the count they are fill.
-fn receipt(count: u8, field: usize) -> Spot
-    ensures { StandsAt (cond (ltb field 6) none (get_or (spots count) field none)) result.at result.width }
+fn receipt(count: u8, field: usize) -> Option<Spot>
+    ensures { StandsAt (cond (ltb field 6) none (get_or (spots count) field none)) (at_of result) (width_of result) }
 {
     if field < Txhz::FIRST_RECEIPT {
-        return Spot { at: 0, width: 0 };
+        return None;
     }
     if field < Txhz::FIRST_RECEIPT + 20 {
         if (field - Txhz::FIRST_RECEIPT) / 4 < count as usize {
-            return Spot {
+            return Some(Spot {
                 at: 64 + field * 8,
                 width: 8,
-            };
+            });
         }
     }
-    Spot { at: 0, width: 0 }
+    None
 }

@@ -2,7 +2,7 @@
 #![tactic(auto)]
 
 pub use crate::correcting::correct;
-pub use crate::reading::{Answer, LETTERS, Receipt, Txhz, read};
+pub use crate::reading::{LETTERS, Receipt, Txhz, read};
 pub use crate::writing::write;
 
 pub mod correcting;

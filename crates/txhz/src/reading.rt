@@ -1,14 +1,17 @@
 // The frame TXHZ (paper 01, "Serial frames"): a receiver, and the times of up to five messages and of their receipts.
-ghost use Rattle.std.specs.Prelude.{◌≡◌, cond, ◌<◌, ◌^◌, eqb};
+ghost use Rattle.std.specs.Prelude.{◌≡◌, cond, ◌<◌, ◌^◌};
 ghost use Rattle.format.specs.Fmt.{also};
+ghost use Rattle.format.specs.Promises.{out_of, plain};
+ghost use Rattle.format.specs.Refusals.{number};
 ghost use Rattle.format.specs.Message.{fields_of};
 ghost use Rattle.txhz.specs.Promises.{Reads};
-ghost use Rattle.txhz.specs.Steps.{slot_read_of, receipt_read};
-ghost use Rattle.txhz.specs.Txhz.{txhz, record_of, answer_of, refusal_of, count_of};
-ghost use Rattle.txhz.specs.declared.reading.Answer.TheVariants.{Good, Refused};
+ghost use Rattle.txhz.specs.Steps.{slot_read_of, receipt_read, passed};
+ghost use Rattle.walk.specs.Walk.{seen};
+ghost use Rattle.txhz.specs.Txhz.{txhz, record_of};
 
-use format::Refusal;
+use format::{Reason, Refusal};
 use walk::faults::range;
+use walk::walk::Walk;
 
 #[derive(Clone, Copy)]
 pub struct Receipt {
@@ -31,44 +34,6 @@ pub struct Txhz {
     pub fifth: Receipt,
 }
 
-#[derive(Clone, Copy)]
-pub enum Answer {
-    Good(Txhz),
-    Refused(Refusal),
-}
-
-impl Answer {
-    // The record, unless a walk over its frame ended with a refusal.
-    fn told(refusal: Refusal, r: Txhz) -> Answer
-        ensures { result ≡ cond (eqb refusal.code 0) (Good r) (Refused refusal) }
-    {
-        if refusal.code != 0 {
-            return Answer::Refused(refusal);
-        }
-        Answer::Good(r)
-    }
-
-    // Its refusal: none for a good one.
-    pub fn refusal(self) -> Refusal
-        ensures { result ≡ refusal_of self }
-    {
-        match self {
-            Answer::Good(_) => Refusal::NONE,
-            Answer::Refused(refusal) => refusal,
-        }
-    }
-
-    // How many receipts its frame counts: none where it was refused.
-    pub fn count(self) -> u8
-        ensures { result ≡ count_of self }
-    {
-        match self {
-            Answer::Good(r) => r.count,
-            Answer::Refused(_) => 0,
-        }
-    }
-}
-
 impl Txhz {
     pub const BITS: usize = 280;
 
@@ -88,36 +53,32 @@ const SEALED: usize = Txhz::LEAST - 1;
 // How many receipts the frame has room for.
 pub const MOST: u64 = 5;
 
-pub fn read(s: &[u8]) -> Answer
+pub fn read(s: &[u8]) -> Result<Txhz, Refusal>
     ensures { Reads s.now result }
 {
-    let code = frame::first(s, LETTERS, Txhz::LEAST, Txhz::GREATEST);
-    if code != 0 {
-        return Answer::Refused(Refusal::bare(code));
-    }
+    frame::first(s, LETTERS, Txhz::LEAST, Txhz::GREATEST)?;
     fields(change::sealing::inner(s))
 }
 
 // ---- reading
 
 // The fields in bit order. A refused frame is walked once more for its bit, so that a good one carries none.
-pub fn fields(s: &[u8]) -> Answer
-    ensures { result ≡ answer_of (also record_of (fields_of txhz 34 34 s.now)) }
+pub fn fields(s: &[u8]) -> Result<Txhz, Refusal>
+    ensures { out_of result ≡ plain (also record_of (fields_of txhz 34 34 s.now)) }
 {
     let answer = walked(s);
-    let refusal = answer.refusal();
-    if refusal.code != 0 {
+    if answer.is_err() {
         return walked(s);
     }
     answer
 }
 
 // Another size is refused at once: no field has then to be tested for it.
-fn walked(s: &[u8]) -> Answer
-    ensures { result ≡ answer_of (also record_of (fields_of txhz 34 34 s.now)) }
+fn walked(s: &[u8]) -> Result<Txhz, Refusal>
+    ensures { out_of result ≡ plain (also record_of (fields_of txhz 34 34 s.now)) }
 {
     if s.len() != SEALED {
-        return Answer::Refused(Refusal::SIZE);
+        return Err(Reason::Size.into());
     }
     let w = frame::head(s, LETTERS, LENGTH, LENGTH);
     let address = w.v as u32;
@@ -136,31 +97,29 @@ fn walked(s: &[u8]) -> Answer
     let passed = read_receipt(passed.walk, s, 4 < count);
     let fifth = passed.receipt;
     let w = passed.walk.end(s);
-    Answer::told(
-        w.refusal(),
-        Txhz {
-            address,
-            receiver,
-            count,
-            first,
-            second,
-            third,
-            fourth,
-            fifth,
-        },
-    )
+    w.passed()?;
+    Ok(Txhz {
+        address,
+        receiver,
+        count,
+        first,
+        second,
+        third,
+        fourth,
+        fifth,
+    })
 }
 
 // A receipt, and the walk past it.
 #[derive(Clone, Copy)]
 struct Passed {
-    walk: walk::walk::Walk,
+    walk: Walk,
     receipt: Receipt,
 }
 
 // A receipt, which is fill where it is not counted.
-fn read_receipt(w: walk::walk::Walk, s: &[u8], live: bool) -> Passed
-    ensures { result ≡ receipt_read s.now live w }
+fn read_receipt(w: Walk, s: &[u8], live: bool) -> Passed
+    ensures { passed result ≡ receipt_read s.now live (seen w) }
 {
     let w = read_slot(w, s, live, frame::HOUR);
     let sent_hour = w.v as u8;
@@ -180,8 +139,8 @@ fn read_receipt(w: walk::walk::Walk, s: &[u8], live: bool) -> Passed
 }
 
 // A byte of a receipt: that which the walk's bit lies in. Receipts stand at whole bytes, and so the compiler knows it.
-fn read_slot(w: walk::walk::Walk, s: &[u8], live: bool, most: u64) -> walk::walk::Walk
-    ensures { (result ≡ slot_read_of s.now live most w) × (result.v < 2 ^ 8) }
+fn read_slot(w: Walk, s: &[u8], live: bool, most: u64) -> Walk
+    ensures { (seen result ≡ slot_read_of s.now live most (seen w)) × (result.v < 2 ^ 8) }
 {
     let at = w.at / 8 * 8;
     let wrong = range(s, at, 8, 0, top(live, most), fault(live));
@@ -194,8 +153,8 @@ fn top(live: bool, most: u64) -> u64
     if live { most } else { 0 }
 }
 
-fn fault(live: bool) -> u8
-    ensures { result ≡ cond live 4 5 }
+fn fault(live: bool) -> Reason
+    ensures { number result ≡ cond live 4 5 }
 {
-    if live { format::RANGE } else { format::FILL }
+    if live { Reason::Range } else { Reason::Fill }
 }

@@ -2,7 +2,9 @@
 ghost use Rattle.std.specs.Prelude.{◌≡◌, [], ◌<◌};
 ghost use Rattle.format.specs.Fmt.{write as Fmt·write};
 ghost use Rattle.format.specs.Promises.{Writes};
+ghost use Rattle.format.specs.Refusals.{told_of};
 ghost use Rattle.walk.specs.Laws.Judging.{Judged};
+ghost use Rattle.walk.specs.Walk.{seen};
 ghost use Rattle.format.specs.Laws.Putting.{Puts};
 ghost use Rattle.txhz.specs.Promises.{Tells};
 ghost use Rattle.txhz.specs.Steps.{slot_judged, receipt_judged, receipt_put};
@@ -10,32 +12,32 @@ ghost use Rattle.txhz.specs.Txhz.{txhz, txhzs, values_of};
 
 use crate::reading::{LENGTH, LETTERS, MOST, Receipt, Txhz};
 use format::Refusal;
+use walk::walk::Walk;
 
 // Writes the frame into the front of a lent buffer: the record is judged, then room (6); the bytes past the frame stay.
-pub fn write(buf: &mut [u8], r: Txhz) -> Refusal
-    ensures { Writes txhzs buf.old result buf.new (values_of r) }
+pub fn write(buf: &mut [u8], r: Txhz) -> Result<(), Refusal>
+    ensures { Writes txhzs buf.old (told_of result) buf.new (values_of r) }
 {
     let w = judged(r);
     let n = w.bytes(false);
-    let first = w.closes(true, Txhz::LEAST, Txhz::GREATEST, buf.len());
-    if first.code != 0 {
+    if w.closes(true, Txhz::LEAST, Txhz::GREATEST, buf.len()).is_err() {
         return refused(r, buf.len());
     }
     put(buf, r);
     change::sealing::stamp(buf, n);
-    Refusal::NONE
+    Ok(())
 }
 
 // What is told of a record that is not written. It is judged once more for that: a good one then carries no bit through its twenty
 // receipts' bytes.
-fn refused(r: Txhz, room: usize) -> Refusal
-    ensures { Tells r room result }
+fn refused(r: Txhz, room: usize) -> Result<(), Refusal>
+    ensures { Tells r room (told_of result) }
 {
     judged(r).closes(true, Txhz::LEAST, Txhz::GREATEST, room)
 }
 
-fn judged(r: Txhz) -> walk::walk::Walk
-    ensures { Judged (Fmt·write txhz [] 0 (values_of r)) result }
+fn judged(r: Txhz) -> Walk
+    ensures { Judged (Fmt·write txhz [] 0 (values_of r)) (seen result) }
 {
     let count = r.count;
     let w = frame::judged(LETTERS, LENGTH, r.address as u64);
@@ -49,8 +51,8 @@ fn judged(r: Txhz) -> walk::walk::Walk
 }
 
 // A receipt, which is kept fill where it is not counted.
-fn judge_receipt(w: walk::walk::Walk, t: Receipt, live: bool) -> walk::walk::Walk
-    ensures { result ≡ receipt_judged live t w }
+fn judge_receipt(w: Walk, t: Receipt, live: bool) -> Walk
+    ensures { seen result ≡ receipt_judged live t (seen w) }
 {
     let w = judge_slot(w, t.sent_hour, live, frame::HOUR);
     let w = judge_slot(w, t.sent_minute, live, frame::MINUTE);
@@ -59,8 +61,8 @@ fn judge_receipt(w: walk::walk::Walk, t: Receipt, live: bool) -> walk::walk::Wal
 }
 
 // A byte of a receipt.
-fn judge_slot(w: walk::walk::Walk, v: u8, live: bool, most: u64) -> walk::walk::Walk
-    ensures { result ≡ slot_judged live v most w }
+fn judge_slot(w: Walk, v: u8, live: bool, most: u64) -> Walk
+    ensures { seen result ≡ slot_judged live v most (seen w) }
 {
     if live {
         return w.value(8, v as u64, 0, most);

@@ -1,5 +1,5 @@
 -- Two frames TXSQ: that of paper 01's case A (crate numbers_to_stand_by) with all of its fields and its content; and one laid down by hand from document 004, 4.1 and 4.2.3, read, written and corrected; and what is told of others like them.
-use Rattle.std.specs.Prelude.{◌≡◌, refl, List, [], ◌∷◌, ℕ}
+use Rattle.std.specs.Prelude.{◌≡◌, refl, List, [], ◌∷◌, ℕ, Err}
 use Rattle.bits.specs.Bits.{bit, value_of, digits, bits_of, bytes_of, field_at}
 use Rattle.bits.specs.Xor.{xor_of}
 use Rattle.frame.specs.Frame.{declared, leads, content_of}
@@ -7,9 +7,9 @@ use Rattle.format.specs.Fmt.{accepted, read_field, read, write_field, write, spo
 use Rattle.format.specs.Message.{told, read_message, write_message, correct_message}
 use Rattle.format.specs.Promises.{read_record}
 use Rattle.format.specs.Words.{walk}
+use Rattle.format.specs.declared.Reason.TheVariants.{Fill, Kind, Range, Size}
 use Rattle.txsq.specs.Txsq.{txsq, txsqs, values_of, record_of}
 use Rattle.txsq.specs.Promises.{Reads}
-use Rattle.txsq.specs.declared.reading.Answer.TheVariants.{Refused}
 use Rattle.txsq.specs.declared.reading.Txsq.{Txsq}
 
 -- `24 54 58 53 51 00 14 02 00 BA 46 02 00 BA 00 10 00 A4 31 FD`
@@ -44,7 +44,7 @@ receiver_corrected = refl
 -- ---- refusals: behind the own address, bits 56 to 79, the class is 80 to 87 (its first four, category 84 and 85, mode 86, password 87), the receiver 88 to 111, the bit length 112 to 127, the answer 128 to 135, and the content begins at 136
 
 -- the frame in category 00: its password is refused there
-password_in_category_0 : Reads (0x24 ∷ 0x54 ∷ 0x58 ∷ 0x53 ∷ 0x51 ∷ 0x00 ∷ 0x15 ∷ 0x12 ∷ 0x34 ∷ 0x56 ∷ 0x41 ∷ 0x1E ∷ 0xB2 ∷ 0x55 ∷ 0x00 ∷ 0x18 ∷ 0x5A ∷ 0xB5 ∷ 0xCA ∷ 0xDB ∷ 0x11 ∷ []) (Refused (record { code = 4; bit = 87 }))
+password_in_category_0 : Reads (0x24 ∷ 0x54 ∷ 0x58 ∷ 0x53 ∷ 0x51 ∷ 0x00 ∷ 0x15 ∷ 0x12 ∷ 0x34 ∷ 0x56 ∷ 0x41 ∷ 0x1E ∷ 0xB2 ∷ 0x55 ∷ 0x00 ∷ 0x18 ∷ 0x5A ∷ 0xB5 ∷ 0xCA ∷ 0xDB ∷ 0x11 ∷ []) (Err (record { reason = Range; bit = 87 }))
 unfolding read_message txsqs txsq leads read read_field walk field_at value_of bit digits bits_of xor_of
 password_in_category_0 = refl
 
@@ -54,16 +54,16 @@ unfolding correct_message read_message write_message txsqs txsq leads read read_
 category_corrected = refl
 
 -- a class of 011: a kind that is not handled tells no bit
-other_class : Reads (0x24 ∷ 0x54 ∷ 0x58 ∷ 0x53 ∷ 0x51 ∷ 0x00 ∷ 0x15 ∷ 0x12 ∷ 0x34 ∷ 0x56 ∷ 0x65 ∷ 0x1E ∷ 0xB2 ∷ 0x55 ∷ 0x00 ∷ 0x18 ∷ 0x5A ∷ 0xB5 ∷ 0xCA ∷ 0xDB ∷ 0x35 ∷ []) (Refused (record { code = 2; bit = 0 }))
+other_class : Reads (0x24 ∷ 0x54 ∷ 0x58 ∷ 0x53 ∷ 0x51 ∷ 0x00 ∷ 0x15 ∷ 0x12 ∷ 0x34 ∷ 0x56 ∷ 0x65 ∷ 0x1E ∷ 0xB2 ∷ 0x55 ∷ 0x00 ∷ 0x18 ∷ 0x5A ∷ 0xB5 ∷ 0xCA ∷ 0xDB ∷ 0x35 ∷ []) (Err (record { reason = Kind; bit = 0 }))
 unfolding read_message txsqs txsq leads read read_field walk field_at value_of bit digits bits_of xor_of
 other_class = refl
 
 -- 16 bits of content in the frame, which has three bytes of it
-other_bit_length : Reads (0x24 ∷ 0x54 ∷ 0x58 ∷ 0x53 ∷ 0x51 ∷ 0x00 ∷ 0x15 ∷ 0x12 ∷ 0x34 ∷ 0x56 ∷ 0x45 ∷ 0x1E ∷ 0xB2 ∷ 0x55 ∷ 0x00 ∷ 0x10 ∷ 0x5A ∷ 0xB5 ∷ 0xCA ∷ 0xDB ∷ 0x1D ∷ []) (Refused (record { code = 1; bit = 112 }))
+other_bit_length : Reads (0x24 ∷ 0x54 ∷ 0x58 ∷ 0x53 ∷ 0x51 ∷ 0x00 ∷ 0x15 ∷ 0x12 ∷ 0x34 ∷ 0x56 ∷ 0x45 ∷ 0x1E ∷ 0xB2 ∷ 0x55 ∷ 0x00 ∷ 0x10 ∷ 0x5A ∷ 0xB5 ∷ 0xCA ∷ 0xDB ∷ 0x1D ∷ []) (Err (record { reason = Size; bit = 112 }))
 unfolding read_message txsqs txsq leads read read_field walk field_at value_of bit digits bits_of xor_of
 other_bit_length = refl
 
 -- case A with 15 bits of content: the last bit of 31, 136 + 15, is not used, and not zero
-unused_bit : Reads (0x24 ∷ 0x54 ∷ 0x58 ∷ 0x53 ∷ 0x51 ∷ 0x00 ∷ 0x14 ∷ 0x02 ∷ 0x00 ∷ 0xBA ∷ 0x46 ∷ 0x02 ∷ 0x00 ∷ 0xBA ∷ 0x00 ∷ 0x0F ∷ 0x00 ∷ 0xA4 ∷ 0x31 ∷ 0xE2 ∷ []) (Refused (record { code = 5; bit = 151 }))
+unused_bit : Reads (0x24 ∷ 0x54 ∷ 0x58 ∷ 0x53 ∷ 0x51 ∷ 0x00 ∷ 0x14 ∷ 0x02 ∷ 0x00 ∷ 0xBA ∷ 0x46 ∷ 0x02 ∷ 0x00 ∷ 0xBA ∷ 0x00 ∷ 0x0F ∷ 0x00 ∷ 0xA4 ∷ 0x31 ∷ 0xE2 ∷ []) (Err (record { reason = Fill; bit = 151 }))
 unfolding read_message txsqs txsq leads read read_field walk field_at value_of bit digits bits_of xor_of
 unused_bit = refl

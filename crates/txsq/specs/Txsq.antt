@@ -2,15 +2,10 @@
 use Rattle.std.specs.Prelude.{ℕ, ◌%◌, Bool, true, cond, ◌&&◌, List, [], ◌∷◌, leb, eqb, length, get_or}
 use Rattle.bits.specs.Bits.{field_at}
 use Rattle.frame.specs.Frame.{frame, frames, address, declared, fits, content_of}
-use Rattle.format.specs.Fmt.{Out, accepted, Fmt, end, choice, pad}
+use Rattle.format.specs.Fmt.{Fmt, end, choice, pad}
 use Rattle.format.specs.Message.{Layout}
-use Rattle.format.specs.Promises.{answered, refused_by}
-use Rattle.format.specs.Refusals.{bare}
-use Rattle.format.specs.Refusals.{Verdict}
 use Rattle.format.specs.Words.{Test, ◌‥◌, ◌▹◌, num, code, twice, content, ago}
 use Rattle.txsq.specs.declared.reading.Txsq.{Txsq}
-use Rattle.txsq.specs.declared.reading.Answer.{Answer}
-use Rattle.txsq.specs.declared.reading.Answer.TheVariants.{Good, Refused}
 
 -- `TXSQ`
 abbrev pub letters : ℕ
@@ -91,16 +86,3 @@ record_of vs = (
   },
   content_of (get_or vs 9 0) (get_or vs 11 0) (get_or vs 12 0),
 )
-
--- the paper's refusals and values; the content is shown beside them
-abbrev pub answer_of : Out (Txsq × List ℕ) → Answer
-answer_of = answered (λ r. Good r.0) Refused
-
--- an answer taken apart, and its refusal
-abbrev pub out_of : Answer → Out Txsq
-out_of (Good r) = accepted r
-out_of (Refused c) = refused_by c
-
-abbrev pub refusal_of : Answer → Verdict
-refusal_of (Good r) = bare 0
-refusal_of (Refused c) = c

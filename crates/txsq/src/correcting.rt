@@ -1,12 +1,15 @@
 // A frame TXSQ corrected in place, and sealed anew (paper 01, "Correcting a field").
 ghost use Rattle.format.specs.Correcting.{StandsAt};
 ghost use Rattle.format.specs.Promises.{Corrects};
+ghost use Rattle.format.specs.Refusals.{told_of};
+ghost use Rattle.walk.specs.Walk.{at_of, width_of};
 ghost use Rattle.txsq.specs.Changed.{spot_of};
 ghost use Rattle.txsq.specs.Txsq.{txsqs};
 
 use crate::reading::{Txsq, fields, read};
-use change::correcting::Spot;
+use change::correcting::in_place;
 use format::Refusal;
+use walk::walk::Spot;
 
 impl Txsq {
     // The fields that may be corrected, by their position among the frame's.
@@ -24,31 +27,25 @@ impl Txsq {
 }
 
 // Makes field number `field` of the frame be `value`, and its seal anew, or leaves every byte.
-pub fn correct(buf: &mut [u8], field: usize, value: u64) -> Refusal
-    ensures { Corrects txsqs buf.old field value result buf.new }
+pub fn correct(buf: &mut [u8], field: usize, value: u64) -> Result<(), Refusal>
+    ensures { Corrects txsqs buf.old field value (told_of result) buf.new }
 {
-    let was = read(buf);
-    let own = was.refusal();
-    if own.code != 0 {
-        return own;
-    }
+    read(buf)?;
     let spot = stands(field);
-    let begun = change::correcting::begin(buf, own, spot, value);
-    let again = fields(change::sealing::inner(buf));
-    change::correcting::finish_sealed(buf, begun, again.refusal())
+    in_place(buf, true, spot, value, fields)
 }
 
 // Where each field that may be corrected stands in every frame, and its width. Bit length, content and fill may not be.
-fn stands(field: usize) -> Spot
-    ensures { StandsAt (spot_of field) result.at result.width }
+fn stands(field: usize) -> Option<Spot>
+    ensures { StandsAt (spot_of field) (at_of result) (width_of result) }
 {
     match field {
-        Txsq::ADDRESS => Spot { at: 56, width: 24 },
-        Txsq::CATEGORY => Spot { at: 84, width: 2 },
-        Txsq::MODE => Spot { at: 86, width: 1 },
-        Txsq::PASSWORD => Spot { at: 87, width: 1 },
-        Txsq::RECEIVER => Spot { at: 88, width: 24 },
-        Txsq::ANSWER => Spot { at: 128, width: 8 },
-        _ => Spot { at: 0, width: 0 },
+        Txsq::ADDRESS => Some(Spot { at: 56, width: 24 }),
+        Txsq::CATEGORY => Some(Spot { at: 84, width: 2 }),
+        Txsq::MODE => Some(Spot { at: 86, width: 1 }),
+        Txsq::PASSWORD => Some(Spot { at: 87, width: 1 }),
+        Txsq::RECEIVER => Some(Spot { at: 88, width: 24 }),
+        Txsq::ANSWER => Some(Spot { at: 128, width: 8 }),
+        _ => None,
     }
 }

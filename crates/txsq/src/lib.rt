@@ -2,7 +2,7 @@
 #![tactic(auto)]
 
 pub use crate::correcting::correct;
-pub use crate::reading::{Answer, LETTERS, Txsq, content, read};
+pub use crate::reading::{LETTERS, Txsq, content, read};
 pub use crate::writing::write;
 
 pub mod correcting;

@@ -2,11 +2,12 @@
 ghost use Rattle.std.specs.Prelude.{◌≡◌, true, cond, ◌%◌, [], eqb};
 ghost use Rattle.bits.specs.Bits.{bits_of};
 ghost use Rattle.format.specs.Fmt.{also, read as Fmt·read};
-ghost use Rattle.txsq.specs.Txsq.{txsq, allowed as Txsq·allowed, bounded, record_of, answer_of, refusal_of};
+ghost use Rattle.format.specs.Promises.{out_of, plain};
+ghost use Rattle.format.specs.Refusals.{code_of};
+ghost use Rattle.txsq.specs.Txsq.{txsq, allowed as Txsq·allowed, bounded, record_of};
 ghost use Rattle.txsq.specs.Promises.{Reads, Shows};
-ghost use Rattle.txsq.specs.declared.reading.Answer.TheVariants.{Good, Refused};
 
-use format::Refusal;
+use format::{Reason, Refusal};
 
 // The content, whole bytes with their unused low bits, stands beside the record: in the frame that was read, or lent to be written.
 #[derive(Clone, Copy)]
@@ -23,34 +24,6 @@ pub struct Txsq {
     pub size: u16,
     // 0 without a password.
     pub answer: u8,
-}
-
-#[derive(Clone, Copy)]
-pub enum Answer {
-    Good(Txsq),
-    Refused(Refusal),
-}
-
-impl Answer {
-    // The record, unless a walk over its frame ended with a refusal.
-    fn told(refusal: Refusal, r: Txsq) -> Answer
-        ensures { result ≡ cond (eqb refusal.code 0) (Good r) (Refused refusal) }
-    {
-        if refusal.code != 0 {
-            return Answer::Refused(refusal);
-        }
-        Answer::Good(r)
-    }
-
-    // Its refusal: none for a good one.
-    pub fn refusal(self) -> Refusal
-        ensures { result ≡ refusal_of self }
-    {
-        match self {
-            Answer::Good(_) => Refusal::NONE,
-            Answer::Refused(refusal) => refusal,
-        }
-    }
 }
 
 impl Txsq {
@@ -76,13 +49,10 @@ pub const LETTERS: u64 = 0x5458_5351;
 // The class begins with 010 and key 0.
 pub const CLASS: u64 = 0b0100;
 
-pub fn read(s: &[u8]) -> Answer
+pub fn read(s: &[u8]) -> Result<Txsq, Refusal>
     ensures { Reads s.now result }
 {
-    let code = frame::first(s, LETTERS, Txsq::LEAST, Txsq::GREATEST);
-    if code != 0 {
-        return Answer::Refused(Refusal::bare(code));
-    }
+    frame::first(s, LETTERS, Txsq::LEAST, Txsq::GREATEST)?;
     fields(change::sealing::inner(s))
 }
 
@@ -90,28 +60,22 @@ pub fn read(s: &[u8]) -> Answer
 pub fn content(frame: &[u8]) -> &[u8]
     ensures { Shows frame.now result.now }
 {
-    let refusal = read(frame).refusal();
-    if refusal.code != 0 {
-        return &frame[..0];
-    }
-    let end = frame.len() - Txsq::TAIL;
-    &frame[Txsq::CONTENT..end]
+    frame::content(frame, read(frame).is_ok(), Txsq::CONTENT, Txsq::TAIL)
 }
 
 // The fields in bit order. A refused frame is walked once more for its bit, so that a good one carries none.
-pub fn fields(s: &[u8]) -> Answer
-    ensures { result ≡ answer_of (also record_of (Fmt·read txsq [] 0 (bits_of s.now))) }
+pub fn fields(s: &[u8]) -> Result<Txsq, Refusal>
+    ensures { out_of result ≡ plain (also (λ r. r.0) (also record_of (Fmt·read txsq [] 0 (bits_of s.now)))) }
 {
     let answer = walked(s);
-    let refusal = answer.refusal();
-    if refusal.code != 0 {
+    if answer.is_err() {
         return walked(s);
     }
     answer
 }
 
-fn walked(s: &[u8]) -> Answer
-    ensures { result ≡ answer_of (also record_of (Fmt·read txsq [] 0 (bits_of s.now))) }
+fn walked(s: &[u8]) -> Result<Txsq, Refusal>
+    ensures { out_of result ≡ plain (also (λ r. r.0) (also record_of (Fmt·read txsq [] 0 (bits_of s.now)))) }
 {
     let w = frame::head(s, LETTERS, 0, frame::LONGEST);
     let address = w.v as u32;
@@ -124,14 +88,14 @@ fn walked(s: &[u8]) -> Answer
     let password = w.v as u8;
     let w = w.num(s, 24, 0, frame::ADDRESS);
     let receiver = w.v as u32;
-    let fault = limit(
+    let judged = limit(
         category,
         mode,
         password,
         bits::get(s, 40, 16),
         bits::get(s, 112, 16),
     );
-    let w = w.given(s, 16, fault);
+    let w = w.given(s, 16, judged);
     let size = w.v as u16;
     let w = w.num(s, 8, 0, allowed(password, 255));
     let answer = w.v as u8;
@@ -139,7 +103,8 @@ fn walked(s: &[u8]) -> Answer
         .content(s, size as u32)
         .fill(s, frame::unused_bits(size))
         .end(s);
-    let r = Txsq {
+    w.passed()?;
+    Ok(Txsq {
         address,
         category,
         mode,
@@ -147,8 +112,7 @@ fn walked(s: &[u8]) -> Answer
         receiver,
         size,
         answer,
-    };
-    Answer::told(w.refusal(), r)
+    })
 }
 
 // A password needs category 1, and an answer a password: the greatest value, 0 without.
@@ -159,24 +123,20 @@ pub fn allowed(with: u8, most: u64) -> u64
 }
 
 // What is wrong with a bit length: the limits (4), then the content's size (1).
-pub fn limit(category: u8, mode: u8, password: u8, length: u64, size: u64) -> u8
-    ensures { result ≡ bounded category mode password length size }
+pub fn limit(category: u8, mode: u8, password: u8, length: u64, size: u64) -> Result<(), Reason>
+    ensures { code_of result ≡ bounded category mode password length size }
 {
-    if size > most(category, password) {
-        return format::RANGE;
+    if size > most(category, password) || !whole(mode, size) {
+        return Err(Reason::Range);
     }
-    if whole(mode, size) {
-        frame::sized(Txsq::BARE, length, size)
-    } else {
-        format::RANGE
-    }
+    frame::sized(Txsq::BARE, length, size)
 }
 
 // Text is of whole bytes.
 fn whole(mode: u8, size: u64) -> bool
     ensures { result ≡ cond (eqb mode 0) (eqb (size % 8) 0) true }
 {
-    if mode == 0 { size % 8 == 0 } else { true }
+    mode != 0 || size % 8 == 0
 }
 
 fn most(category: u8, password: u8) -> u64

@@ -1,5 +1,5 @@
 -- A frame TXXX, laid down by hand from document 004, 4.3 and 4.4.3: read as the record and the content that the document says, written back as the same bytes, corrected; and what is told of others like it.
-use Rattle.std.specs.Prelude.{◌≡◌, refl, List, [], ◌∷◌, ℕ}
+use Rattle.std.specs.Prelude.{◌≡◌, refl, List, [], ◌∷◌, ℕ, Err}
 use Rattle.bits.specs.Bits.{bit, value_of, digits, bits_of, bytes_of, field_at}
 use Rattle.bits.specs.Xor.{xor_of}
 use Rattle.frame.specs.Frame.{declared, leads, content_of}
@@ -7,9 +7,9 @@ use Rattle.format.specs.Fmt.{accepted, refused, read_field, read, write_field, w
 use Rattle.format.specs.Message.{told, read_message, write_message, correct_message}
 use Rattle.format.specs.Promises.{read_record}
 use Rattle.format.specs.Words.{walk}
+use Rattle.format.specs.declared.Reason.TheVariants.{Fill, Size}
 use Rattle.txxx.specs.Txxx.{txxx, txxxs, values_of, record_of}
 use Rattle.txxx.specs.Promises.{Reads}
-use Rattle.txxx.specs.declared.reading.Answer.TheVariants.{Refused}
 use Rattle.txxx.specs.declared.reading.Txxx.{Txxx}
 
 -- own address 1,193,046; class 01 1 0 1 1 00 (a code, found by a query, with a key); sender 2,011,733; 19:34; 21 bits; CRC mark 1, which is wrong
@@ -40,12 +40,12 @@ fill_bit : write_message txxxs (values_of (sent, 0xB5 ∷ 0xCA ∷ 0xD9 ∷ []))
 unfolding write_message txxxs txxx declared values_of write write_field walk field_at value_of bit digits bits_of
 fill_bit = refl
 
-fill_bit_read : Reads (0x24 ∷ 0x54 ∷ 0x58 ∷ 0x58 ∷ 0x58 ∷ 0x00 ∷ 0x17 ∷ 0x12 ∷ 0x34 ∷ 0x56 ∷ 0x6C ∷ 0x1E ∷ 0xB2 ∷ 0x55 ∷ 0x13 ∷ 0x22 ∷ 0x00 ∷ 0x15 ∷ 0xB5 ∷ 0xCA ∷ 0xD9 ∷ 0x01 ∷ 0x59 ∷ []) (Refused (record { code = 5; bit = 165 }))
+fill_bit_read : Reads (0x24 ∷ 0x54 ∷ 0x58 ∷ 0x58 ∷ 0x58 ∷ 0x00 ∷ 0x17 ∷ 0x12 ∷ 0x34 ∷ 0x56 ∷ 0x6C ∷ 0x1E ∷ 0xB2 ∷ 0x55 ∷ 0x13 ∷ 0x22 ∷ 0x00 ∷ 0x15 ∷ 0xB5 ∷ 0xCA ∷ 0xD9 ∷ 0x01 ∷ 0x59 ∷ []) (Err (record { reason = Fill; bit = 165 }))
 unfolding read_message txxxs txxx leads read read_field walk field_at value_of bit digits bits_of xor_of
 fill_bit_read = refl
 
 -- 25 bits of content, which are four bytes, in the frame, which has three
-other_bit_length : Reads (0x24 ∷ 0x54 ∷ 0x58 ∷ 0x58 ∷ 0x58 ∷ 0x00 ∷ 0x17 ∷ 0x12 ∷ 0x34 ∷ 0x56 ∷ 0x6C ∷ 0x1E ∷ 0xB2 ∷ 0x55 ∷ 0x13 ∷ 0x22 ∷ 0x00 ∷ 0x19 ∷ 0xB5 ∷ 0xCA ∷ 0xD8 ∷ 0x01 ∷ 0x54 ∷ []) (Refused (record { code = 1; bit = 128 }))
+other_bit_length : Reads (0x24 ∷ 0x54 ∷ 0x58 ∷ 0x58 ∷ 0x58 ∷ 0x00 ∷ 0x17 ∷ 0x12 ∷ 0x34 ∷ 0x56 ∷ 0x6C ∷ 0x1E ∷ 0xB2 ∷ 0x55 ∷ 0x13 ∷ 0x22 ∷ 0x00 ∷ 0x19 ∷ 0xB5 ∷ 0xCA ∷ 0xD8 ∷ 0x01 ∷ 0x54 ∷ []) (Err (record { reason = Size; bit = 128 }))
 unfolding read_message txxxs txxx leads read read_field walk field_at value_of bit digits bits_of xor_of
 other_bit_length = refl
 

@@ -2,15 +2,10 @@
 use Rattle.std.specs.Prelude.{ℕ, cond, List, [], ◌∷◌, leb, length, get_or}
 use Rattle.bits.specs.Bits.{field_at}
 use Rattle.frame.specs.Frame.{frame, frames, address, hour, minute, declared, fits, content_of}
-use Rattle.format.specs.Fmt.{Out, accepted, Fmt, end, choice, pad}
+use Rattle.format.specs.Fmt.{Fmt, end, choice, pad}
 use Rattle.format.specs.Message.{Layout}
-use Rattle.format.specs.Promises.{answered, refused_by}
-use Rattle.format.specs.Refusals.{bare}
-use Rattle.format.specs.Refusals.{Verdict}
 use Rattle.format.specs.Words.{Test, ◌‥◌, ◌▹◌, num, twice, content, ago}
 use Rattle.txxx.specs.declared.reading.Txxx.{Txxx}
-use Rattle.txxx.specs.declared.reading.Answer.{Answer}
-use Rattle.txxx.specs.declared.reading.Answer.TheVariants.{Good, Refused}
 
 -- `TXXX`
 abbrev pub letters : ℕ
@@ -82,16 +77,3 @@ record_of vs = (
   },
   content_of (get_or vs 8 0) (get_or vs 9 0) (get_or vs 10 0),
 )
-
--- the paper's refusals and values; the content is shown beside them
-abbrev pub answer_of : Out (Txxx × List ℕ) → Answer
-answer_of = answered (λ r. Good r.0) Refused
-
--- an answer taken apart, and its refusal
-abbrev pub out_of : Answer → Out Txxx
-out_of (Good r) = accepted r
-out_of (Refused c) = refused_by c
-
-abbrev pub refusal_of : Answer → Verdict
-refusal_of (Good r) = bare 0
-refusal_of (Refused c) = c

@@ -3,12 +3,15 @@ ghost use Rattle.std.specs.Prelude.{◌≡◌, cond, ◌-◌, ◌*◌};
 ghost use Rattle.format.specs.Correcting.{StandsAt};
 ghost use Rattle.format.specs.Message.{between};
 ghost use Rattle.format.specs.Promises.{Corrects};
+ghost use Rattle.format.specs.Refusals.{told_of};
+ghost use Rattle.walk.specs.Walk.{at_of, width_of};
 ghost use Rattle.txxx.specs.Changed.{spot_by};
 ghost use Rattle.txxx.specs.Txxx.{txxxs};
 
 use crate::reading::{Txxx, fields, read};
-use change::correcting::Spot;
+use change::correcting::in_place;
 use format::Refusal;
+use walk::walk::Spot;
 
 impl Txxx {
     // The fields that may be corrected, by their position among the frame's.
@@ -26,32 +29,26 @@ impl Txxx {
 }
 
 // Makes field number `field` of the frame be `value`, and its seal anew, or leaves every byte.
-pub fn correct(buf: &mut [u8], field: usize, value: u64) -> Refusal
-    ensures { Corrects txxxs buf.old field value result buf.new }
+pub fn correct(buf: &mut [u8], field: usize, value: u64) -> Result<(), Refusal>
+    ensures { Corrects txxxs buf.old field value (told_of result) buf.new }
 {
-    let was = read(buf);
-    let own = was.refusal();
-    if own.code != 0 {
-        return own;
-    }
+    read(buf)?;
     let spot = stands(mark(buf.len()), field);
-    let begun = change::correcting::begin(buf, own, spot, value);
-    let again = fields(change::sealing::inner(buf));
-    change::correcting::finish_sealed(buf, begun, again.refusal())
+    in_place(buf, true, spot, value, fields)
 }
 
 // Where each field that may be corrected stands in a frame whose mark stands at bit `mark`, and its width. Bit length, content and fill may not be.
-fn stands(mark: usize, field: usize) -> Spot
-    ensures { StandsAt (spot_by mark field) result.at result.width }
+fn stands(mark: usize, field: usize) -> Option<Spot>
+    ensures { StandsAt (spot_by mark field) (at_of result) (width_of result) }
 {
     match field {
-        Txxx::ADDRESS => Spot { at: 56, width: 24 },
-        Txxx::CLASS => Spot { at: 80, width: 8 },
-        Txxx::SENDER => Spot { at: 88, width: 24 },
-        Txxx::HOUR => Spot { at: 112, width: 8 },
-        Txxx::MINUTE => Spot { at: 120, width: 8 },
-        Txxx::MARK => Spot { at: mark, width: 8 },
-        _ => Spot { at: 0, width: 0 },
+        Txxx::ADDRESS => Some(Spot { at: 56, width: 24 }),
+        Txxx::CLASS => Some(Spot { at: 80, width: 8 }),
+        Txxx::SENDER => Some(Spot { at: 88, width: 24 }),
+        Txxx::HOUR => Some(Spot { at: 112, width: 8 }),
+        Txxx::MINUTE => Some(Spot { at: 120, width: 8 }),
+        Txxx::MARK => Some(Spot { at: mark, width: 8 }),
+        _ => None,
     }
 }
 
@@ -59,10 +56,7 @@ fn stands(mark: usize, field: usize) -> Spot
 fn mark(len: usize) -> usize
     ensures { result ≡ cond (between 20 230 len) ((len - 2) * 8) 0 }
 {
-    if len < Txxx::LEAST {
-        return 0;
-    }
-    if len > Txxx::GREATEST {
+    if len < Txxx::LEAST || len > Txxx::GREATEST {
         return 0;
     }
     (len - Txxx::TAIL) * 8

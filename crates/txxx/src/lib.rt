@@ -2,7 +2,7 @@
 #![tactic(auto)]
 
 pub use crate::correcting::correct;
-pub use crate::reading::{Answer, LETTERS, Txxx, content, read};
+pub use crate::reading::{LETTERS, Txxx, content, read};
 pub use crate::writing::write;
 
 pub mod correcting;

@@ -1,12 +1,13 @@
 // The frame TXXX (paper 01, "Serial frames"): content from a sender, with the time.
-ghost use Rattle.std.specs.Prelude.{◌≡◌, cond, ◌-◌, [], eqb};
+ghost use Rattle.std.specs.Prelude.{◌≡◌, []};
 ghost use Rattle.bits.specs.Bits.{bits_of};
 ghost use Rattle.format.specs.Fmt.{also, read as Fmt·read};
-ghost use Rattle.txxx.specs.Txxx.{txxx, bounded, record_of, answer_of, refusal_of};
+ghost use Rattle.format.specs.Promises.{out_of, plain};
+ghost use Rattle.format.specs.Refusals.{code_of};
+ghost use Rattle.txxx.specs.Txxx.{txxx, bounded, record_of};
 ghost use Rattle.txxx.specs.Promises.{Reads, Shows};
-ghost use Rattle.txxx.specs.declared.reading.Answer.TheVariants.{Good, Refused};
 
-use format::Refusal;
+use format::{Reason, Refusal};
 
 // The content, whole bytes with their unused low bits, stands beside the record: in the frame that was read, or lent to be written.
 #[derive(Clone, Copy)]
@@ -20,34 +21,6 @@ pub struct Txxx {
     pub size: u16,
     // The CRC mark.
     pub mark: u8,
-}
-
-#[derive(Clone, Copy)]
-pub enum Answer {
-    Good(Txxx),
-    Refused(Refusal),
-}
-
-impl Answer {
-    // The record, unless a walk over its frame ended with a refusal.
-    fn told(refusal: Refusal, r: Txxx) -> Answer
-        ensures { result ≡ cond (eqb refusal.code 0) (Good r) (Refused refusal) }
-    {
-        if refusal.code != 0 {
-            return Answer::Refused(refusal);
-        }
-        Answer::Good(r)
-    }
-
-    // Its refusal: none for a good one.
-    pub fn refusal(self) -> Refusal
-        ensures { result ≡ refusal_of self }
-    {
-        match self {
-            Answer::Good(_) => Refusal::NONE,
-            Answer::Refused(refusal) => refusal,
-        }
-    }
 }
 
 impl Txxx {
@@ -70,13 +43,10 @@ impl Txxx {
 // `TXXX`.
 pub const LETTERS: u64 = 0x5458_5858;
 
-pub fn read(s: &[u8]) -> Answer
+pub fn read(s: &[u8]) -> Result<Txxx, Refusal>
     ensures { Reads s.now result }
 {
-    let code = frame::first(s, LETTERS, Txxx::LEAST, Txxx::GREATEST);
-    if code != 0 {
-        return Answer::Refused(Refusal::bare(code));
-    }
+    frame::first(s, LETTERS, Txxx::LEAST, Txxx::GREATEST)?;
     fields(change::sealing::inner(s))
 }
 
@@ -84,28 +54,22 @@ pub fn read(s: &[u8]) -> Answer
 pub fn content(frame: &[u8]) -> &[u8]
     ensures { Shows frame.now result.now }
 {
-    let refusal = read(frame).refusal();
-    if refusal.code != 0 {
-        return &frame[..0];
-    }
-    let end = frame.len() - Txxx::TAIL;
-    &frame[Txxx::CONTENT..end]
+    frame::content(frame, read(frame).is_ok(), Txxx::CONTENT, Txxx::TAIL)
 }
 
 // The fields in bit order. A refused frame is walked once more for its bit, so that a good one carries none.
-pub fn fields(s: &[u8]) -> Answer
-    ensures { result ≡ answer_of (also record_of (Fmt·read txxx [] 0 (bits_of s.now))) }
+pub fn fields(s: &[u8]) -> Result<Txxx, Refusal>
+    ensures { out_of result ≡ plain (also (λ r. r.0) (also record_of (Fmt·read txxx [] 0 (bits_of s.now)))) }
 {
     let answer = walked(s);
-    let refusal = answer.refusal();
-    if refusal.code != 0 {
+    if answer.is_err() {
         return walked(s);
     }
     answer
 }
 
-fn walked(s: &[u8]) -> Answer
-    ensures { result ≡ answer_of (also record_of (Fmt·read txxx [] 0 (bits_of s.now))) }
+fn walked(s: &[u8]) -> Result<Txxx, Refusal>
+    ensures { out_of result ≡ plain (also (λ r. r.0) (also record_of (Fmt·read txxx [] 0 (bits_of s.now)))) }
 {
     let w = frame::head(s, LETTERS, 0, frame::LONGEST);
     let address = w.v as u32;
@@ -117,14 +81,15 @@ fn walked(s: &[u8]) -> Answer
     let hour = w.v as u8;
     let w = w.num(s, 8, 0, frame::MINUTE);
     let minute = w.v as u8;
-    let fault = limit(bits::get(s, 40, 16), bits::get(s, 128, 16));
-    let w = w.given(s, 16, fault);
+    let judged = limit(bits::get(s, 40, 16), bits::get(s, 128, 16));
+    let w = w.given(s, 16, judged);
     let size = w.v as u16;
     let w = w.content(s, size as u32).fill(s, frame::unused_bits(size));
     let w = w.num(s, 8, 0, 255);
     let mark = w.v as u8;
     let w = w.end(s);
-    let r = Txxx {
+    w.passed()?;
+    Ok(Txxx {
         address,
         class,
         sender,
@@ -132,16 +97,15 @@ fn walked(s: &[u8]) -> Answer
         minute,
         size,
         mark,
-    };
-    Answer::told(w.refusal(), r)
+    })
 }
 
 // What is wrong with a bit length: the limit (4), then the content's size (1).
-pub fn limit(length: u64, size: u64) -> u8
-    ensures { result ≡ bounded length size }
+pub fn limit(length: u64, size: u64) -> Result<(), Reason>
+    ensures { code_of result ≡ bounded length size }
 {
     if size > 1_680 {
-        return format::RANGE;
+        return Err(Reason::Range);
     }
     frame::sized(Txxx::BARE, length, size)
 }

@@ -1,5 +1,6 @@
 // The frame TXXX (paper 01, "Serial frames"): content from a sender, with the time.
 ghost use Rattle.format.specs.Promises.{Writes};
+ghost use Rattle.format.specs.Refusals.{told_of};
 ghost use Rattle.txxx.specs.Txxx.{txxxs, values_of};
 
 use crate::reading::{Txxx, content};
@@ -8,16 +9,13 @@ use format::Refusal;
 mod making;
 
 // Writes the frame into the front of a lent buffer: record and content are judged, then room (6); the bytes past the frame stay.
-pub fn write(buf: &mut [u8], r: Txxx, content: &[u8]) -> Refusal
-    ensures { Writes txxxs buf.old result buf.new (values_of (r, content.now)) }
+pub fn write(buf: &mut [u8], r: Txxx, content: &[u8]) -> Result<(), Refusal>
+    ensures { Writes txxxs buf.old (told_of result) buf.new (values_of (r, content.now)) }
 {
     let w = making::judged(r, content);
     let n = w.bytes(false);
-    let refusal = w.closes(true, Txxx::LEAST, Txxx::GREATEST, buf.len());
-    if refusal.code != 0 {
-        return refusal;
-    }
+    w.closes(true, Txxx::LEAST, Txxx::GREATEST, buf.len())?;
     making::put(buf, r, content);
     change::sealing::stamp(buf, n);
-    Refusal::NONE
+    Ok(())
 }

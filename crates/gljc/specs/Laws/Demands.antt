@@ -8,8 +8,8 @@ use Rattle.format.specs.Fmt.{accepted, read}
 use Rattle.format.specs.Settled.{Settled}
 use Rattle.format.specs.Refusals.{bare}
 use Rattle.format.specs.Refusals.{Verdict}
-use Rattle.format.specs.Promises.{read_record, Writes, Corrects}
-use Rattle.format.specs.Laws.Answers.{good_read, answer_plain}
+use Rattle.format.specs.Promises.{read_record, out_of, plain, Writes, Corrects}
+use Rattle.format.specs.Laws.Answers.{plain_good}
 use Rattle.format.specs.Laws.Entries.{entries, legal_entries}
 use Rattle.format.proofs.Laws.Extent.{extent_laid}
 use Rattle.format.specs.Laws.Family.{Family}
@@ -20,12 +20,12 @@ use Rattle.format.proofs.Laws.Round.{read_write}
 use Rattle.format.proofs.Laws.Settled.{settled}
 use Rattle.format.specs.Laws.Zero.{Judged, only_numbered}
 use Rattle.gljc.specs.Changed.{spot_of, changed}
-use Rattle.gljc.specs.Gljc.{letters, body, gljc, gljcs, values_of, record_of, answer_of, out_of}
+use Rattle.gljc.specs.Gljc.{letters, body, gljc, gljcs, values_of, record_of}
 use Rattle.gljc.specs.Promises.{Reads}
 use Rattle.gljc.specs.Laws.Correction.{spotted, changed_values}
 use Rattle.gljc.specs.declared.reading.Gljc.{Gljc}
-use Rattle.gljc.specs.declared.reading.Answer.{Answer}
-use Rattle.gljc.specs.declared.reading.Answer.TheVariants.{Good, Refused}
+use Rattle.format.specs.declared.Refusal.{Refusal}
+use Rattle.std.specs.Prelude.{Result, Ok}
 
 -- accepted values are those of their record: `$`, letters and length are as they must be
 same_values : (vs : List ℕ) → Legal gljc [] vs → values_of (record_of vs) ≡ vs
@@ -66,19 +66,19 @@ family = record {
 -- ---- said of the frame's promises
 
 -- an answer that is good is an accepted reading
-pub good : (s : List ℕ) (r : Gljc) → Reads s (Good r) → read_record gljcs record_of s ≡ accepted r
-good s r = good_read Good Refused out_of (λ q. refl) (λ c. refl) (read_record gljcs record_of s)
+pub good : (s : List ℕ) (r : Gljc) → Reads s (Ok r) → read_record gljcs record_of s ≡ accepted r
+good s r e = plain_good (read_record gljcs record_of s) (sym e)
 
 -- What is written is read back as the same record.
-pub written_reads : (s : List ℕ) (r : Gljc) (t : List ℕ) → Writes gljcs s (bare 0) t (values_of r) → Reads (take 12 t) (Good r)
+pub written_reads : (s : List ℕ) (r : Gljc) (t : List ℕ) → Writes gljcs s (bare 0) t (values_of r) → Reads (take 12 t) (Ok r)
 unfolding gljcs
-written_reads s r t w = sym (ap answer_of (written_front family s r t 12 tt w (one_size gljcs 12 refl refl (values_of r))))
+written_reads s r t w = sym (ap plain (written_front family s r t 12 tt w (one_size gljcs 12 refl refl (values_of r))))
 
 -- What is read is written back as the same bytes.
-pub read_writes_back : (s : List ℕ) (r : Gljc) → Bytes s → Reads s (Good r) → (u : List ℕ) (code : Verdict) (t : List ℕ) → length s ≤ length u → Writes gljcs u code t (values_of r)
+pub read_writes_back : (s : List ℕ) (r : Gljc) → Bytes s → Reads s (Ok r) → (u : List ℕ) (code : Verdict) (t : List ℕ) → length s ≤ length u → Writes gljcs u code t (values_of r)
     → (code ≡ bare 0) × (t ≡ s ++ drop (length s) u)
 read_writes_back s r fine a = read_written family s r fine (good s r a)
 
 -- Demand 3: every correction of a frame GLJC, by any number and any value.
-pub corrected : (s : List ℕ) (a : Answer) → Bytes s → Reads s a → (i v : ℕ) (code : Verdict) (t : List ℕ) → Corrects gljcs s i v code t → Settled gljcs (λ r. spot_of) values_of changed s (out_of a) i v code t
-corrected s a fine reads i v code t c = settled family (λ r. spot_of) spotted s fine i v code t c (out_of a) (answer_plain Good Refused out_of (λ q. refl) (λ c. refl) (read_record gljcs record_of s) reads)
+pub corrected : (s : List ℕ) (a : Result Gljc Refusal) → Bytes s → Reads s a → (i v : ℕ) (code : Verdict) (t : List ℕ) → Corrects gljcs s i v code t → Settled gljcs (λ r. spot_of) values_of changed s (out_of a) i v code t
+corrected s a fine reads i v code t c = settled family (λ r. spot_of) spotted s fine i v code t c (out_of a) reads

@@ -11,13 +11,13 @@ use Rattle.serial.proofs.refusal.Goals as goal
 
 pub returns-then-s-lt-LEAST : goal.returns-then-s-lt-LEAST
 unfolding refusal_of
-returns-then-s-lt-LEAST c = rw (lt-leb 12 (length c.args.s.now) c.if-s-lt-LEAST.true) refl
+returns-then-s-lt-LEAST c = c.into.ensures ∙ rw (lt-leb 12 (length c.args.s.now) c.if-s-lt-LEAST.true) refl
 
 pub returns-then-get-ne-DOLLAR : goal.returns-then-get-ne-DOLLAR
 unfolding refusal_of
 returns-then-get-ne-DOLLAR c =
     let s = c.args.s.now in
-    rw (le-leb 12 (length s) (omega arith), ne_eqb (field_at s 0 8) 0x24 (λ z. c.if-get-ne-DOLLAR.true (c.get.ensures ∙ got_fits s 0 8 (lit≤ tt) (omega arith) ∙ z))) refl
+    c.into-then-get-ne-DOLLAR.ensures ∙ rw (le-leb 12 (length s) (omega arith), ne_eqb (field_at s 0 8) 0x24 (λ z. c.if-get-ne-DOLLAR.true (c.get.ensures ∙ got_fits s 0 8 (lit≤ tt) (omega arith) ∙ z))) refl
 
 pub returns : goal.returns
 unfolding refusal_of

@@ -1,43 +1,42 @@
 -- `refusal_as` takes the reading that the letters name.
-use mathlib.Core.Path.{refl, ap, ◌∙◌}
-use borrow.Author.Tests.{eq-eqb, ne_eqb}
+use Rattle.std.proofs.Common.{refl, sym, ap, ◌∙◌, ne_eqb}
 use Rattle.format.specs.Message.{read_message}
-use Rattle.format.specs.Laws.Answers.{numbered}
-use Rattle.gljc.specs.Gljc.{gljcs, record_of as gljc_of, refusal_of as gljc_refusal, letters as GLJC}
-use Rattle.gljc.specs.declared.reading.Answer.TheVariants.{Good as gljc_good, Refused as gljc_bad}
-use Rattle.txsq.specs.Txsq.{txsqs, record_of as txsq_of, refusal_of as txsq_refusal, letters as TXSQ}
-use Rattle.txsq.specs.declared.reading.Answer.TheVariants.{Good as txsq_good, Refused as txsq_bad}
-use Rattle.txxx.specs.Txxx.{txxxs, record_of as txxx_of, refusal_of as txxx_refusal, letters as TXXX}
-use Rattle.txxx.specs.declared.reading.Answer.TheVariants.{Good as txxx_good, Refused as txxx_bad}
-use Rattle.txhz.specs.Txhz.{txhzs, record_of as txhz_of, refusal_of as txhz_refusal, letters as TXHZ}
-use Rattle.txhz.specs.declared.reading.Answer.TheVariants.{Good as txhz_good, Refused as txhz_bad}
+use Rattle.frame.specs.Laws.Alone.{alone, mapped_told, reading_told}
+use Rattle.gljc.specs.Gljc.{gljcs, record_of as gljc_of, letters as GLJC}
+use Rattle.txsq.specs.Txsq.{txsqs, record_of as txsq_of, letters as TXSQ}
+use Rattle.txxx.specs.Txxx.{txxxs, record_of as txxx_of, letters as TXXX}
+use Rattle.txhz.specs.Txhz.{txhzs, record_of as txhz_of, letters as TXHZ}
 use Rattle.serial.specs.Serial.{refusal_as}
 use Rattle.serial.proofs.refusal_as.Goals as goal
 
-pub returns-then-letters-eq-LETTERS : goal.returns-then-letters-eq-LETTERS
+pub returns-in-1196182083 : goal.returns-in-1196182083
 unfolding refusal_as
-returns-then-letters-eq-LETTERS c =
+returns-in-1196182083 c =
     let s = c.args.s.now in
-    rw (eq-eqb _ GLJC c.if-letters-eq-LETTERS.true) (c.refusal.ensures ∙ ap gljc_refusal c.read.ensures ∙ numbered gljc_good gljc_bad gljc_of gljc_refusal (λ r. refl) (λ c. refl) (read_message gljcs s))
+    mapped_told _ c.read.result c.map.result c.map.ensures.cases ∙ reading_told gljcs gljc_of s c.read.result c.read.ensures ∙ sym (ap (λ l. refusal_as l s) c.in-1196182083.is)
 
-pub returns-then-letters-eq-LETTERS-2 : goal.returns-then-letters-eq-LETTERS-2
+pub returns-in-1415074641 : goal.returns-in-1415074641
 unfolding refusal_as
-returns-then-letters-eq-LETTERS-2 c =
+returns-in-1415074641 c =
     let s = c.args.s.now in
-    rw (ne_eqb _ GLJC c.if-letters-eq-LETTERS.false, eq-eqb _ TXSQ c.if-letters-eq-LETTERS-2.true) (c.refusal-then-letters-eq-LETTERS-2.ensures ∙ ap txsq_refusal c.read-then-letters-eq-LETTERS-2.ensures ∙ numbered (λ r. txsq_good r.0) txsq_bad txsq_of txsq_refusal (λ r. refl) (λ c. refl) (read_message txsqs s))
+    mapped_told _ c.read-in-1415074641.result c.map-in-1415074641.result c.map-in-1415074641.ensures.cases
+    ∙ reading_told txsqs (λ vs. (txsq_of vs).0) s c.read-in-1415074641.result (c.read-in-1415074641.ensures ∙ sym (alone txsq_of (read_message txsqs s))) ∙ sym (ap (λ l. refusal_as l s) c.in-1415074641.is)
 
-pub returns-then-letters-eq-LETTERS-3 : goal.returns-then-letters-eq-LETTERS-3
+pub returns-in-1415075928 : goal.returns-in-1415075928
 unfolding refusal_as
-returns-then-letters-eq-LETTERS-3 c =
+returns-in-1415075928 c =
     let s = c.args.s.now in
-    rw (ne_eqb _ GLJC c.if-letters-eq-LETTERS.false, ne_eqb _ TXSQ c.if-letters-eq-LETTERS-2.false, eq-eqb _ TXXX c.if-letters-eq-LETTERS-3.true) (c.refusal-then-letters-eq-LETTERS-3.ensures ∙ ap txxx_refusal c.read-then-letters-eq-LETTERS-3.ensures ∙ numbered (λ r. txxx_good r.0) txxx_bad txxx_of txxx_refusal (λ r. refl) (λ c. refl) (read_message txxxs s))
+    mapped_told _ c.read-in-1415075928.result c.map-in-1415075928.result c.map-in-1415075928.ensures.cases
+    ∙ reading_told txxxs (λ vs. (txxx_of vs).0) s c.read-in-1415075928.result (c.read-in-1415075928.ensures ∙ sym (alone txxx_of (read_message txxxs s))) ∙ sym (ap (λ l. refusal_as l s) c.in-1415075928.is)
 
-pub returns-then-letters-eq-LETTERS-4 : goal.returns-then-letters-eq-LETTERS-4
+pub returns-in-1415071834 : goal.returns-in-1415071834
 unfolding refusal_as
-returns-then-letters-eq-LETTERS-4 c =
+returns-in-1415071834 c =
     let s = c.args.s.now in
-    rw (ne_eqb _ GLJC c.if-letters-eq-LETTERS.false, ne_eqb _ TXSQ c.if-letters-eq-LETTERS-2.false, ne_eqb _ TXXX c.if-letters-eq-LETTERS-3.false, eq-eqb _ TXHZ c.if-letters-eq-LETTERS-4.true) (c.refusal-then-letters-eq-LETTERS-4.ensures ∙ ap txhz_refusal c.read-then-letters-eq-LETTERS-4.ensures ∙ numbered txhz_good txhz_bad txhz_of txhz_refusal (λ r. refl) (λ c. refl) (read_message txhzs s))
+    mapped_told _ c.read-in-1415071834.result c.map-in-1415071834.result c.map-in-1415071834.ensures.cases ∙ reading_told txhzs txhz_of s c.read-in-1415071834.result c.read-in-1415071834.ensures ∙ sym (ap (λ l. refusal_as l s) c.in-1415071834.is)
 
-pub returns : goal.returns
+pub returns-in_default : goal.returns-in_default
 unfolding refusal_as
-returns c = rw (ne_eqb _ GLJC c.if-letters-eq-LETTERS.false, ne_eqb _ TXSQ c.if-letters-eq-LETTERS-2.false, ne_eqb _ TXXX c.if-letters-eq-LETTERS-3.false, ne_eqb _ TXHZ c.if-letters-eq-LETTERS-4.false) refl
+returns-in_default c =
+    let other = c.in_default.in_default-own.rest in
+    c.into.ensures ∙ sym (rw (ne_eqb _ GLJC other.0.0.0.1, ne_eqb _ TXSQ other.0.0.1, ne_eqb _ TXXX other.0.1, ne_eqb _ TXHZ other.1) refl)

@@ -3,12 +3,13 @@ use Rattle.std.specs.Prelude.{◌≡◌, refl, Bool, true, false, cond, List, []
 use Rattle.std.proofs.Common.{sym, ap, ◌∙◌, add-zero, arith, le-ltb, get_or-drop}
 use Rattle.format.specs.Correcting.{standing}
 use Rattle.format.specs.Fmt.{accepted, Spot, none, found, later, where?, spot}
-use Rattle.format.specs.Promises.{read_record}
+use Rattle.format.specs.Promises.{read_record, out_of, plain}
 use Rattle.format.specs.Laws.Spots.{spots_along, spot_along, each_at, set_each, kept_entry}
 use Rattle.txhz.specs.Changed.{receipt_spots, spots, spot_of, changed_receipt, changed}
 use Rattle.txhz.specs.Promises.{Reads}
-use Rattle.txhz.specs.Txhz.{letters, times, txhz, txhzs, values_of, record_of, answer_of, count_of}
-use Rattle.txhz.specs.declared.reading.Answer.{Answer}
+use Rattle.txhz.specs.Txhz.{letters, times, txhz, txhzs, values_of, record_of, count_of}
+use Rattle.format.specs.declared.Refusal.{Refusal}
+use Rattle.std.specs.Prelude.{Result}
 use Rattle.txhz.specs.declared.reading.Receipt.{Receipt}
 use Rattle.txhz.specs.declared.reading.Txhz.{Txhz}
 
@@ -31,10 +32,10 @@ pub spotted : (r : Txhz) (i : ℕ) → spot txhzs.fmt [] (values_of r) i ≡ spo
 spotted r i = spot_along txhzs.fmt (values_of r) i ∙ ap (λ t. get_or t i none) (along r)
 
 -- the field i, found at p with w bits by as many receipts as the answer of reading s counts
-pub looked_stands : (s : List ℕ) (i p w : ℕ) {was : Answer} {n : ℕ} → Reads s was → n ≡ count_of was → get_or (spots n) i none ≡ standing p w
+pub looked_stands : (s : List ℕ) (i p w : ℕ) (was : Result Txhz Refusal) {n : ℕ} → Reads s was → n ≡ count_of (out_of was) → get_or (spots n) i none ≡ standing p w
     → (r : Txhz) → read_record txhzs record_of s ≡ accepted r → spot txhzs.fmt [] (values_of r) i ≡ standing p w
-looked_stands s i p w reads counts there r e =
-    let same = counts ∙ ap count_of reads ∙ ap (λ o. count_of (answer_of o)) e in
+looked_stands s i p w was reads counts there r e =
+    let same = counts ∙ ap count_of reads ∙ ap (λ o. count_of (plain o)) e in
     spotted r i ∙ ap (λ n. get_or (spots n) i none) (sym same) ∙ there
 
 -- ---- what the code finds: in front of the receipts by name, and a byte of a receipt by a rule

@@ -17,9 +17,8 @@ use Rattle.walk.specs.Laws.Step.{Reading, step, tested}
 use Rattle.format.specs.Laws.Tells.{Tells, only_tells, cond_tells}
 use Rattle.format.specs.Laws.Zero.{Judged, Numbered, only_numbered}
 use Rattle.walk.specs.Walk.{Walk}
-use Rattle.txhz.specs.Steps.{slot_read_of, receipt_read, slot_judged, receipt_judged, receipt_put}
+use Rattle.txhz.specs.Steps.{Passed, slot_read_of, receipt_read, slot_judged, receipt_judged, receipt_put}
 use Rattle.txhz.specs.Txhz.{counted, slot, receipt, times}
-use Rattle.txhz.specs.declared.reading.Passed.{Passed}
 use Rattle.txhz.specs.declared.reading.Receipt.{Receipt}
 
 -- a byte's fault, by whether its receipt is counted

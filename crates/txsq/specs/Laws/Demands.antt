@@ -4,6 +4,7 @@ use Rattle.std.proofs.Common.{sym, ap, ◌∙◌, subst, arith, lit<, eqb-true, 
 use Rattle.bits.specs.Bits.{Bytes, digits, bits_of}
 use Rattle.frame.specs.Frame.{bytes_for, content_of}
 use Rattle.frame.specs.Laws.Content.{fits_content, declared_fits, content_again, content_first, content_fill, content_long, content_bytes}
+use Rattle.frame.specs.Laws.Alone.{answered_alone}
 use Rattle.frame.specs.Laws.Head.{head_numbered}
 use Rattle.frame.specs.Laws.Sound.{frame_sound}
 use Rattle.format.specs.Fmt.{accepted, also, good as Fmt·good, pad, read}
@@ -22,15 +23,15 @@ use Rattle.format.specs.Laws.Zero.{Judged, only_numbered, twice_numbered}
 use Rattle.format.specs.Settled.{Settled}
 use Rattle.format.specs.Refusals.{bare}
 use Rattle.format.specs.Refusals.{Verdict}
-use Rattle.format.specs.Promises.{answered, read_record, Writes, Corrects}
+use Rattle.format.specs.Promises.{answered, read_record, refused_by, out_of, plain, Writes, Corrects}
 use Rattle.format.specs.Message.{write_message}
 use Rattle.format.proofs.Laws.Whole.{was, write_read_message}
 use Rattle.bits.specs.Laws.Bytes.{length_bits}
-use Rattle.txsq.specs.declared.reading.Answer.{Answer}
-use Rattle.txsq.specs.declared.reading.Answer.TheVariants.{Good, Refused}
+use Rattle.format.specs.declared.Refusal.{Refusal}
+use Rattle.std.specs.Prelude.{Result, Ok}
 use Rattle.txsq.specs.Promises.{Reads, Shows}
 use Rattle.txsq.specs.Changed.{changed, spot_of}
-use Rattle.txsq.specs.Txsq.{letters, rest, body, allowed, limits, filling, txsq, txsqs, values_of, record_of, answer_of, out_of}
+use Rattle.txsq.specs.Txsq.{letters, rest, body, allowed, limits, filling, txsq, txsqs, values_of, record_of}
 use Rattle.txsq.specs.Laws.Correction.{spotted, changed_values}
 use Rattle.txsq.specs.declared.reading.Txsq.{Txsq}
 
@@ -127,8 +128,8 @@ family = record {
 -- ---- said of the frame's promises
 
 -- an answer that is good, with the content that is shown, is an accepted reading
-pub good : (s : List ℕ) (r : Txsq) (c : List ℕ) → Reads s (Good r) → Shows s c → read_record txsqs record_of s ≡ accepted (r, c)
-good s r c = good_shown Good Refused out_of (λ q. refl) (λ c. refl) (read_record txsqs record_of s)
+pub good : (s : List ℕ) (r : Txsq) (c : List ℕ) → Reads s (Ok r) → Shows s c → read_record txsqs record_of s ≡ accepted (r, c)
+good s r c e = let o = read_record txsqs record_of s in good_shown accepted refused_by (λ a. a) (λ q. refl) (λ c. refl) o (e ∙ answered_alone o)
 
 -- a frame that is written has 18 bytes besides its content
 written_long : (r : Txsq × List ℕ) (m : List ℕ) → write_message txsqs (values_of r) ≡ accepted m → length m ≡ 18 + length r.1
@@ -142,18 +143,19 @@ written_long r m e =
     omega (arith, (long b vs walked).0, fit vs h, content_size r h, n)
 
 -- What is written is read back as the same record, and the same content is shown.
-pub written_reads : (s : List ℕ) (r : Txsq) (c t : List ℕ) → Bytes c → Writes txsqs s (bare 0) t (values_of (r, c)) → let m = take (18 + length c) t in Reads m (Good r) × Shows m c
+pub written_reads : (s : List ℕ) (r : Txsq) (c t : List ℕ) → Bytes c → Writes txsqs s (bare 0) t (values_of (r, c)) → let m = take (18 + length c) t in Reads m (Ok r) × Shows m c
 written_reads s r c t fine w =
     let e = written_front family s (r, c) t (18 + length c) fine w (written_long (r, c)) in
-    (sym (ap answer_of e), sym (ap (answered (λ r. r.1) (λ n. [])) e))
+    (sym (ap (λ o. plain (also (λ r. r.0) o)) e), sym (ap (answered (λ r. r.1) (λ n. [])) e))
 
 -- What is read and shown is written back as the same bytes.
-pub read_writes_back : (s : List ℕ) (r : Txsq) (c : List ℕ) → Bytes s → Reads s (Good r) → Shows s c → (u : List ℕ) (code : Verdict) (t : List ℕ) → length s ≤ length u → Writes txsqs u code t (values_of (r, c))
+pub read_writes_back : (s : List ℕ) (r : Txsq) (c : List ℕ) → Bytes s → Reads s (Ok r) → Shows s c → (u : List ℕ) (code : Verdict) (t : List ℕ) → length s ≤ length u → Writes txsqs u code t (values_of (r, c))
     → (code ≡ bare 0) × (t ≡ s ++ drop (length s) u)
 read_writes_back s r c fine a b = read_written family s (r, c) fine (good s r c a b)
 
 -- Demand 3: every correction of a frame TXSQ, by any number and any value; the content c that it shows stays.
-pub corrected : (s : List ℕ) (a : Answer) (c : List ℕ) → Bytes s → Reads s a → Shows s c → (i v : ℕ) (code : Verdict) (t : List ℕ) → Corrects txsqs s i v code t
+pub corrected : (s : List ℕ) (a : Result Txsq Refusal) (c : List ℕ) → Bytes s → Reads s a → Shows s c → (i v : ℕ) (code : Verdict) (t : List ℕ) → Corrects txsqs s i v code t
     → Settled txsqs (λ r. spot_of) values_of changed s (also (λ r. (r, c)) (out_of a)) i v code t
 corrected s a c fine reads shows i v code t x =
-    settled family (λ r. spot_of) spotted s fine i v code t x (also (λ r. (r, c)) (out_of a)) (shown_plain Good Refused out_of (λ q. refl) (λ c. refl) (read_record txsqs record_of s) reads shows)
+    let o = read_record txsqs record_of s in
+    settled family (λ r. spot_of) spotted s fine i v code t x (also (λ r. (r, c)) (out_of a)) (shown_plain accepted refused_by (λ a. a) (λ q. refl) (λ c. refl) o (reads ∙ answered_alone o) shows)

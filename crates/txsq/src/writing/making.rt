@@ -2,13 +2,15 @@
 ghost use Rattle.std.specs.Prelude.{[]};
 ghost use Rattle.format.specs.Fmt.{write};
 ghost use Rattle.walk.specs.Laws.Judging.{Judged};
+ghost use Rattle.walk.specs.Walk.{seen};
 ghost use Rattle.format.specs.Laws.Putting.{Puts};
 ghost use Rattle.txsq.specs.Txsq.{txsq, values_of};
 
 use crate::reading::{CLASS, LETTERS, Txsq, allowed, limit};
+use walk::walk::Walk;
 
-pub(crate) fn judged(r: Txsq, content: &[u8]) -> walk::walk::Walk
-    ensures { Judged (write txsq [] 0 (values_of (r, content.now))) result }
+pub(crate) fn judged(r: Txsq, content: &[u8]) -> Walk
+    ensures { Judged (write txsq [] 0 (values_of (r, content.now))) (seen result) }
 {
     let length = frame::declared(Txsq::BARE, content.len());
     let size = r.size as u64;
@@ -18,7 +20,7 @@ pub(crate) fn judged(r: Txsq, content: &[u8]) -> walk::walk::Walk
     let w = w.value(1, r.mode as u64, 0, 1);
     let w = w.value(1, r.password as u64, 0, allowed(r.category, 1));
     let w = w.value(24, r.receiver as u64, 0, frame::ADDRESS);
-    if w.code != 0 {
+    if w.verdict.is_err() {
         return w;
     }
     let w = w.on(
@@ -28,11 +30,11 @@ pub(crate) fn judged(r: Txsq, content: &[u8]) -> walk::walk::Walk
         limit(r.category, r.mode, r.password, length, size),
         0,
     );
-    if w.code != 0 {
+    if w.verdict.is_err() {
         return w;
     }
     let w = w.value(8, r.answer as u64, 0, allowed(r.password, 255));
-    let w = w.wide(r.size as usize, 0);
+    let w = w.wide(r.size as usize, Ok(()));
     let spare = frame::unused_bits(r.size);
     w.fill_value(spare, bits::get(content, r.size as usize, spare))
 }

@@ -2,13 +2,15 @@
 ghost use Rattle.std.specs.Prelude.{[]};
 ghost use Rattle.format.specs.Fmt.{write};
 ghost use Rattle.walk.specs.Laws.Judging.{Judged};
+ghost use Rattle.walk.specs.Walk.{seen};
 ghost use Rattle.format.specs.Laws.Putting.{Puts};
 ghost use Rattle.txxx.specs.Txxx.{txxx, values_of};
 
 use crate::reading::{LETTERS, Txxx, limit};
+use walk::walk::Walk;
 
-pub(crate) fn judged(r: Txxx, content: &[u8]) -> walk::walk::Walk
-    ensures { Judged (write txxx [] 0 (values_of (r, content.now))) result }
+pub(crate) fn judged(r: Txxx, content: &[u8]) -> Walk
+    ensures { Judged (write txxx [] 0 (values_of (r, content.now))) (seen result) }
 {
     let length = frame::declared(Txxx::BARE, content.len());
     let size = r.size as u64;
@@ -17,14 +19,14 @@ pub(crate) fn judged(r: Txxx, content: &[u8]) -> walk::walk::Walk
     let w = w.value(24, r.sender as u64, 0, frame::ADDRESS);
     let w = w.value(8, r.hour as u64, 0, frame::HOUR);
     let w = w.value(8, r.minute as u64, 0, frame::MINUTE);
-    if w.code != 0 {
+    if w.verdict.is_err() {
         return w;
     }
     let w = w.on(16, false, size, limit(length, size), 0);
-    if w.code != 0 {
+    if w.verdict.is_err() {
         return w;
     }
-    let w = w.wide(r.size as usize, 0);
+    let w = w.wide(r.size as usize, Ok(()));
     let spare = frame::unused_bits(r.size);
     let w = w.fill_value(spare, bits::get(content, r.size as usize, spare));
     w.value(8, r.mark as u64, 0, 255)

@@ -1,25 +1,26 @@
 -- `correct` is the correction in place of every family, with the frame's fields read before and behind the change and where `stands` found the field.
-use mathlib.Core.Path.{refl, ◌∙◌}
-use Rattle.format.specs.Laws.Corrections.{family_refused}
-use Rattle.format.proofs.Laws.Corrections.{family_sized}
-use Rattle.gljc.specs.Gljc.{gljcs, record_of, refusal_of}
+use Rattle.std.proofs.Common.{sym, ap, ◌∙◌}
+use Rattle.format.specs.Fmt.{also}
+use Rattle.format.specs.Message.{fields_of}
+use Rattle.format.specs.Promises.{plain}
+use Rattle.format.proofs.Laws.Corrections.{family_exit, family_in_place, fields_told}
+use Rattle.gljc.specs.Gljc.{gljc, gljcs, record_of}
 use Rattle.gljc.specs.Laws.Correction.{spotted}
 use Rattle.gljc.specs.Laws.Demands.{family}
-use Rattle.gljc.specs.declared.reading.Answer.TheVariants.{Good, Refused}
 use Rattle.gljc.proofs.correcting.correct.Goals as goal
 
 -- the frame was refused
-pub returns-then-own-ne0 : goal.returns-then-own-ne0
+pub returns-in_err-read : goal.returns-in_err-read
 unfolding gljcs
-returns-then-own-ne0 c =
+returns-in_err-read c =
     let a = c.args in
-    family_refused gljcs record_of Good Refused refusal_of (λ r. refl) (λ c. refl) a.buf.now a.field a.value c.read-was.ensures c.refusal-own.ensures c.if-own-ne0.true
+    family_exit gljcs record_of a.buf.now a.field a.value c.from_residual.result _ c.from_residual.ensures.1 c.in_err-read.ensures
 
 pub returns : goal.returns
 unfolding gljcs
 returns c =
     let a = c.args in
     let (there, slim) = c.stands-spot.ensures in
-    family_sized family Good Refused refusal_of (λ r. refl) (λ c. refl) a.buf.now a.field a.value _ _ c.read-was.ensures c.refusal-own.ensures
+    family_in_place family a.buf.now (λ i. (c.slice_known-1.given i).fits) a.field a.value _ _ _ c.in_ok-read.ensures
     (λ r e. spotted r a.field ∙ there) slim
-    (λ i. (c.slice_known-1.given i).fits) c.begin-begun.ensures c.inner.ensures c.fields-again.ensures c.refusal.ensures c.finish_sealed.ensures
+    (λ t d least most z. fields_told gljcs record_of t d least most (z.1 ∙ ap (λ b. plain (also record_of (fields_of gljc 11 11 b))) z.2)) c.in_place.ensures

@@ -1,27 +1,33 @@
 -- `correct` is the correction in place of every family, with the frame's fields read before and behind the change and where `stands` found the field, the mark by the size.
-use mathlib.Core.Path.{refl, sym, ap, ◌∙◌}
-use Rattle.format.specs.Laws.Corrections.{family_refused}
-use Rattle.format.proofs.Laws.Corrections.{family_corrected}
+use Rattle.std.proofs.Common.{sym, ap, ◌∙◌, []}
+use Rattle.bits.specs.Bits.{bits_of}
+use Rattle.frame.specs.Laws.Alone.{alone, beside}
+use Rattle.format.specs.Fmt.{also, read}
+use Rattle.format.specs.Message.{body, read_message}
+use Rattle.format.specs.Promises.{plain, read_record}
+use Rattle.format.proofs.Laws.Corrections.{family_exit, family_in_place, fields_told_at_once}
 use Rattle.txxx.specs.Changed.{spot_by}
-use Rattle.txxx.specs.Txxx.{txxxs, record_of, refusal_of}
+use Rattle.txxx.specs.Txxx.{txxx, txxxs, record_of}
 use Rattle.txxx.specs.Laws.Correction.{spotted}
 use Rattle.txxx.specs.Laws.Demands.{family}
 use Rattle.txxx.specs.Laws.Shown.{mark_stands}
-use Rattle.txxx.specs.declared.reading.Answer.TheVariants.{Good, Refused}
 use Rattle.txxx.proofs.correcting.correct.Goals as goal
 
--- the message was refused
-pub returns-then-own-ne0 : goal.returns-then-own-ne0
+-- the frame was refused
+pub returns-in_err-read : goal.returns-in_err-read
 unfolding txxxs
-returns-then-own-ne0 c =
+returns-in_err-read c =
     let a = c.args in
-    family_refused txxxs record_of (λ r. Good r.0) Refused refusal_of (λ r. refl) (λ c. refl) a.buf.now _ a.value c.read-was.ensures c.refusal-own.ensures c.if-own-ne0.true
+    family_exit txxxs (λ vs. (record_of vs).0) a.buf.now a.field a.value c.from_residual.result _ c.from_residual.ensures.1 (c.in_err-read.ensures ∙ sym (alone record_of (read_message txxxs a.buf.now)))
 
 pub returns : goal.returns
 unfolding txxxs
 returns c =
     let a = c.args in
     let (there, slim) = c.stands-spot.ensures in
-    family_corrected family (λ r. Good r.0) Refused refusal_of (λ r. refl) (λ c. refl) a.buf.now a.field a.value _ _ c.read-was.ensures c.refusal-own.ensures
+    let (x, good) = beside (read_record txxxs record_of a.buf.now) _ c.in_ok-read.ensures in
+    family_in_place family a.buf.now (λ i. (c.slice_known-1.given i).fits) a.field a.value _ _ _ good
     (λ r e. spotted r a.field ∙ ap (λ m. spot_by m a.field) (sym (c.mark.ensures ∙ mark_stands a.buf.now r e)) ∙ there) slim
-    (λ i. (c.slice_known-1.given i).fits) c.begin-begun.ensures c.inner.ensures c.fields-again.ensures c.refusal.ensures c.finish_sealed.ensures
+    (λ t d least most z. fields_told_at_once txxxs (λ vs. (record_of vs).0) (body txxxs.seal t) d
+    (z.1 ∙ ap (λ b. plain (also (λ r. r.0) (also record_of (read txxx [] 0 (bits_of b))))) z.2 ∙ sym (alone record_of (read txxx [] 0 (bits_of (body txxxs.seal t))))))
+    c.in_place.ensures

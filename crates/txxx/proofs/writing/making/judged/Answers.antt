@@ -1,5 +1,5 @@
 -- `judged` walks the values in bit order: each step is a law of judging.
-use mathlib.Core.Path.{refl, ap, ap₂, ◌∙◌}
+use mathlib.Core.Path.{refl, sym, ap, ap₂, ◌∙◌}
 use mathlib.Core.Bool.{false}
 use mathlib.Core.List.{[], ◌∷◌}
 use Prim.Native.Nat.{◌<◌, ◌^◌}
@@ -11,6 +11,8 @@ use Rattle.bits.specs.Bits.{field_at}
 use Rattle.bits.specs.Laws.Fields.{field_lt}
 use Rattle.frame.specs.Frame.{declared}
 use Rattle.frame.specs.Steps.{head_judged}
+use Rattle.walk.specs.Walk.{seen}
+use Rattle.frame.specs.Laws.Alone.{refused_told}
 use Rattle.frame.specs.Laws.Content.{declared_small, got_fill}
 use Rattle.frame.specs.Laws.Head.{head_judged_lem}
 use Rattle.format.specs.Fmt.{choice, pad, write}
@@ -28,7 +30,7 @@ timed : (c : After-value-w-4) → let a = c.args in
     let r = a.r in
     let b = a.content.now in
     Judging (write txxx [] 0 (values_of (r, b))) (choice 16 (twice 16 4 limits 1 filling) rest) (r.minute ∷ r.hour ∷ r.sender ∷ r.class ∷ r.address ∷ declared 20 (length_of_lem b) ∷ letters ∷ 0x24 ∷ []) 128
-    (r.size ∷ field_at b 0 r.size ∷ field_at b r.size (pad r.size) ∷ r.mark ∷ []) c.value-w-4.result
+    (r.size ∷ field_at b 0 r.size ∷ field_at b r.size (pad r.size) ∷ r.mark ∷ []) (seen c.value-w-4.result)
 unfolding txxx values_of
 timed minute =
     let a = minute.args in
@@ -49,19 +51,19 @@ sized : (c : After-on-w) → let a = c.args in
     let r = a.r in
     let b = a.content.now in
     Judging (write txxx [] 0 (values_of (r, b))) (rest r.size) (r.size ∷ r.minute ∷ r.hour ∷ r.sender ∷ r.class ∷ r.address ∷ declared 20 (length_of_lem b) ∷ letters ∷ 0x24 ∷ []) 144
-    (field_at b 0 r.size ∷ field_at b r.size (pad r.size) ∷ r.mark ∷ []) c.on-w.result
+    (field_at b 0 r.size ∷ field_at b r.size (pad r.size) ∷ r.mark ∷ []) (seen c.on-w.result)
 unfolding txxx values_of
 sized on =
     let minute = (goal.at.After-on-w on).After-value-w-4 in
     let r = on.args.r in
     let fault = on.limit.ensures ∙ ap (λ n. bounded n r.size) on.declared-length.ensures in
-    judge_tells 16 false r.size on.limit.result (lit< tt) (small minute) (twice_tells 16 3 0 limits filling _) fault opens_choice (timed minute) on.on-w.ensures
+    judge_tells 16 false r.size _ (lit< tt) (small minute) (twice_tells 16 3 0 limits filling _) fault opens_choice (timed minute) on.on-w.ensures
 
-pub returns-then-w-ne0 : goal.returns-then-w-ne0
-returns-then-w-ne0 c = judge_end (judge_refused [] 0 [] c.if-w-ne0.true (timed (goal.at.returns-then-w-ne0 c).After-value-w-4))
+pub returns-then-is_err : goal.returns-then-is_err
+returns-then-is_err c = judge_end (judge_refused [] 0 [] (refused_told _ (sym c.is_err.ensures.value ∙ c.if-is_err.true)) (timed (goal.at.returns-then-is_err c).After-value-w-4))
 
-pub returns-then-w-ne0-2 : goal.returns-then-w-ne0-2
-returns-then-w-ne0-2 c = judge_end (judge_refused [] 0 [] c.if-w-ne0-2.true (sized (goal.at.returns-then-w-ne0-2 c).After-on-w))
+pub returns-then-is_err-2 : goal.returns-then-is_err-2
+returns-then-is_err-2 c = judge_end (judge_refused [] 0 [] (refused_told _ (sym c.is_err-2.ensures.value ∙ c.if-is_err-2.true)) (sized (goal.at.returns-then-is_err-2 c).After-on-w))
 
 pub returns : goal.returns
 unfolding txxx values_of
@@ -75,5 +77,5 @@ returns c =
     let r6 = judge_tells l false 0 0 (omega (arith, few)) (field_lt b 0 l) (only_tells l 3 any _) refl opens_field (sized on) c.wide-w.ensures in
     let spelled = c.get.ensures ∙ ap (λ p. got_of b l p) c.unused_bits-spare.ensures ∙ got_fill b l in
     let r7 = judge_tells (pad l) false (field_at b l (pad l)) _ (omega (arith, few)) (field_lt b l (pad l)) (only_tells (pad l) 4 (0 ‥ 0) _) refl opens_field r6
-    (c.fill_value-w.ensures ∙ ap₂ (λ p v. filled p v c.wide-w.result) c.unused_bits-spare.ensures spelled) in
+    (c.fill_value-w.ensures ∙ ap₂ (λ p v. filled p v (seen c.wide-w.result)) c.unused_bits-spare.ensures spelled) in
     judge_end (judge_num 8 (omega (arith, few)) 0 255 (lit< tt) r7 c.value.ensures)
