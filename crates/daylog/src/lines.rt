@@ -20,9 +20,10 @@ pub fn line(
     ensures { Stores out.old at (placed out.old at (Text·line number word.now refusal bytes)) result out.new }
 {
     if line_fits(out.len(), at, number, word, refusal, bytes) {
-        return columns(out, at, number, word, refusal, bytes);
+        columns(out, at, number, word, refusal, bytes)
+    } else {
+        at
     }
-    at
 }
 
 // Whether the line has room at offset `at` of `len` bytes. Where the longest one with its word has, no digit is counted.
@@ -66,14 +67,11 @@ fn decimal(out: &mut [u8], at: usize, number: u64) -> usize
     ensures { Stores out.old at (Text·decimal number) result out.new }
 {
     let end = at + digit_count(number);
-    let mut last = end - 1;
     let mut rest = number;
-    while rest >= 10 {
-        out[last] = digit(rest);
+    for i in (at..end).rev() {
+        out[i] = digit(rest);
         rest /= 10;
-        last -= 1;
     }
-    out[last] = digit(rest);
     end
 }
 
@@ -81,13 +79,10 @@ fn decimal(out: &mut [u8], at: usize, number: u64) -> usize
 fn digit_count(number: u64) -> usize
     ensures { result ≡ length (Text·decimal number) }
 {
-    let mut count = 1;
-    let mut rest = number;
-    while rest >= 10 {
-        rest /= 10;
-        count += 1;
+    match number.checked_ilog10() {
+        Some(power) => power as usize + 1,
+        None => 1,
     }
-    count
 }
 
 // The last decimal digit.
@@ -102,34 +97,26 @@ pub fn text(out: &mut [u8], at: usize, bytes: &[u8]) -> usize
     ensures { Stores out.old at (placed out.old at bytes.now) result out.new }
 {
     if has_room(out.len(), at, bytes.len()) {
-        return put(out, at, bytes);
+        put(out, at, bytes)
+    } else {
+        at
     }
-    at
 }
 
 // Whether `n` bytes have room at offset `at` of `len` bytes.
 pub fn has_room(len: usize, at: usize, n: usize) -> bool
     ensures { result ≡ nat_le (at + n) len }
 {
-    if len < at {
-        return false;
-    }
-    if len - at < n {
-        return false;
-    }
-    true
+    at <= len && n <= len - at
 }
 
 fn put(out: &mut [u8], at: usize, bytes: &[u8]) -> usize
     requires { at + length bytes.now ≤ length out.old }
     ensures { Stores out.old at bytes.now result out.new }
 {
-    let mut i = 0;
-    while i < bytes.len() {
-        out[at + i] = bytes[i];
-        i += 1;
-    }
-    at + i
+    let end = at + bytes.len();
+    out[at..end].copy_from_slice(bytes);
+    end
 }
 
 fn mark(out: &mut [u8], at: usize, byte: u8) -> usize

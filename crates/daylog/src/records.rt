@@ -42,10 +42,7 @@ pub fn first(s: &[u8]) -> Next
 fn is_length(whole: usize) -> bool
     ensures { result ≡ between 4 256 whole }
 {
-    if whole < HEAD {
-        return false;
-    }
-    whole <= GREATEST
+    matches!(whole, HEAD..=GREATEST)
 }
 
 // Moves the bytes from `from` up to `to` to the front, and answers how many they are. An end before its start is 4, one past
@@ -65,17 +62,16 @@ pub fn keep(s: &mut [u8], from: usize, to: usize) -> Laid
             bytes: 0,
         };
     }
-    let mut i = 0;
-    while i < to - from {
-        s[i] = s[from + i];
-        i += 1;
+    s.copy_within(from..to, 0);
+    Laid {
+        code: 0,
+        bytes: to - from,
     }
-    Laid { code: 0, bytes: i }
 }
 
 // A 16-bit number, its low byte first.
 fn pair(low: u8, high: u8) -> u16
     ensures { result ≡ low + high * 256 }
 {
-    low as u16 + (high as u16) * 256
+    u16::from_le_bytes([low, high])
 }

@@ -1,62 +1,32 @@
 -- `decimal` stores the last digit first: the digits of what is left, stored before those that stand, give the whole.
-use Rattle.std.proofs.Common.{◌/◌, refl, ◌∙◌, arith, length-set}
-use Rattle.daylog.specs.Laws.Text.{digits_some, digits_more, decimal_turn, decimal_end}
+use Rattle.std.proofs.Common.{⊎_elim, ◌≡◌, ◌+◌, ◌-◌, ◌<◌, ◌≤◌, length, ◌/◌, refl, ◌∙◌, arith}
+use Rattle.std.proofs.lemmas.Bool.{cases_lt}
+use Rattle.daylog.specs.LinesText.{decimal}
+use Rattle.daylog.specs.Laws.Text.{digits_small, digits_some, digits_more, decimal_turn, decimal_end}
 use Rattle.daylog.proofs.lines.decimal.Goals as goal
 
-pub digit_count-requires : goal.digit_count-requires
-digit_count-requires c = tt
+pub loop-i-init : goal.loop-i-init
+loop-i-init c =
+    let some = digits_some c.args.number in
+    record { within = omega arith; ends = λ h. omega arith; more = λ h. refl; done = λ e. absurd (omega arith) }
 
-pub overflow_add-end : goal.overflow_add-end
-overflow_add-end c = omega arith
-
-pub overflow_sub-last : goal.overflow_sub-last
-overflow_sub-last c = omega (arith, digits_some c.args.number)
-
-pub loop-rest-init : goal.loop-rest-init
-loop-rest-init c =
-    let s = digits_some c.args.number in
-    (omega arith, omega arith, refl, refl)
-
-pub digit-requires : goal.digit-requires
-digit-requires c = tt
-
-pub bounds-out-last : goal.bounds-out-last
-bounds-out-last c = omega arith
-
-pub overflow_sub-last-in-loop-rest : goal.overflow_sub-last-in-loop-rest
-overflow_sub-last-in-loop-rest c =
-    let n = c.loop-rest.rest in
-    omega (arith, digits_more n (omega arith), digits_some (n / 10))
-
-pub loop-rest-smaller : goal.loop-rest-smaller
-loop-rest-smaller c = omega arith
-
-pub loop-rest-preserved : goal.loop-rest-preserved
-loop-rest-preserved c =
-    let n = c.loop-rest.rest in
-    let m = digits_more n (omega arith) in
-    let s = digits_some (n / 10) in (
-      omega arith,
-      simp length-set (omega arith),
-      simp length-set c.loop-rest.invariant.2,
-      decimal_turn c.loop-rest.out c.args.at c.loop-rest.last n c.digit.result c.digit.ensures c.loop-rest.invariant.0 (omega arith)
-          ∙ c.loop-rest.invariant.3,
-    )
-
-pub digit-requires-2 : goal.digit-requires-2
-digit-requires-2 c = tt
-
-pub bounds-out-last-2 : goal.bounds-out-last-2
-bounds-out-last-2 c = omega arith
-
-pub shape_of-out : goal.shape_of-out
-shape_of-out c = simp length-set c.loop-rest.invariant.2
+pub loop-i-preserved : goal.loop-i-preserved
+loop-i-preserved c =
+    let a = c.args in
+    let out = c.loop-i.out in
+    let i = c.loop-i.i - 1 in
+    let n = c.loop-i.rest in
+    let ends = c.loop-i.invariant.ends (omega arith) in
+    let more = c.loop-i.invariant.more (omega arith) in
+    let last : i + 1 ≡ a.at + length (decimal n) = omega arith in
+    let long : a.at < i → 10 ≤ n = λ h. ⊎_elim (λ (l : n < 10). absurd (omega (arith, digits_small n l))) (λ (l : 10 ≤ n). l) (cases_lt n 10) in
+    let short : i ≡ a.at → n < 10 = λ e. ⊎_elim (λ (l : n < 10). l) (λ (l : 10 ≤ n). absurd (omega (arith, digits_more n l, digits_some (n / 10)))) (cases_lt n 10) in
+    record {
+      within = omega arith;
+      ends = λ h. omega (arith, digits_more n (long h));
+      more = λ h. decimal_turn out a.at i n c.digit.result c.digit.ensures last (long h) ∙ more;
+      done = λ e. decimal_end out a.at i n c.digit.result c.digit.ensures last (short e) ∙ more;
+    }
 
 pub returns : goal.returns
-returns c =
-    record {
-      ends = omega arith;
-      leaves =
-          decimal_end c.loop-rest.out c.args.at c.loop-rest.last c.loop-rest.rest c.digit-2.result c.digit-2.ensures c.loop-rest.invariant.0 (omega arith)
-          ∙ c.loop-rest.invariant.3;
-    }
+returns c = record { ends = omega arith; leaves = c.loop-i.invariant.done (omega arith) }

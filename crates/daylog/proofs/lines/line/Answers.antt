@@ -18,6 +18,6 @@ returns-then-line_fits c = let h = (goal.at.returns-then-line_fits c).After-line
     let a = c.args in
     rw (placed_all a.out.now a.at (line a.number a.word.now a.refusal a.bytes) (room h c.if-line_fits.true)) c.columns.ensures
 
-pub returns : goal.returns
-returns c = let a = c.args in
+pub returns-else-line_fits : goal.returns-else-line_fits
+returns-else-line_fits c = let a = c.args in
     nowhere a.out.now a.at (line a.number a.word.now a.refusal a.bytes) (sym c.line_fits.ensures ∙ c.if-line_fits.false)

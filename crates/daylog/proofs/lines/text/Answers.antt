@@ -15,6 +15,6 @@ returns-then-has_room c = let h = (goal.at.returns-then-has_room c).After-has_ro
     let a = c.args in
     rw (placed_all a.out.now a.at a.bytes.now (room h c.if-has_room.true)) c.put.ensures
 
-pub returns : goal.returns
-returns c = let a = c.args in
+pub returns-else-has_room : goal.returns-else-has_room
+returns-else-has_room c = let a = c.args in
     nowhere a.out.now a.at a.bytes.now (sym c.has_room.ensures ∙ c.if-has_room.false)
