@@ -1,21 +1,21 @@
 -- The four ways in which a notice is read as numbers: another language, a row too short, a good notice, a refused one. Each is the definition's by the answer's case. And back: what such a reading was. Assumes nothing.
-use Rattle.std.specs.Prelude.{◌≡◌, refl, Bool, true, false, ◌&&◌, List, ◌++◌, ℕ, zero, suc, ◌≤◌, ◌<◌, leb, eqb, ℤ, length, drop}
+use Rattle.std.specs.Prelude.{◌≡◌, refl, Bool, true, false, ◌&&◌, List, ◌++◌, ℕ, zero, suc, ◌≤◌, ◌<◌, leb, eqb, ℤ, length, drop, Ok, Err}
 use Rattle.std.proofs.Common.{sym, ap, ◌∙◌, subst, arith, le-leb, leb-true, ne_eqb}
 use Rattle.std.proofs.lemmas.Bool.{lt-leb}
 use Rattle.format.specs.Fmt.{Out, accepted, refused, or_bad, check, also, after}
 use Rattle.format.specs.Message.{told, read_message, ahead}
-use Rattle.format.specs.Refusals.{shown, bare}
+use Rattle.format.specs.Refusals.{shown, bare, seen_refusal}
 use Rattle.format.specs.Refusals.{Verdict}
-use Rattle.format.specs.Promises.{read_record, answered}
+use Rattle.format.specs.Promises.{read_record, answered, plain, refused_by}
 use Rattle.format.proofs.Laws.Zero.{read_zero_message}
 use Rattle.c_rows.specs.Row.{Fills}
 use Rattle.c_rows.specs.Laws.Row.{row_full, one_filling}
 use Rattle.notice.specs.Notice.{ours, notices}
 use Rattle.notice.specs.Record.{Whole, record_of as whole_of}
-use Rattle.notice.specs.Promises.{housed, told_of, answer_of, Reads}
+use Rattle.notice.specs.Promises.{housed, told_of, Reads}
 use Rattle.notice.specs.Laws.Sound.{judged}
 use Rattle.notice.specs.declared.reading.Told.{Told}
-use Rattle.notice.specs.declared.reading.Answer.TheVariants.{Good, Refused}
+use Rattle.format.specs.declared.Refusal.{Refusal}
 use Rattle.c_rows.specs.Notice.{row_of, told_in_of, roomy, unroomed, Lent, NoticeFills}
 
 -- a refusal leaves the row, the areas and the text as they were
@@ -30,12 +30,12 @@ unfolding notices
 named english s p = read_zero_message (notices (ours english)) s p (judged (ours english))
 
 -- a good notice found room for its areas and its text
-pub good_rooms : (english : Bool) (s areas text : List ℕ) {r : Told} → Good r ≡ answer_of (housed (length areas) (length text) (read_record (notices (ours english)) whole_of s))
+pub good_rooms : (english : Bool) (s areas text : List ℕ) {r : Told} → accepted r ≡ plain (also told_of (housed (length areas) (length text) (read_record (notices (ours english)) whole_of s)))
     → (r.numbers ≤ length areas) × (r.text ≤ length text)
 good_rooms english s areas text {r} = go (read_record (notices (ours english)) whole_of s)
   where
     fits : (x : Whole) (m n : Bool) → leb (length x.1.0) (length areas) ≡ m → leb (length x.1.1) (length text) ≡ n
-        → Good r ≡ answer_of (check (or_bad (m && n) 6) 0 (accepted x)) → (r.numbers ≤ length areas) × (r.text ≤ length text)
+        → accepted r ≡ plain (also told_of (check (or_bad (m && n) 6) 0 (accepted x))) → (r.numbers ≤ length areas) × (r.text ≤ length text)
     fits x true true m n e =
         let is : r ≡ told_of x = cc in
         let a = leb-true (length x.1.0) (length areas) m in
@@ -44,7 +44,7 @@ good_rooms english s areas text {r} = go (read_record (notices (ours english)) w
     fits x true false m n e = let z : ◌≡◌ {A = ℕ} 0 1 = cc in absurd (omega arith)
     fits x false n m k e = let z : ◌≡◌ {A = ℕ} 0 1 = cc in absurd (omega arith)
 
-    go : (o : Out Whole) → Good r ≡ answer_of (housed (length areas) (length text) o) → (r.numbers ≤ length areas) × (r.text ≤ length text)
+    go : (o : Out Whole) → accepted r ≡ plain (also told_of (housed (length areas) (length text) o)) → (r.numbers ≤ length areas) × (r.text ≤ length text)
     go (accepted x) e = fits x (leb (length x.1.0) (length areas)) (leb (length x.1.1) (length text)) refl refl e
     go (refused c p) e = let z : ◌≡◌ {A = ℕ} 0 1 = cc in absurd (omega arith)
 
@@ -76,10 +76,10 @@ module _ (language : ℕ) (s : List ℕ) (row : List ℤ) (areas text : List ℕ
             none false = (refl, refl, refl, refl)
 
     module _ {areas' text' : List ℕ} (ten : 10 ≤ length row) where
-      pub lent_good : {r : Told} {c : Verdict} {row' : List ℤ} → Reads (ours (eqb language 1)) s areas text (Good r) areas' text' → Fills (accepted (row_of r)) row c row' → NoticeFills language s row areas text c row' areas' text'
+      pub lent_good : {r : Told} {c : Verdict} {row' : List ℤ} → Reads (ours (eqb language 1)) s areas text (Ok r) areas' text' → Fills (accepted (row_of r)) row c row' → NoticeFills language s row areas text c row' areas' text'
       lent_good {r} {c} {row'} (e, a, t) f = fills_in (go (housing (also whole_of found)) e a t)
         where
-          go : (o : Out Whole) → Good r ≡ answer_of o → areas' ≡ answered (λ x. ahead x.1.0 areas) (λ c. areas) o → text' ≡ answered (λ x. ahead x.1.1 text) (λ c. text) o
+          go : (o : Out Whole) → accepted r ≡ plain (also told_of o) → areas' ≡ answered (λ x. ahead x.1.0 areas) (λ c. areas) o → text' ≡ answered (λ x. ahead x.1.1 text) (λ c. text) o
               → Lent (roomy (length row) o) row areas text c row' areas' text'
           go (refused d p) e a t = let z : ◌≡◌ {A = ℕ} 0 1 = cc in absurd (omega arith)
           go (accepted x) e a t =
@@ -87,22 +87,22 @@ module _ (language : ℕ) (s : List ℕ) (row : List ℤ) (areas text : List ℕ
               let full = one_filling f (row_full {o = accepted (row_of r)} row {xs = row_of r} refl ten) in
               rw (le-leb 10 (length row) ten) (full.0, full.1 ∙ ap (λ r. row_of r ++ drop 10 row) is, a, t)
 
-      pub lent_bad : {d : Verdict} → Reads (ours (eqb language 1)) s areas text (Refused d) areas' text' → NoticeFills language s row areas text d row areas' text'
-      lent_bad {d} (e, a, t) = fills_in (go (housing (also whole_of found)) e a t)
+      pub lent_bad : (f : Refusal) → Reads (ours (eqb language 1)) s areas text (Err f) areas' text' → NoticeFills language s row areas text (seen_refusal f) row areas' text'
+      lent_bad f (e, a, t) = fills_in (go (housing (also whole_of found)) e a t)
         where
-          go : (o : Out Whole) → Refused d ≡ answer_of o → areas' ≡ answered (λ x. ahead x.1.0 areas) (λ c. areas) o → text' ≡ answered (λ x. ahead x.1.1 text) (λ c. text) o
-              → Lent (roomy (length row) o) row areas text d row areas' text'
-          go (refused c p) e a t = let k : d ≡ shown c p = cc in (k, refl, a, t)
+          go : (o : Out Whole) → refused_by (seen_refusal f) ≡ plain (also told_of o) → areas' ≡ answered (λ x. ahead x.1.0 areas) (λ c. areas) o → text' ≡ answered (λ x. ahead x.1.1 text) (λ c. text) o
+              → Lent (roomy (length row) o) row areas text (seen_refusal f) row areas' text'
+          go (refused c p) e a t = let k : seen_refusal f ≡ shown c p = cc in (k, refl, a, t)
           go (accepted x) e a t = let z : ◌≡◌ {A = ℕ} 0 1 = cc in absurd (omega arith)
 
     -- A reading that did not want for room answers by the notice's own refusal; where that is none, the row tells what was read.
     pub told_in : {c : Verdict} {row' : List ℤ} {areas' text' : List ℕ} → NoticeFills language s row areas text c row' areas' text' → (c.code ≡ 6 → ⊥)
-        → (c ≡ told found) × (c.code ≡ 0 → Reads (ours (eqb language 1)) s areas text (Good (told_in_of row')) areas' text')
+        → (c ≡ told found) × (c.code ≡ 0 → Reads (ours (eqb language 1)) s areas text (Ok (told_in_of row')) areas' text')
     told_in {c} {row'} {areas'} {text'} fills roomed =
         go found (named (eqb language 1) s) (subst (λ b. Lent (check (or_bad b 4) 0 (roomy (length row) (housing (also whole_of found)))) row areas text c row' areas' text') (le-leb language 1 either) fills)
       where
         tells : Out Whole → Type 0
-        tells o = (Good (told_in_of row') ≡ answer_of o) × (areas' ≡ answered (λ x. ahead x.1.0 areas) (λ c. areas) o) × (text' ≡ answered (λ x. ahead x.1.1 text) (λ c. text) o)
+        tells o = (accepted (told_in_of row') ≡ plain (also told_of o)) × (areas' ≡ answered (λ x. ahead x.1.0 areas) (λ c. areas) o) × (text' ≡ answered (λ x. ahead x.1.1 text) (λ c. text) o)
 
         go : (o : Out (List ℕ)) → ((p : ℕ) → o ≡ refused 0 p → ⊥) → Lent (roomy (length row) (housing (also whole_of o))) row areas text c row' areas' text' → (c ≡ told o) × (c.code ≡ 0 → tells (housing (also whole_of o)))
         go (refused d p) n l = (l.0, λ z. absurd (n p (ap (λ c. refused c p) (ap (λ r. r.code) (sym l.0) ∙ z))))
@@ -112,4 +112,4 @@ module _ (language : ℕ) (s : List ℕ) (row : List ℤ) (areas text : List ℕ
                 Lent (after o (λ x. check (or_bad b 6) 0 (accepted x))) row areas text c row' areas' text' → (c ≡ bare 0) × (c.code ≡ 0 → tells o)
             fits false b l = absurd (roomed (ap (λ r. r.code) l.0))
             fits true false l = absurd (roomed (ap (λ r. r.code) l.0))
-            fits true true l = (l.0, λ z. (ap (λ row. Good (told_in_of row)) l.1, l.2, l.3))
+            fits true true l = (l.0, λ z. (ap (λ row. accepted (told_in_of row)) l.1, l.2, l.3))

@@ -1,7 +1,7 @@
 -- Where a reading in a row answers 0, the message was read, and its numbers stand at the front of the row: for each call, by one law (Refused `zero_filling`), since no family refuses by 0. Assumes nothing.
 use Rattle.std.specs.Prelude.{ℕ, ◌≡◌, List, ◌∷◌, ℤ, pos, length}
 use Rattle.std.proofs.Common.{sym, ap}
-use Rattle.format.specs.Promises.{read_record}
+use Rattle.format.specs.Promises.{read_record, plain}
 use Rattle.format.specs.Refusals.{Verdict}
 use Rattle.format.proofs.Laws.Family.{never_read}
 use Rattle.area.specs.Area.{areas, record_of as area_of}
@@ -12,7 +12,7 @@ use Rattle.gljc.specs.Gljc.{gljcs, record_of as gljc_of}
 use Rattle.gljc.specs.Laws.Demands.{family as gljc_family}
 use Rattle.packet.specs.Packet.{packets, record_of as packet_of}
 use Rattle.packet.specs.Laws.Demands.{family as packet_family}
-use Rattle.sentence.specs.Sentence.{read_sentence, heard_of}
+use Rattle.sentence.specs.Sentence.{read_sentence}
 use Rattle.sentence.specs.Laws.Demands.{no_zero_heard}
 use Rattle.txhz.specs.Txhz.{txhzs, record_of as txhz_of}
 use Rattle.txhz.specs.Laws.Demands.{family as txhz_family}
@@ -60,4 +60,4 @@ module _ (s : List ℕ) (row : List ℤ) (c : Verdict) (t : List ℤ) where
   zero_packet = zero_filling (λ r. entries (packet_row r.0 (length r.1))) (read_record packets packet_of s) (never_read packet_family s)
 
   pub zero_sentence : Fills (sentence_numbers s) row c t → c.code ≡ 0 → Filled (λ x. pos x.0 ∷ report_row x.1) (read_sentence s) row t
-  zero_sentence = zero_filling (λ x. pos x.0 ∷ report_row x.1) (read_sentence s) (λ p e. no_zero_heard s (sym (ap heard_of e)))
+  zero_sentence = zero_filling (λ x. pos x.0 ∷ report_row x.1) (read_sentence s) (λ p e. no_zero_heard s (sym (ap plain e)))

@@ -1,11 +1,11 @@
 -- Demand 1 for every call over a lent row, a lent number, or a language as a number: a refusal leaves all that is lent as it was, and where no refusal is told the definition accepted, so what is promised of success holds. One law for readings in a row, one for a language; the rest follow by them and by `refused_stands` of format. Assumes nothing.
-use Rattle.std.specs.Prelude.{ℕ, ◌≤◌, ◌≡◌, refl, Bool, true, false, cond, ◌&&◌, List, [], ◌++◌, leb, eqb, ℤ, length, drop}
+use Rattle.std.specs.Prelude.{ℕ, ◌≤◌, ◌≡◌, refl, Bool, true, false, cond, ◌&&◌, List, [], ◌++◌, leb, eqb, ℤ, length, drop, Ok}
 use Rattle.std.proofs.Common.{sym, ap, ◌∙◌, subst, arith, leb-true, eqb-true}
 use Rattle.format.specs.Fmt.{Out, accepted, refused, or_bad, check, also}
 use Rattle.format.specs.Message.{told, leaves, into, write_message, correct_message, ahead}
 use Rattle.format.specs.Refusals.{bare}
 use Rattle.format.specs.Refusals.{Verdict}
-use Rattle.format.specs.Promises.{answered, read_record, Writes, Corrects, tested, Lays}
+use Rattle.format.specs.Promises.{answered, plain, read_record, Writes, Corrects, tested, Lays}
 use Rattle.format.specs.Laws.Family.{refused_stands}
 use Rattle.format.proofs.Laws.Family.{never_read}
 use Rattle.format.specs.Laws.Lent.{zero_stands, tested_zero, refused_laying}
@@ -19,8 +19,7 @@ use Rattle.notice.specs.Record.{Whole, record_of as whole_of, values_of as notic
 use Rattle.notice.specs.WritingPromises.{enough, NoticeWrites}
 use Rattle.notice.specs.declared.reading.Notice.{Notice}
 use Rattle.notice.proofs.Laws.Demands.{family as notice_family}
-use Rattle.outline.specs.Promises.{drawn, counted, answer_of as outlined, Outlines}
-use Rattle.outline.specs.declared.Answer.TheVariants.{Good}
+use Rattle.outline.specs.Promises.{drawn, counted, Outlines}
 use Rattle.outline.specs.Laws.Outlines.{no_zero_outline}
 use Rattle.packet.specs.SplittingPromises.{splitting, Splits}
 use Rattle.sentence.specs.Sentence.{laid_over, sent_of}
@@ -136,16 +135,16 @@ module _ (language : ℕ) (s : List ℕ) where
         )
 
   -- the outline (a refusal: Told `refused_telling`)
-  pub zero_outline : (row : List ℤ) (n : ℕ) (code : Verdict) (t : List ℤ) (m : ℕ) → OutlineTold s language row n code t m → code.code ≡ 0 → (language ≤ 1) × Outlines (eqb language 1) s row (Good m) t
+  pub zero_outline : (row : List ℤ) (n : ℕ) (code : Verdict) (t : List ℤ) (m : ℕ) → OutlineTold s language row n code t m → code.code ≡ 0 → (language ≤ 1) × Outlines (eqb language 1) s row (Ok m) t
   zero_outline row n code t m e z =
       let l = spoken_zero language (λ english. counted english s row) told code refl e.0 z in
       let is = spoken_good language (λ english. counted english s row) l in
       let row_is = spoken_good language (λ english. drawn english s row) l in
       let counts = zero_stands (counted (eqb language 1) s row) n m code never (e.0 ∙ ap told is) (e.2 ∙ ap (λ o. leaves o n) is) z in
-      (leb-true language 1 l, (sym (ap outlined counts), e.1 ∙ ap (λ o. leaves o row) row_is))
+      (leb-true language 1 l, (sym (ap plain counts), e.1 ∙ ap (λ o. leaves o row) row_is))
     where
       never : (p : ℕ) → counted (eqb language 1) s row ≡ refused 0 p → ⊥
-      never p e = no_zero_outline (eqb language 1) s row (bare 0) (leaves (drawn (eqb language 1) s row) row) refl (sym (ap outlined e), refl)
+      never p e = no_zero_outline (eqb language 1) s row (bare 0) refl (sym (ap plain e))
 
 -- ---- slots
 

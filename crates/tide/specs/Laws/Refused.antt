@@ -1,16 +1,15 @@
 -- Demand 1 for reading a tide telegram and its heights: a refusal leaves the row as it was, and where reading answers 0 the telegram was read and the row had room; no refusal has the number 0. (Writing: `refused_laying` in format.) Assumes nothing.
-use Rattle.std.specs.Prelude.{◌≡◌, refl, List, [], ℕ, ◌≤◌, leb, ℤ, length, Result, Ok, Err}
-use Rattle.std.proofs.Common.{sym, ap, ◌∙◌, leb-true}
-use Rattle.format.specs.Fmt.{Out, accepted, refused, also}
-use Rattle.format.specs.Message.{told, leaves, ahead}
-use Rattle.format.specs.Promises.{answered, out_of, plain, verdict_of, read_record}
-use Rattle.format.specs.Refusals.{number}
-use Rattle.format.specs.Laws.Outcomes.{number_some}
+use Rattle.std.specs.Prelude.{◌≡◌, refl, Bool, true, false, List, [], ℕ, ◌≤◌, leb, ℤ, length, Result, Ok, Err}
+use Rattle.std.proofs.Common.{sym, ap, ◌∙◌, leb-true, arith}
+use Rattle.format.specs.Fmt.{Out, accepted, refused, also, check, or_bad}
+use Rattle.format.specs.Message.{told, leaves, ahead, into}
+use Rattle.format.specs.Promises.{answered, out_of, plain, verdict_of, read_record, refused_by}
+use Rattle.format.specs.Refusals.{number, Verdict}
 use Rattle.format.proofs.Laws.Family.{never_read}
 use Rattle.format.specs.Laws.Lent.{tested_zero}
-use Rattle.format.specs.Laws.Round.{clash}
+use Rattle.format.specs.Laws.Round.{clash, refused_inj}
 use Rattle.format.specs.Laws.Outcomes.{one_outcome}
-use Rattle.tide.specs.HeightsPromises.{heights_read, shown, Shows}
+use Rattle.tide.specs.HeightsPromises.{heights_in, heights_read, shown, counted, Shows}
 use Rattle.tide.specs.Promises.{housed, told_of, Reads}
 use Rattle.tide.specs.Record.{Whole, record_of}
 use Rattle.tide.specs.Tide.{tides}
@@ -50,6 +49,17 @@ module _ (s : List ℕ) (row t : List ℤ) (f : Refusal) (x : Shows s row (Err f
       go (accepted u) a e = clash a
       go (refused d p) a e = e
 
-  -- No refusal has the number 0.
-  pub no_zero_showing : number f.reason ≡ 0 → ⊥
-  no_zero_showing = number_some f.reason
+-- No refusal has the number 0.
+pub no_zero_showing : (s : List ℕ) (row : List ℤ) (c : Verdict) → c.code ≡ 0 → refused_by c ≡ plain (counted s row) → ⊥
+no_zero_showing s row c z e = go (read_record tides record_of s) refl e
+  where
+    many : Out (List ℤ) → Out ℕ
+    many = also (λ t. length (leaves (heights_read s) []))
+
+    full : (b : Bool) (u : List ℤ) → refused_by c ≡ plain (many (check (or_bad b 6) 0 (accepted u))) → ⊥
+    full true u a = clash a
+    full false u a = omega (arith, z, (refused_inj a).0)
+
+    go : (o : Out Whole) → read_record tides record_of s ≡ o → refused_by c ≡ plain (many (into row (also heights_in o))) → ⊥
+    go (accepted x) m a = full (leb (length (heights_in x)) (length row)) _ a
+    go (refused d p) m a = never_read family s p (m ∙ ap (λ d. refused d p) (sym (refused_inj a).0 ∙ z))

@@ -1,5 +1,5 @@
 -- `write` tests the language, and then is the notice's.
-use mathlib.Core.Path.{refl}
+use mathlib.Core.Path.{refl, ◌∙◌}
 use mathlib.Core.Bool.{Bool, true, false}
 use mathlib.Core.List.{List}
 use Prim.Native.Nat.{ℕ}
@@ -19,7 +19,8 @@ untouched false s = (refl, refl)
 pub returns-then-language-gt-ENGLISH : goal.returns-then-language-gt-ENGLISH
 returns-then-language-gt-ENGLISH c =
     let a = c.args in
-    rw (lt-leb a.language 1 (omega (arith, c.if-language-gt-ENGLISH.true))) (untouched (enough a.r a.areas.now) a.buf.now)
+    let (told, left) = untouched (enough a.r a.areas.now) a.buf.now in
+    rw (lt-leb a.language 1 (omega (arith, c.if-language-gt-ENGLISH.true))) (c.into.ensures ∙ told, left)
 
 pub returns : goal.returns
 returns c =

@@ -1,5 +1,5 @@
 -- `split` tests the language, and then is the splitter's.
-use mathlib.Core.Path.{◌≡◌, refl}
+use mathlib.Core.Path.{◌≡◌, refl, ◌∙◌}
 use native.Mathlib.Omega.{arith}
 use borrow.Author.Tests.{le-leb, lt-leb}
 use Rattle.format.specs.Fmt.{refused}
@@ -11,7 +11,8 @@ pub returns-then-language-gt-ENGLISH : goal.returns-then-language-gt-ENGLISH
 returns-then-language-gt-ENGLISH c =
     let a = c.args in
     let m : splitting_in a.buf.now a.content.now a.language a.number a.packet ≡ refused 4 0 = rw (lt-leb a.language 1 c.if-language-gt-ENGLISH.true) refl in
-    refuses m
+    let (told, left) = refuses m in
+    (c.into.ensures ∙ told, left)
 
 pub returns : goal.returns
 returns c =

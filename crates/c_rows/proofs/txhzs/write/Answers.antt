@@ -5,7 +5,7 @@ use borrow.Author.Tests.{eq-eqb, ne_eqb}
 use Rattle.c_rows.proofs.txhzs.write.Goals as goal
 
 pub returns-then-receipts-ne-RECEIPTS : goal.returns-then-receipts-ne-RECEIPTS
-returns-then-receipts-ne-RECEIPTS c = let b = c.args.receipts.now in rw (ne_eqb (length b) 20 c.if-receipts-ne-RECEIPTS.true) (refl, refl)
+returns-then-receipts-ne-RECEIPTS c = let b = c.args.receipts.now in rw (ne_eqb (length b) 20 c.if-receipts-ne-RECEIPTS.true) (c.into.ensures, refl)
 
 pub returns : goal.returns
 returns c =
