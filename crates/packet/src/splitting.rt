@@ -22,7 +22,8 @@ pub fn split(
     if size == 0 || size > JOINED {
         return Err(Reason::Size.into());
     }
-    let count = size.div_ceil(PART);
+    // `div_ceil` is slower: from this the compiler sees a count of 1 to 63, and leaves out the record's tests.
+    let count = (size - 1) / PART + 1;
     if packet >= count {
         return Err(Reason::Range.into());
     }
