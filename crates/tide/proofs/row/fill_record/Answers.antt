@@ -41,16 +41,16 @@ fill_place-requires c =
     (omega arith, simp length-set (omega (arith, record_room a.s.now a.at c.get-kind.ensures)))
 
 pub overflow_add-mark : goal.overflow_add-mark
-overflow_add-mark c = let (wide, long, same, room, k, at) = behind (c) in omega (arith, wide, long, same, room, k, at)
+overflow_add-mark c = omega (arith, behind c)
 
 pub overflow_add-mark-2 : goal.overflow_add-mark-2
-overflow_add-mark-2 c = let (wide, long, same, room, k, at) = behind (goal.at.overflow_add-mark-2 c).After-place_of-place in omega (arith, wide, long, same, room, k, at)
+overflow_add-mark-2 c = omega (arith, behind (goal.at.overflow_add-mark-2 c).After-place_of-place)
 
 pub overflow_add-next : goal.overflow_add-next
-overflow_add-next c = let (wide, long, same, room, k, at) = behind (goal.at.overflow_add-next c).After-place_of-place in omega (arith, wide, long, same, room, k, at)
+overflow_add-next c = omega (arith, behind (goal.at.overflow_add-next c).After-place_of-place)
 
 pub overflow_add-next-2 : goal.overflow_add-next-2
-overflow_add-next-2 c = let (wide, long, same, room, k, at) = behind (goal.at.overflow_add-next-2 c).After-place_of-place in omega (arith, wide, long, same, room, k, at)
+overflow_add-next-2 c = omega (arith, behind (goal.at.overflow_add-next-2 c).After-place_of-place)
 
 pub overflow_cast-row-2 : goal.overflow_cast-row-2
 overflow_cast-row-2 c =
@@ -58,13 +58,13 @@ overflow_cast-row-2 c =
     omega (arith, got_lt a.s.now _ 1 c.get.ensures)
 
 pub offset_bounds-row-next : goal.offset_bounds-row-next
-offset_bounds-row-next c = let (wide, long, same, room, k, at) = behind (goal.at.offset_bounds-row-next c).After-place_of-place in omega (arith, wide, long, same, room, k, at)
+offset_bounds-row-next c = omega (arith, behind (goal.at.offset_bounds-row-next c).After-place_of-place)
 
 pub bounds-row-next : goal.bounds-row-next
-bounds-row-next c = let (wide, long, same, room, k, at) = behind (goal.at.bounds-row-next c).After-place_of-place in omega (arith, wide, long, same, room, k, at)
+bounds-row-next c = omega (arith, behind (goal.at.bounds-row-next c).After-place_of-place)
 
 pub overflow_add-mark-3 : goal.overflow_add-mark-3
-overflow_add-mark-3 c = let (wide, long, same, room, k, at) = behind (goal.at.overflow_add-mark-3 c).After-place_of-place in omega (arith, wide, long, same, room, k, at)
+overflow_add-mark-3 c = omega (arith, behind (goal.at.overflow_add-mark-3 c).After-place_of-place)
 
 pub overflow_cast-row-3 : goal.overflow_cast-row-3
 overflow_cast-row-3 c =
@@ -72,22 +72,22 @@ overflow_cast-row-3 c =
     omega (arith, got_lt a.s.now (a.at + 1 + c.place_of-place.result.wide + 1) 9 c.get-entries.ensures)
 
 pub overflow_add-row : goal.overflow_add-row
-overflow_add-row c = let (wide, long, same, room, k, at) = behind (goal.at.overflow_add-row c).After-place_of-place in omega (arith, wide, long, same, room, k, at)
+overflow_add-row c = omega (arith, behind (goal.at.overflow_add-row c).After-place_of-place)
 
 pub offset_bounds-row-next-2 : goal.offset_bounds-row-next-2
-offset_bounds-row-next-2 c = let (wide, long, same, room, k, at) = behind (goal.at.offset_bounds-row-next-2 c).After-place_of-place in omega (arith, wide, long, same, room, k, at)
+offset_bounds-row-next-2 c = omega (arith, behind (goal.at.offset_bounds-row-next-2 c).After-place_of-place)
 
 pub bounds-row-next-2 : goal.bounds-row-next-2
-bounds-row-next-2 c = let (wide, long, same, room, k, at) = behind (goal.at.bounds-row-next-2 c).After-place_of-place in simp length-set (omega (arith, wide, long, same, room, k, at))
+bounds-row-next-2 c = simp length-set (omega (arith, behind (goal.at.bounds-row-next-2 c).After-place_of-place))
 
 pub overflow_add-mark-4 : goal.overflow_add-mark-4
-overflow_add-mark-4 c = let (wide, long, same, room, k, at) = behind (goal.at.overflow_add-mark-4 c).After-place_of-place in omega (arith, wide, long, same, room, k, at)
+overflow_add-mark-4 c = omega (arith, behind (goal.at.overflow_add-mark-4 c).After-place_of-place)
 
 pub overflow_add-mark-5 : goal.overflow_add-mark-5
-overflow_add-mark-5 c = let (wide, long, same, room, k, at) = behind (goal.at.overflow_add-mark-5 c).After-place_of-place in omega (arith, wide, long, same, room, k, at)
+overflow_add-mark-5 c = omega (arith, behind (goal.at.overflow_add-mark-5 c).After-place_of-place)
 
 pub overflow_add-next-3 : goal.overflow_add-next-3
-overflow_add-next-3 c = let (wide, long, same, room, k, at) = behind (goal.at.overflow_add-next-3 c).After-place_of-place in omega (arith, wide, long, same, room, k, at)
+overflow_add-next-3 c = omega (arith, behind (goal.at.overflow_add-next-3 c).After-place_of-place)
 
 pub fill_entries-requires : goal.fill_entries-requires
 fill_entries-requires c =

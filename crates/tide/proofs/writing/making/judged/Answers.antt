@@ -30,7 +30,6 @@ head_judged c =
       few = λ z. (valued_between (seen c.fixed-2.result) 9 n 1 511 (counted c) z).1;
     }
 
--- before `returns`: a build that lets a count of 0 pass is wrong here, and there it is not
 pub returns : goal.returns
 returns c =
     let a = c.args in

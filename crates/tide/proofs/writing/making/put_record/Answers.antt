@@ -1,66 +1,49 @@
 -- `put_record` puts the position type, the position, the mark, the count and the entries behind one another.
-use Prim.Native.Nat.{◌+◌, ◌*◌, ◌%◌}
+use Prim.Native.Nat.{◌+◌, ◌*◌, ◌%◌, ◌≤◌}
 use mathlib.Core.Path.{sym, ap, ◌∙◌}
 use native.Mathlib.Omega.{arith}
 use Rattle.format.specs.Correcting.{put_in, put_in_lem}
 use Rattle.walk.specs.Rows.{Put}
+use Rattle.notice_fields.specs.Parts.{point_bits}
 use Rattle.tide.specs.Row.{entry_bits}
 use Rattle.tide.specs.Laws.Putting.{record_turn, place_small}
+use Rattle.tide.proofs.writing.making.put_record.Goals.{After-put_place-place}
 use Rattle.tide.proofs.writing.making.put_record.Goals as goal
 
-pub overflow_add-next : goal.overflow_add-next
-overflow_add-next c =
+-- the position has a point's bits and two numbers at most
+small : (c : After-put_place-place) → (c.put_place-place.result.at ≤ c.args.at + 1 + point_bits) × (c.put_place-place.result.next ≤ c.args.k + 1 + 2)
+small c =
     let a = c.args in
-    let (wide, long) = place_small a.row.now c.entry-kind.result (a.k + 1) (a.at + 1) c.put.new.s c.put_place-place.ensures in
-    omega (arith, wide, long, c.requires.0, c.requires.1)
+    place_small a.row.now c.entry-kind.result (a.k + 1) (a.at + 1) c.put.new.s c.put_place-place.ensures
+
+pub overflow_add-next : goal.overflow_add-next
+overflow_add-next c = omega (arith, small (goal.at.overflow_add-next c).After-put_place-place)
 
 pub overflow_add-mark : goal.overflow_add-mark
-overflow_add-mark c =
-    let a = c.args in
-    let (wide, long) = place_small a.row.now c.entry-kind.result (a.k + 1) (a.at + 1) c.put.new.s c.put_place-place.ensures in
-    omega (arith, wide, long, c.requires.0, c.requires.1)
+overflow_add-mark c = omega (arith, small (goal.at.overflow_add-mark c).After-put_place-place)
 
 pub overflow_add-first : goal.overflow_add-first
-overflow_add-first c =
-    let a = c.args in
-    let (wide, long) = place_small a.row.now c.entry-kind.result (a.k + 1) (a.at + 1) c.put.new.s c.put_place-place.ensures in
-    omega (arith, wide, long, c.requires.0, c.requires.1)
+overflow_add-first c = omega (arith, small (goal.at.overflow_add-first c).After-put_place-place)
 
 pub overflow_add-first-2 : goal.overflow_add-first-2
-overflow_add-first-2 c =
-    let a = c.args in
-    let (wide, long) = place_small a.row.now c.entry-kind.result (a.k + 1) (a.at + 1) c.put.new.s c.put_place-place.ensures in
-    omega (arith, wide, long, c.requires.0, c.requires.1)
+overflow_add-first-2 c = omega (arith, small (goal.at.overflow_add-first-2 c).After-put_place-place)
 
 pub overflow_add-from : goal.overflow_add-from
-overflow_add-from c =
-    let a = c.args in
-    let (wide, long) = place_small a.row.now c.entry-kind.result (a.k + 1) (a.at + 1) c.put.new.s c.put_place-place.ensures in
-    omega (arith, wide, long, c.requires.0, c.requires.1)
+overflow_add-from c = omega (arith, small (goal.at.overflow_add-from c).After-put_place-place)
 
 pub overflow_add-from-2 : goal.overflow_add-from-2
-overflow_add-from-2 c =
-    let a = c.args in
-    let (wide, long) = place_small a.row.now c.entry-kind.result (a.k + 1) (a.at + 1) c.put.new.s c.put_place-place.ensures in
-    omega (arith, wide, long, c.requires.0, c.requires.1)
+overflow_add-from-2 c = omega (arith, small (goal.at.overflow_add-from-2 c).After-put_place-place)
 
 pub put_entries-requires : goal.put_entries-requires
 put_entries-requires c =
-    let a = c.args in
-    let (wide, long) = place_small a.row.now c.entry-kind.result (a.k + 1) (a.at + 1) c.put.new.s c.put_place-place.ensures in
-    (omega arith, omega (arith, wide, long, c.requires.0, c.requires.1), omega (arith, wide, long, c.requires.0, c.requires.1))
+    let near = small (goal.at.put_entries-requires c).After-put_place-place in
+    (omega arith, omega (arith, near), omega (arith, near))
 
 pub overflow_add-result : goal.overflow_add-result
-overflow_add-result c =
-    let a = c.args in
-    let (wide, long) = place_small a.row.now c.entry-kind.result (a.k + 1) (a.at + 1) c.put.new.s c.put_place-place.ensures in
-    omega (arith, wide, long, c.requires.0, c.requires.1)
+overflow_add-result c = omega (arith, small (goal.at.overflow_add-result c).After-put_place-place)
 
 pub overflow_add-result-2 : goal.overflow_add-result-2
-overflow_add-result-2 c =
-    let a = c.args in
-    let (wide, long) = place_small a.row.now c.entry-kind.result (a.k + 1) (a.at + 1) c.put.new.s c.put_place-place.ensures in
-    omega (arith, wide, long, c.requires.0, c.requires.1)
+overflow_add-result-2 c = omega (arith, small (goal.at.overflow_add-result-2 c).After-put_place-place)
 
 pub returns : goal.returns
 returns c =
