@@ -1,6 +1,4 @@
 -- What the proofs of the functions cite.
-mod Fitting
 mod Listing
-mod Moved
 mod Turning
 pub mod Laws

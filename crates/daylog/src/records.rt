@@ -2,9 +2,9 @@
 ghost use Rattle.std.specs.Prelude.{◌≡◌, ◌+◌, ◌*◌};
 ghost use Rattle.format.specs.Message.{between};
 ghost use Rattle.daylog.specs.Records.{front};
-ghost use Rattle.daylog.specs.Promises.{Keeps};
+ghost use Rattle.daylog.specs.Promises.{Keeps, laid_of};
 
-use crate::Laid;
+use format::Reason;
 
 // A record's head: its length and its kind.
 pub const HEAD: usize = 4;
@@ -42,40 +42,27 @@ pub fn first(s: &[u8]) -> Next
 fn is_length(whole: usize) -> bool
     ensures { result ≡ between 4 256 whole }
 {
-    if whole < HEAD {
-        return false;
-    }
-    whole <= GREATEST
+    HEAD <= whole && whole <= GREATEST
 }
 
 // Moves the bytes from `from` up to `to` to the front, and answers how many they are. An end before its start is 4, one past
 // the slice 6.
-pub fn keep(s: &mut [u8], from: usize, to: usize) -> Laid
-    ensures { Keeps s.old from to result s.new }
+pub fn keep(s: &mut [u8], from: usize, to: usize) -> Result<usize, Reason>
+    ensures { Keeps s.old from to (laid_of result) s.new }
 {
     if to < from {
-        return Laid {
-            code: format::RANGE,
-            bytes: 0,
-        };
+        return Err(Reason::Range);
     }
     if s.len() < to {
-        return Laid {
-            code: format::ROOM,
-            bytes: 0,
-        };
+        return Err(Reason::Room);
     }
-    let mut i = 0;
-    while i < to - from {
-        s[i] = s[from + i];
-        i += 1;
-    }
-    Laid { code: 0, bytes: i }
+    s.copy_within(from..to, 0);
+    Ok(to - from)
 }
 
 // A 16-bit number, its low byte first.
 fn pair(low: u8, high: u8) -> u16
     ensures { result ≡ low + high * 256 }
 {
-    low as u16 + (high as u16) * 256
+    u16::from_le_bytes([low, high])
 }
