@@ -1,5 +1,4 @@
 -- What the proofs of the functions cite.
-mod Fitting
 mod Listing
 mod Turning
 pub mod Laws

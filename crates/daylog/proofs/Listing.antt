@@ -1,12 +1,13 @@
 -- Listing a window record by record: what is left to list, listed from where the loop stands, gives the whole. Assumes nothing.
-use Rattle.std.proofs.Common.{◌≡◌, ℕ, ◌+◌, ◌-◌, ◌<◌, ◌≤◌, cond, eqb, List, [], ◌∷◌, ◌++◌, length, take, drop, sym, refl, ap, ◌∙◌, arith, length-append, length-drop, take_all, drop-drop, eq-eqb, ne_eqb, le-leb}
+use Rattle.std.proofs.Common.{◌≡◌, ℕ, ◌+◌, ◌-◌, ◌<◌, ◌≤◌, cond, eqb, List, [], ◌∷◌, ◌++◌, length, take, drop, sym, refl, ap, ◌∙◌, subst, arith, length-append, length-drop, take_all, drop-drop, eq-eqb, ne_eqb, le-leb}
 use lib.Seq.{sets, length-sets}
 use borrow.Author.Tests.{lt-leb}
 use Rattle.daylog.specs.Records.{Entry, front, records, size_of}
 use Rattle.daylog.specs.Kinds.{word, refusal_of, entry_line}
 use Rattle.daylog.specs.Log.{after, after_all, lines}
 use Rattle.daylog.specs.Stores.{placed, Stores}
-use Rattle.daylog.specs.Promises.{listed, chosen, crowded, Lists}
+use Rattle.daylog.specs.Promises.{Listed, listed, chosen, crowded, Lists}
+use Rattle.daylog.specs.Laws.Refusals.{refused_list}
 use Rattle.daylog.specs.Laws.Text.{line_some, sets_append}
 use Rattle.daylog.specs.Laws.Records.{front_size, records_open}
 use Rattle.daylog.specs.Laws.Windows.{entry_at, records_next, body_size}
@@ -171,3 +172,13 @@ module _ {s : List ℕ} {m : ℕ} {o out : List ℕ} {used made n : ℕ} (x : Le
       go h none (d ∷ es) f =
           let u : used ≡ 0 → ⊥ = λ z. omega (arith, rw (none, f) at x.size) in
           (rw (ne_eqb used 0 u) (sym (some_listed (records s) d es)), λ l. rw (ne_eqb used 0 u))
+
+  -- not even for the first one's
+  pub stop_refused : (k i : ℕ) {made' : ℕ} {out' : List ℕ} → front (drop used s) ≡ Record k i → made' ≡ made
+      → Stores out made (placed out made (entry_line n (entry_at (drop used s) k i))) made' out'
+      → length (entry_line n (entry_at (drop used s) k i)) ≤ 76 → used ≡ 0
+      → Lists s m o (record { code = 6; used = 0; made = 0; number = m }) out'
+  stop_refused k i {out' = out'} e same called few u =
+      let x = stop_full k i {code = 6} e same called few (rw (eq-eqb used 0 u) refl) in
+      let (uses, makes, counts, left) = refused_list x (λ z. omega (arith, z)) in
+      subst (λ (r : Listed). Lists s m o r out') (λ j. record { code = 6; used = uses j; made = makes j; number = counts j }) x

@@ -11,9 +11,9 @@ use Rattle.daylog.specs.Turns.{Begins, Gives, stopped, on, ending, is_bad, keepi
 use Rattle.daylog.specs.Laws.Text.{line_most}
 use Rattle.daylog.specs.Laws.Windows.{none_used}
 use Rattle.daylog.specs.Laws.Turns.{none_listed}
-use Rattle.daylog.specs.declared.Laid.{Laid}
-use Rattle.daylog.specs.declared.Listed.{Listed}
-use Rattle.daylog.specs.declared.turns.State.{State}
+use Rattle.daylog.specs.Promises.{Laid}
+use Rattle.daylog.specs.Promises.{Listed}
+use Rattle.daylog.specs.Turns.{State}
 
 pub began : {text left : List ℕ} {h : Laid} → Heads text h left
     → Begins text (record { made = h.bytes; done = not (eqb h.code 0); code = h.code; number = 1; waiting = 0; broken = false; left = 0 }) left

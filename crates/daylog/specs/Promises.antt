@@ -1,12 +1,36 @@
 -- What each public call promises of the bytes that it is lent: its answer, and the bytes that it leaves. Assumes nothing.
-use Rattle.std.specs.Prelude.{◌≡◌, ℕ, ◌-◌, ◌≤◌, cond, ◌&&◌, List, [], ◌∷◌, length, take, drop, nat_le}
+use Rattle.std.specs.Prelude.{◌≡◌, ℕ, ◌-◌, ◌≤◌, cond, ◌&&◌, Result, Ok, Err, List, [], ◌∷◌, length, take, drop, nat_le}
 use Rattle.daylog.specs.Text.{head}
 use Rattle.daylog.specs.Records.{Entry, records, size_of}
 use Rattle.daylog.specs.Kinds.{entry_line}
 use Rattle.daylog.specs.Log.{after, after_all, lines, ending_of}
-use Rattle.daylog.specs.declared.Laid.{Laid}
-use Rattle.daylog.specs.declared.Listed.{Listed}
+use Rattle.format.specs.declared.Reason.{Reason}
+use Rattle.format.specs.Refusals.{number}
+use Rattle.daylog.specs.declared.Listed.{Listed as Declared}
 use Rattle.daylog.specs.Stores.{Made}
+
+-- ---- what the calls answer: a number, 0 where they refuse nothing, and what they made
+
+-- how many bytes were laid at the front of a lent slice
+pub record Laid : Type 0 where
+  pub code : ℕ
+  pub bytes : ℕ
+
+-- how many bytes of a window are listed, how many bytes of text they made, and the next record's number
+pub record Listed : Type 0 where
+  pub code : ℕ
+  pub used : ℕ
+  pub made : ℕ
+  pub number : ℕ
+
+abbrev pub laid_of : Result ℕ Reason → Laid
+laid_of (Ok n) = record { code = 0; bytes = n }
+laid_of (Err r) = record { code = number r; bytes = 0 }
+
+-- where the first record was to be number n
+abbrev pub listed_of : ℕ → Result Declared Reason → Listed
+listed_of n (Ok l) = record { code = 0; used = l.used; made = l.made; number = l.number }
+listed_of n (Err r) = record { code = number r; used = 0; made = 0; number = n }
 
 -- ---- one text
 

@@ -1,7 +1,7 @@
 -- How a program lists a log: it reads, takes a turn and writes, from the first turn until it is done. Assumes nothing.
 use Rattle.std.specs.Prelude.{◌≡◌, ℕ, ◌+◌, ◌<◌, ◌≤◌, true, false, List, [], ◌++◌, length, take}
 use Rattle.daylog.specs.Turns.{Turns}
-use Rattle.daylog.specs.declared.turns.State.{State}
+use Rattle.daylog.specs.Turns.{State}
 
 -- A read puts the next bytes of the log, the chunk, behind those that wait. It brings none where the log has ended, and where
 -- there is no room for any. Of what stands past them nothing is said.

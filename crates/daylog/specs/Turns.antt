@@ -1,13 +1,45 @@
 -- A program that lists a log, turn by turn: what a turn answers, and the input and the text that it leaves. Assumes nothing.
-use Rattle.std.specs.Prelude.{◌≡◌, ℕ, ◌+◌, ◌%◌, ◌^◌, ◌<◌, ◌≤◌, Bool, true, false, cond, not, List, length, take, drop, ◌==◌, nat_le, nat_lt}
+use Rattle.std.specs.Prelude.{◌≡◌, ℕ, ◌+◌, ◌%◌, ◌^◌, ◌<◌, ◌≤◌, Bool, true, false, cond, not, List, length, take, drop, ◌==◌, nat_le, nat_lt, Option, Some, None, is_some, Result}
 use Rattle.format.specs.Message.{ahead}
 use Rattle.daylog.specs.Text.{head}
 use Rattle.daylog.specs.Records.{front, records, size_of}
 use Rattle.daylog.specs.Log.{after_all, lines, ending_of}
 use Rattle.daylog.specs.Promises.{room_code, roomed, chosen, crowded}
-use Rattle.daylog.specs.declared.turns.State.{State}
+use Rattle.daylog.specs.declared.turns.State.{State as Declared}
+use Rattle.format.specs.declared.Reason.{Reason}
+use Rattle.format.specs.Refusals.{code_of}
 use Rattle.daylog.specs.declared.records.Next.{Next}
 use Rattle.daylog.specs.declared.records.Next.TheVariants.{Record, Bad, Short}
+
+-- what the program does next: so many bytes of text are written; whether the listing is done then, and by which number; the next record's
+-- number; how many bytes wait; whether a broken record has begun, and how many of its bytes were counted
+pub record State : Type 0 where
+  pub made : ℕ
+  pub done : Bool
+  pub code : ℕ
+  pub number : ℕ
+  pub waiting : ℕ
+  pub broken : Bool
+  pub left : ℕ
+
+abbrev pub ended_by : Option (Result Unit Reason) → ℕ
+ended_by (Some v) = code_of v
+ended_by None = 0
+
+abbrev pub counted_of : Option ℕ → ℕ
+counted_of (Some n) = n
+counted_of None = 0
+
+abbrev pub seen : Declared → State
+seen t = record {
+  made = t.made;
+  done = is_some t.ended;
+  code = ended_by t.ended;
+  number = t.number;
+  waiting = t.waiting;
+  broken = is_some t.broken;
+  left = counted_of t.broken;
+}
 
 -- the first turn: the heading
 abbrev pub begun : List ℕ → State

@@ -3,7 +3,7 @@
 #![tactic(auto)]
 
 ghost use Rattle.std.specs.Prelude.{◌≡◌, if◌then◌else◌, nat_eq};
-ghost use Rattle.daylog.specs.Promises.{Lists, Ends, Heads};
+ghost use Rattle.daylog.specs.Promises.{Lists, Ends, Heads, laid_of, listed_of};
 
 use crate::kinds::entry;
 pub use crate::kinds::refusal;
@@ -11,93 +11,81 @@ use crate::lines::{line, text};
 use crate::records::HEAD;
 pub use crate::records::{Next, first, keep};
 pub use crate::turns::{State, begin, turn};
-use format::Refusal;
+use format::Reason;
 
 pub mod kinds;
 pub mod lines;
 pub mod records;
 pub mod turns;
 
-// How many bytes were laid at the front of a lent slice, and 0; or none, and the refusal.
-#[derive(Clone, Copy)]
-pub struct Laid {
-    pub code: u8,
-    pub bytes: usize,
-}
-
-// How many bytes of the window are listed, how many bytes of text they made, the next record's number, and 0; or none, and
-// the refusal.
+// How many bytes of the window are listed, how many bytes of text they made, and the next record's number.
 #[derive(Clone, Copy)]
 pub struct Listed {
-    pub code: u8,
     pub used: usize,
     pub made: usize,
     pub number: u64,
 }
 
 // Lists the whole records that the window begins with, as many as there is room for lines. No room for the first one's is 6.
-pub fn list(s: &[u8], number: u64, out: &mut [u8]) -> Listed
-    ensures { Lists s.now number out.old result out.new }
+pub fn list(s: &[u8], number: u64, out: &mut [u8]) -> Result<Listed, Reason>
+    ensures { Lists s.now number out.old (listed_of number result) out.new }
 {
     let mut used = 0;
     let mut made = 0;
     let mut n = number;
     loop {
         let rest = &s[used..];
-        let found = first(rest);
-        let Next::Record(kind, size) = found else {
-            return Listed {
-                code: 0,
+        let Next::Record(kind, size) = first(rest) else {
+            return Ok(Listed {
                 used,
                 made,
                 number: n,
-            };
+            });
         };
         let end = HEAD + size;
         let at = entry(out, made, n, kind, &rest[HEAD..end]);
         if at == made {
-            return Listed {
-                code: no_room(used),
+            if used == 0 {
+                return Err(Reason::Room);
+            }
+            return Ok(Listed {
                 used,
                 made,
                 number: n,
-            };
+            });
         }
         made = at;
         used += end;
         // A log of 2^64 records does not come; the numbers would go on from 0.
-        n = std::num::wrapping_add_u64(n, 1);
+        n = n.wrapping_add(1);
     }
 }
 
 // The end of the listing: the line of the record that is broken, where bytes are left. No room for it is 6.
-pub fn ending(out: &mut [u8], number: u64, left: u64) -> Laid
-    ensures { Ends out.old number left result out.new }
+pub fn ending(out: &mut [u8], number: u64, left: u64) -> Result<usize, Reason>
+    ensures { Ends out.old number left (laid_of result) out.new }
 {
     if left == 0 {
-        return Laid { code: 0, bytes: 0 };
+        return Ok(0);
     }
-    let bytes = line(out, 0, number, b"broken", Refusal::SIZE, left);
-    Laid {
-        code: no_room(bytes),
-        bytes,
-    }
+    let broken = Err(Reason::Size.into());
+    laid(line(out, 0, number, b"broken", broken, left))
 }
 
 // The listing's first line. No room for it is 6.
-pub fn heading(out: &mut [u8]) -> Laid
-    ensures { Heads out.old result out.new }
+pub fn heading(out: &mut [u8]) -> Result<usize, Reason>
+    ensures { Heads out.old (laid_of result) out.new }
 {
-    let bytes = text(out, 0, b"n kind code bytes bit\n");
-    Laid {
-        code: no_room(bytes),
-        bytes,
-    }
+    laid(text(out, 0, b"n kind code bytes bit\n"))
 }
 
-// The refusal of a call that had something to write: 6 where it made nothing of it, else 0.
-fn no_room(made: usize) -> u8
-    ensures { result ≡ (if nat_eq made 0 then 6 else 0) }
+// What a call answers that had something to write: how many bytes it made, or no room where it made none.
+fn laid(made: usize) -> Result<usize, Reason>
+    ensures { laid_of result ≡ (record { code = if nat_eq made 0 then 6 else 0; bytes = made }) }
 {
-    if made == 0 { format::ROOM } else { 0 }
+    if made == 0 {
+        Err(Reason::Room)
+    } else {
+        Ok(made)
+    }
 }

@@ -1,5 +1,6 @@
 // Lines of text in a lent buffer. Each part is written at an offset of it, and answers the offset after it.
 ghost use Rattle.std.specs.Prelude.{◌≡◌, ◌+◌, ◌%◌, ◌<◌, ◌≤◌, [], ◌∷◌, length, nat_le};
+ghost use Rattle.format.specs.Refusals.{told_of};
 ghost use Rattle.daylog.specs.LinesText.{decimal as Text·decimal, line as Text·line};
 ghost use Rattle.daylog.specs.Stores.{placed, Stores};
 
@@ -8,32 +9,52 @@ use format::Refusal;
 // All of the longest line but its word: three numbers of 20 digits, a code of 3, four spaces and the line feed.
 const COLUMNS: usize = 68;
 
-// A line: number, word, code, bytes and bit. Where it has no room, answers the same offset and leaves every byte.
+// A line: number, word, code, bytes and bit, as a call told its outcome. Where it has no room, answers the same offset and leaves every
+// byte. No line is longer than its word and 68 bytes.
 pub fn line(
     out: &mut [u8],
     at: usize,
     number: u64,
     word: &[u8],
-    refusal: Refusal,
+    outcome: Result<(), Refusal>,
     bytes: u64,
 ) -> usize
-    ensures { Stores out.old at (placed out.old at (Text·line number word.now refusal bytes)) result out.new }
+    ensures stores { Stores out.old at (placed out.old at (Text·line number word.now (told_of outcome) bytes)) result out.new }
+    ensures longest { length (Text·line number word.now (told_of outcome) bytes) ≤ length word.now + 68 }
 {
-    if line_fits(out.len(), at, number, word, refusal, bytes) {
-        columns(out, at, number, word, refusal, bytes)
-    } else {
-        at
+    let (code, bit) = told(outcome);
+    if line_fits(out.len(), at, number, word, code, bit, bytes) {
+        return columns(out, at, number, word, code, bit, bytes);
+    }
+    at
+}
+
+// The number and the bit of a call's outcome.
+fn told(outcome: Result<(), Refusal>) -> (u8, usize)
+    ensures { (result.0 ≡ (told_of outcome).code) × (result.1 ≡ (told_of outcome).bit) }
+{
+    match outcome {
+        Ok(()) => (0, 0),
+        Err(refusal) => (refusal.reason.number(), refusal.bit),
     }
 }
 
 // Whether the line has room at offset `at` of `len` bytes. Where the longest one with its word has, no digit is counted.
-fn line_fits(len: usize, at: usize, number: u64, word: &[u8], refusal: Refusal, bytes: u64) -> bool
-    ensures { result ≡ nat_le (at + length (Text·line number word.now refusal bytes)) len }
+fn line_fits(
+    len: usize,
+    at: usize,
+    number: u64,
+    word: &[u8],
+    code: u8,
+    bit: usize,
+    bytes: u64,
+) -> bool
+    ensures { result ≡ nat_le (at + length (Text·line number word.now (record { code = code; bit = bit }) bytes)) len }
 {
     if has_room(len, at, word.len() + COLUMNS) {
         return true;
     }
-    let told = digit_count(refusal.code as u64) + digit_count(refusal.bit as u64);
+    let told = digit_count(code as u64) + digit_count(bit as u64);
     let digits = digit_count(number) + told + digit_count(bytes);
     has_room(len, at, word.len() + digits + 5)
 }
@@ -43,25 +64,27 @@ fn columns(
     at: usize,
     number: u64,
     word: &[u8],
-    refusal: Refusal,
+    code: u8,
+    bit: usize,
     bytes: u64,
 ) -> usize
-    requires { at + length (Text·line number word.now refusal bytes) ≤ length out.old }
-    ensures { Stores out.old at (Text·line number word.now refusal bytes) result out.new }
+    requires { at + length (Text·line number word.now (record { code = code; bit = bit }) bytes) ≤ length out.old }
+    ensures { Stores out.old at (Text·line number word.now (record { code = code; bit = bit }) bytes) result out.new }
 {
     let at = decimal(out, at, number);
     let at = mark(out, at, b' ');
     let at = put(out, at, word);
     let at = mark(out, at, b' ');
-    let at = decimal(out, at, refusal.code as u64);
+    let at = decimal(out, at, code as u64);
     let at = mark(out, at, b' ');
     let at = decimal(out, at, bytes);
     let at = mark(out, at, b' ');
-    let at = decimal(out, at, refusal.bit as u64);
+    let at = decimal(out, at, bit as u64);
     mark(out, at, b'\n')
 }
 
-// The number's decimal digits, the last one first.
+// The number's decimal digits, the last one first. The loop goes by what is left of the number; a `for` over the places would have to
+// be left just where nothing is.
 fn decimal(out: &mut [u8], at: usize, number: u64) -> usize
     requires { at + length (Text·decimal number) ≤ length out.old }
     ensures { Stores out.old at (Text·decimal number) result out.new }
@@ -75,7 +98,7 @@ fn decimal(out: &mut [u8], at: usize, number: u64) -> usize
     end
 }
 
-// How many decimal digits the number has.
+// How many decimal digits the number has, counted likewise.
 fn digit_count(number: u64) -> usize
     ensures { result ≡ length (Text·decimal number) }
 {

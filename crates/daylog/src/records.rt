@@ -2,9 +2,9 @@
 ghost use Rattle.std.specs.Prelude.{◌≡◌, ◌+◌, ◌*◌};
 ghost use Rattle.format.specs.Message.{between};
 ghost use Rattle.daylog.specs.Records.{front};
-ghost use Rattle.daylog.specs.Promises.{Keeps};
+ghost use Rattle.daylog.specs.Promises.{Keeps, laid_of};
 
-use crate::Laid;
+use format::Reason;
 
 // A record's head: its length and its kind.
 pub const HEAD: usize = 4;
@@ -47,26 +47,17 @@ fn is_length(whole: usize) -> bool
 
 // Moves the bytes from `from` up to `to` to the front, and answers how many they are. An end before its start is 4, one past
 // the slice 6.
-pub fn keep(s: &mut [u8], from: usize, to: usize) -> Laid
-    ensures { Keeps s.old from to result s.new }
+pub fn keep(s: &mut [u8], from: usize, to: usize) -> Result<usize, Reason>
+    ensures { Keeps s.old from to (laid_of result) s.new }
 {
     if to < from {
-        return Laid {
-            code: format::RANGE,
-            bytes: 0,
-        };
+        return Err(Reason::Range);
     }
     if s.len() < to {
-        return Laid {
-            code: format::ROOM,
-            bytes: 0,
-        };
+        return Err(Reason::Room);
     }
     s.copy_within(from..to, 0);
-    Laid {
-        code: 0,
-        bytes: to - from,
-    }
+    Ok(to - from)
 }
 
 // A 16-bit number, its low byte first.

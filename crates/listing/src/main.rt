@@ -36,7 +36,7 @@ fn carry(
         if !put(rt, &text[..made])? {
             return Ok(false);
         }
-        if state.done {
+        if state.ended.is_some() {
             return Ok(true);
         }
         let Some(got) = fill(rt, log, input, state.waiting)? else {

@@ -11,7 +11,7 @@ use Rattle.daylog.specs.Run.{Reads, Run, stops, goes}
 use Rattle.daylog.specs.Laws.Windows.{no_records, none_used}
 use Rattle.daylog.proofs.Laws.Windows.{chosen_window, bad_end}
 use Rattle.daylog.specs.Laws.Turns.{no, none_there, window, taken, Does, refuses, counts, ends_broken, ends, keeps, does, Kept, breaks, waits, kept_as}
-use Rattle.daylog.specs.declared.turns.State.{State}
+use Rattle.daylog.specs.Turns.{State}
 use Rattle.daylog.specs.declared.records.Next.{Next}
 use Rattle.daylog.specs.declared.records.Next.TheVariants.{Record, Bad, Short}
 use Rattle.daylog.specs.Laws.Runs.{due, held}

@@ -22,4 +22,4 @@ pub returns : goal.returns
 returns c =
     let a = c.args in
     let text = line a.number broken (bare 1) a.left in
-    rw (some_left a.number a.left c.if-left-eq0.false) (laid text c.line-bytes.ensures c.no_room.ensures (line_some a.number broken (bare 1) a.left))
+    rw (some_left a.number a.left c.if-left-eq0.false, c.laid.ensures) (laid text (rw c.into.ensures at c.line.ensures.stores) refl (line_some a.number broken (bare 1) a.left))

@@ -8,9 +8,9 @@ use Rattle.daylog.specs.Log.{after_all, lines, ending_of}
 use Rattle.daylog.specs.Promises.{room_code, roomed, chosen, Lays, Lists, Keeps}
 use Rattle.daylog.specs.Turns.{Begins, Gives, closing, Turns}
 use Rattle.daylog.specs.Laws.Turns.{none_listed, window, Does, refuses, counts, ends_broken, ends, keeps, does, Kept, breaks, waits, kept_as}
-use Rattle.daylog.specs.declared.Laid.{Laid}
-use Rattle.daylog.specs.declared.Listed.{Listed}
-use Rattle.daylog.specs.declared.turns.State.{State}
+use Rattle.daylog.specs.Promises.{Laid}
+use Rattle.daylog.specs.Promises.{Listed}
+use Rattle.daylog.specs.Turns.{State}
 
 -- a text without room is not there
 none_roomed : (out t : List ℕ) → (room_code out t ≢ 0) → roomed out t ≡ []

@@ -1,7 +1,7 @@
 -- Whatever chunks a log is read in, and whatever the buffers' sizes, the turns of a run write its listing or are refused by 6. Assumes nothing.
 use Rattle.std.specs.Prelude.{ℕ, ◌+◌, cond, List, [], ◌++◌, length, take}
 use Rattle.daylog.specs.Log.{ending_of, listing_from}
-use Rattle.daylog.specs.declared.turns.State.{State}
+use Rattle.daylog.specs.Turns.{State}
 
 -- ---- the text
 

@@ -10,7 +10,7 @@ use Rattle.daylog.specs.Run.{Run, stops, goes}
 use Rattle.daylog.specs.Laws.Records.{short_few}
 use Rattle.daylog.specs.Laws.Windows.{records_next, none_used, chosen_within}
 use Rattle.daylog.specs.Laws.Turns.{no, none_there, window, taken, Does, refuses, counts, ends_broken, ends, keeps, does, Kept, breaks, waits, kept_as}
-use Rattle.daylog.specs.declared.turns.State.{State}
+use Rattle.daylog.specs.Turns.{State}
 use Rattle.daylog.specs.declared.records.Next.{Next}
 use Rattle.daylog.specs.declared.records.Next.TheVariants.{Record, Bad, Short}
 

@@ -9,7 +9,7 @@ use Rattle.daylog.specs.Records.{Entry, front, records, size_of}
 use Rattle.daylog.specs.Log.{after_all, lines, ending_of}
 use Rattle.daylog.specs.Promises.{chosen, crowded, roomed}
 use Rattle.daylog.specs.Turns.{Begins, Out, Gives, on, refusing, closing, ending, counting, is_bad, keeping, listing_of, windowing, turned, Turns}
-use Rattle.daylog.specs.declared.turns.State.{State}
+use Rattle.daylog.specs.Turns.{State}
 
 pub no : {A : Type 0} → true ≡ false → A
 no e = let z : ◌≡◌ {A = ℕ} 0 1 = cc in absurd (omega arith)

@@ -7,7 +7,7 @@ use Rattle.daylog.specs.Kinds.{entry_line}
 use Rattle.daylog.specs.Log.{after, after_all, lines, ending_of, listing_from}
 use Rattle.daylog.specs.Promises.{listed, chosen, Lists}
 use Rattle.daylog.specs.Laws.Records.{front_size, records_empty, records_open}
-use Rattle.daylog.specs.declared.Listed.{Listed}
+use Rattle.daylog.specs.Promises.{Listed}
 use Rattle.daylog.specs.declared.records.Next.{Next}
 use Rattle.daylog.specs.declared.records.Next.TheVariants.{Record, Bad, Short}
 

@@ -1,24 +1,25 @@
 -- `turn` takes the way that `turned` takes.
-use Rattle.std.proofs.Common.{◌≡◌, ℕ, ◌+◌, cond, length, take, sym, refl, ap, ◌∙◌, arith, leb-false, leb-true}
-use Rattle.daylog.specs.Turns.{listing_of, refusing}
+use Rattle.std.proofs.Common.{is_some, ◌≡◌, ℕ, ◌+◌, cond, length, take, sym, refl, ap, ◌∙◌, arith, leb-false, leb-true}
+use Rattle.daylog.specs.Turns.{seen, ended_by, stopped, listing_of, refusing}
 use Rattle.daylog.specs.Laws.Turns.{turned_done, turned_broken, turned_listing}
 use Rattle.daylog.proofs.turns.turn.Goals as goal
 
-pub returns-then-t : goal.returns-then-t
-returns-then-t c =
+pub returns-in-Some : goal.returns-in-Some
+returns-in-Some c =
     let a = c.args in
+    let d = ap is_some c.in-Some.is in
     record {
-      is = (λ i. record { turn = c.stop.ensures i; input = a.input.now; text = a.text.now })
-          ∙ sym (turned_done a.t a.input.now a.got a.text.now c.if-t.true);
-      enough = λ d h w k. let q = sym c.if-t.true ∙ d in let z : ◌≡◌ {A = ℕ} 0 1 = cc q in absurd (omega arith);
+      is = (λ i. record { turn = (c.stop.ensures ∙ ap (λ x. stopped (seen a.t) (ended_by x) 0) (sym c.in-Some.is)) i; input = a.input.now; text = a.text.now })
+          ∙ sym (turned_done (seen a.t) a.input.now a.got a.text.now d);
+      enough = λ e h w k. let q = sym d ∙ e in let z : ◌≡◌ {A = ℕ} 0 1 = cc q in absurd (omega arith);
     }
 
-pub returns-then-t-2 : goal.returns-then-t-2
-returns-then-t-2 c =
+pub returns-in-Some-broken : goal.returns-in-Some-broken
+returns-in-Some-broken c =
     let a = c.args in
     let p = c.count.ensures in
     record {
-      is = p.by_index a.input.now refl ∙ sym (turned_broken a.t a.input.now a.got a.text.now c.if-t.false c.if-t-2.true);
+      is = p.by_index a.input.now refl ∙ sym (turned_broken (seen a.t) a.input.now a.got a.text.now (ap is_some c.in_default.is) (ap is_some c.in-Some-broken.is));
       enough = λ d h w k. p.code_value h w;
     }
 
@@ -30,8 +31,8 @@ returns-then-not-has_room c =
     let l = leb-false (a.t.waiting + a.got) (length a.input.now) f in
     record {
       is = (λ i. record { turn = c.stop-then-not-has_room.ensures i; input = a.input.now; text = a.text.now })
-          ∙ ap (λ b. cond b (listing_of a.t (take (a.t.waiting + a.got) a.input.now) a.input.now a.got a.text.now) (refusing a.t a.input.now a.text.now 6)) (sym f)
-          ∙ sym (turned_listing a.t a.input.now a.got a.text.now c.if-t.false c.if-t-2.false);
+          ∙ ap (λ b. cond b (listing_of (seen a.t) (take (a.t.waiting + a.got) a.input.now) a.input.now a.got a.text.now) (refusing (seen a.t) a.input.now a.text.now 6)) (sym f)
+          ∙ sym (turned_listing (seen a.t) a.input.now a.got a.text.now (ap is_some c.in_default.is) (ap is_some c.in_default-broken.is));
       enough = λ d h w k. absurd (omega arith);
     }
 
@@ -49,7 +50,7 @@ returns c =
     let p = c.window.ensures in
     record {
       is = p.gives
-          ∙ ap (λ b. cond b (listing_of a.t (take (a.t.waiting + a.got) a.input.now) a.input.now a.got a.text.now) (refusing a.t a.input.now a.text.now 6)) (sym f)
-          ∙ sym (turned_listing a.t a.input.now a.got a.text.now c.if-t.false c.if-t-2.false);
+          ∙ ap (λ b. cond b (listing_of (seen a.t) (take (a.t.waiting + a.got) a.input.now) a.input.now a.got a.text.now) (refusing (seen a.t) a.input.now a.text.now 6)) (sym f)
+          ∙ sym (turned_listing (seen a.t) a.input.now a.got a.text.now (ap is_some c.in_default.is) (ap is_some c.in_default-broken.is));
       enough = λ d h w k. p.code_value h w;
     }
