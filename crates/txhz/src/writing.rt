@@ -20,7 +20,9 @@ pub fn write(buf: &mut [u8], r: Txhz) -> Result<(), Refusal>
 {
     let w = judged(r);
     let n = w.bytes(false);
-    if w.closes(true, Txhz::LEAST, Txhz::GREATEST, buf.len()).is_err() {
+    if w.closes(true, Txhz::LEAST, Txhz::GREATEST, buf.len())
+        .is_err()
+    {
         return refused(r, buf.len());
     }
     put(buf, r);
