@@ -38,6 +38,7 @@ fn refused(r: Txhz, room: usize) -> Result<(), Refusal>
     judged(r).closes(true, Txhz::LEAST, Txhz::GREATEST, room)
 }
 
+// The record names its five receipts: a loop would first make an array of them, and be no plainer. The same holds of `put`.
 fn judged(r: Txhz) -> Walk
     ensures { Judged (Fmt·write txhz [] 0 (values_of r)) (seen result) }
 {
