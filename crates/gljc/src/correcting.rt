@@ -8,8 +8,8 @@ ghost use Rattle.gljc.specs.Gljc.{gljcs};
 
 use crate::reading::{Gljc, fields, read};
 use change::correcting::in_place;
-use walk::walk::Spot;
 use format::Refusal;
+use walk::walk::Spot;
 
 impl Gljc {
     // The fields that may be corrected, by their position among the frame's.

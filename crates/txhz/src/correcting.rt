@@ -10,8 +10,8 @@ ghost use Rattle.txhz.specs.Txhz.{txhzs};
 
 use crate::reading::{Txhz, fields, read};
 use change::correcting::in_place;
-use walk::walk::Spot;
 use format::Refusal;
+use walk::walk::Spot;
 
 impl Txhz {
     // The fields that may be corrected, by their position among the frame's.

@@ -73,7 +73,8 @@ pub fn fields(s: &[u8]) -> Result<Txhz, Refusal>
     answer
 }
 
-// Another size is refused at once: no field has then to be tested for it.
+// Another size is refused at once: no field has then to be tested for it. The record names its five receipts, as C does, so a loop over
+// an array of them would be no plainer: it would take the array apart again.
 fn walked(s: &[u8]) -> Result<Txhz, Refusal>
     ensures { out_of result ≡ plain (also record_of (fields_of txhz 34 34 s.now)) }
 {

@@ -20,7 +20,9 @@ pub fn write(buf: &mut [u8], r: Txhz) -> Result<(), Refusal>
 {
     let w = judged(r);
     let n = w.bytes(false);
-    if w.closes(true, Txhz::LEAST, Txhz::GREATEST, buf.len()).is_err() {
+    if w.closes(true, Txhz::LEAST, Txhz::GREATEST, buf.len())
+        .is_err()
+    {
         return refused(r, buf.len());
     }
     put(buf, r);
@@ -36,6 +38,7 @@ fn refused(r: Txhz, room: usize) -> Result<(), Refusal>
     judged(r).closes(true, Txhz::LEAST, Txhz::GREATEST, room)
 }
 
+// The record names its five receipts: a loop would first make an array of them, and be no plainer. The same holds of `put`.
 fn judged(r: Txhz) -> Walk
     ensures { Judged (Fmt·write txhz [] 0 (values_of r)) (seen result) }
 {

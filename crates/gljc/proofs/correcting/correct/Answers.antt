@@ -1,5 +1,5 @@
 -- `correct` is the correction in place of every family, with the frame's fields read before and behind the change and where `stands` found the field.
-use Rattle.std.proofs.Common.{sym, ap, ◌∙◌}
+use Rattle.std.proofs.Common.{ap, ◌∙◌}
 use Rattle.format.specs.Fmt.{also}
 use Rattle.format.specs.Message.{fields_of}
 use Rattle.format.specs.Promises.{plain}
