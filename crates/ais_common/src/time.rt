@@ -17,6 +17,8 @@ pub struct Time {
     pub minute: u8,
 }
 
+// The time without its minute. Each of both has functions of its own below: they differ in their parts and definitions, and a trait over
+// them, with its laws, would be longer than the four that it saves.
 #[derive(Clone, Copy)]
 pub struct ShortTime {
     pub month: u8,
