@@ -3,11 +3,13 @@
 
 ghost use Rattle.std.specs.Prelude.{◌≡◌};
 ghost use Rattle.format.specs.Promises.{Packs};
-ghost use Rattle.format.specs.Refusals.{packed};
+ghost use Rattle.format.specs.Refusals.{packed, told_of};
 ghost use Rattle.places.specs.Desk.{refusal_of};
+ghost use Rattle.places.specs.Replies.{replied};
 ghost use Rattle.desk_bytes.specs.Promises.{again_of, count_of, language_of};
 ghost use Rattle.c_trial.specs.Promises.{noted_within, AcceptsRow, AsksRow, DropsRow, txsq_content, txxx_content, packet_content, Copies};
 
+use format::{Refusal, packed};
 use places::{Place, Reply};
 
 // ---- the desk: what a reply says besides its refusal goes to three numbers: whether the packet came again, how many bytes are handed out or how many numbers are missing, the language
@@ -58,43 +60,49 @@ pub extern "C" fn trial_desk_drop(
     tell(said, dropped)
 }
 
-// The reply's refusal, packed into one number. What else it says goes to the numbers, where there are three.
-fn tell(said: &mut [usize], reply: Reply) -> u32
-    ensures { (result ≡ packed (refusal_of reply)) × (said.new ≡ noted_within reply said.old) }
+// What is told of the answer, packed into one number. What else it says goes to the numbers, where there are three.
+fn tell(said: &mut [usize], answer: Result<Reply, Refusal>) -> u32
+    ensures { (result ≡ packed (refusal_of (replied answer))) × (said.new ≡ noted_within (replied answer) said.old) }
 {
     if said.len() < SAID {
-        return reply.refusal().packed();
+        return packed(told(answer));
     }
-    said[0] = again_of(reply, said[0]);
-    said[1] = count_of(reply, said[1]);
-    said[2] = language_of(reply, said[2]);
-    reply.refusal().packed()
+    said[0] = again_of(answer, said[0]);
+    said[1] = count_of(answer, said[1]);
+    said[2] = language_of(answer, said[2]);
+    packed(told(answer))
 }
 
-fn again_of(reply: Reply, before: usize) -> usize
-    ensures { result ≡ again_of reply before }
+fn told(answer: Result<Reply, Refusal>) -> Result<(), Refusal>
+    ensures { told_of result ≡ refusal_of (replied answer) }
 {
-    match reply {
-        Reply::Done => 0,
-        Reply::Again => 1,
+    answer?.told()
+}
+
+fn again_of(answer: Result<Reply, Refusal>, before: usize) -> usize
+    ensures { result ≡ again_of (replied answer) before }
+{
+    match answer {
+        Ok(Reply::Done) => 0,
+        Ok(Reply::Again) => 1,
         _ => before,
     }
 }
 
-fn count_of(reply: Reply, before: usize) -> usize
-    ensures { result ≡ count_of reply before }
+fn count_of(answer: Result<Reply, Refusal>, before: usize) -> usize
+    ensures { result ≡ count_of (replied answer) before }
 {
-    match reply {
-        Reply::Joined(n, _) | Reply::Missing(n) => n,
+    match answer {
+        Ok(Reply::Joined(n, _) | Reply::Missing(n)) => n,
         _ => before,
     }
 }
 
-fn language_of(reply: Reply, before: usize) -> usize
-    ensures { result ≡ language_of reply before }
+fn language_of(answer: Result<Reply, Refusal>, before: usize) -> usize
+    ensures { result ≡ language_of (replied answer) before }
 {
-    match reply {
-        Reply::Joined(_, language) => usize::from(language),
+    match answer {
+        Ok(Reply::Joined(_, language)) => usize::from(language),
         _ => before,
     }
 }

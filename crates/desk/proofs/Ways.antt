@@ -1,27 +1,52 @@
 -- A packet's ways to its notice, where the four places are ps, and what is answered where the row of places is too short.
 use mathlib.Core.Path.{◌≡◌, refl, sym, ap, ◌∙◌}
 use mathlib.Core.Bool.{cond}
-use mathlib.Core.List.{List}
+use mathlib.Core.List.{List, [], ◌∷◌}
 use Prim.Native.Nat.{ℕ, ◌≤◌, ◌<◌}
-use native.Mathlib.Omega.{arith}
 use lib.Dec.{eqb}
-use lib.ListN.{length}
+use lib.ListN.{length, set}
 use borrow.Author.Tests.{eq-eqb, ne_eqb, lt-ltb, le-ltb}
 use Rattle.format.specs.Fmt.{Out, accepted, refused}
-use Rattle.format.specs.Promises.{answered, read_record}
-use Rattle.format.specs.Refusals.{shown, bare}
-use Rattle.format.specs.Refusals.{Verdict}
+use Rattle.format.specs.Promises.{answered, read_record, out_of, verdict_of}
+use Rattle.format.specs.Refusals.{Verdict, number, bare, seen_refusal}
+use Rattle.format.specs.declared.Reason.{Reason}
+use Rattle.format.specs.declared.Refusal.{Refusal}
 use Rattle.packet.specs.Packet.{packets, record_of, answer_of}
 use Rattle.packet.specs.Promises.{Reads}
 use Rattle.packet.specs.declared.reading.Packet.{Packet}
-use Rattle.packet.specs.declared.reading.Answer.TheVariants.{Good, Refused as Refused'}
-use Rattle.places.specs.Places.{four_places, place_at, front, open_at, free_at}
-use Rattle.places.specs.Desk.{Accepting, turn_of, turned_away, joins, opens, first_tests, received, accepting, unplaced}
+use Rattle.places.specs.Places.{four_places, blank, place_at, front, open_at, free_at}
+use Rattle.places.specs.Desk.{Accepting, stays, turn_of, turned_away, joins, opens, first_tests, received, accepting, unplaced}
 use Rattle.places.specs.Promises.{Gives, AcceptTurn}
 use Rattle.places.specs.Laws.Four.{front_is, turn_first}
 use Rattle.places.specs.declared.Place.{Place}
-use Rattle.places.specs.Replies.{Refused}
-use Rattle.places.specs.Replies.{Turn}
+use Rattle.places.specs.declared.Reply.{Reply}
+use Rattle.places.specs.declared.Turn.{Turn as Handed}
+use Rattle.places.specs.Replies.{Refused, Turn, replied, turned}
+use Rattle.std.specs.Prelude.{Result, Ok, Err, IsErrAnd}
+use Rattle.std.proofs.lemmas.List.{set-get_or}
+
+-- ---- a refusal that a call hands on: the first place is as it was
+
+pub refused_turn : (p : Place) (x : Result Handed Refusal) (v : Verdict) → IsErrAnd x (λ f. seen_refusal f ≡ v) → turned p x ≡ turn_of (p ∷ []) (Refused v) stays
+refused_turn p (Ok t) v h = absurd h
+refused_turn p (Err f) v h = ap (λ v. turn_of (p ∷ []) (Refused v) stays) h
+
+pub handed_on : (x : Result Handed Refusal) (f : Refusal) → IsErrAnd x (λ g. g ≡ f) → IsErrAnd x (λ g. seen_refusal g ≡ seen_refusal f)
+handed_on (Ok t) f h = absurd h
+handed_on (Err g) f h = ap seen_refusal h
+
+pub refused_reply : (x : Result Reply Refusal) (f : Refusal) → IsErrAnd x (λ g. g ≡ f) → Refused (seen_refusal f) ≡ replied x
+refused_reply (Ok a) f h = absurd h
+refused_reply (Err g) f h = ap (λ f. Refused (seen_refusal f)) (sym h)
+
+-- and where the tests refuse, or the row of places is read from its front
+pub tests_turn : (p : Place) (x : Result Handed Refusal) (r : Reason) (n : ℕ) → IsErrAnd x (λ f. seen_refusal f ≡ bare (number r)) → number r ≡ n → turned p x ≡ turn_of (p ∷ []) (Refused (bare n)) stays
+tests_turn p x r n h e = refused_turn p x (bare (number r)) h ∙ ap (λ n. turn_of (p ∷ []) (Refused (bare n)) stays) e
+
+pub first_stays : (ps : List Place) → set ps 0 (place_at ps 0) ≡ ps
+first_stays ps = set-get_or ps 0 blank
+
+-- ---- a packet comes in
 
 -- a turn of the first place alone is one of the four
 pub of_four : (ps : List Place) (s m : List ℕ) (o : Accepting) (r : Turn) (t : List ℕ) → accepting ps s m ≡ o → Gives (place_at ps 0) o r t → AcceptTurn ps s m r t
@@ -32,13 +57,13 @@ of_four ps s m o r t e (is, low, same) = (
 )
 
 module _ (ps : List Place) (s m : List ℕ) where
-  pub refused_packet : (x : Verdict) → Reads m (Refused' x) → accepting ps s m ≡ turned_away s x
+  pub refused_packet : (f : Refusal) → Reads m (Err f) → accepting ps s m ≡ turned_away s (seen_refusal f)
   unfolding accepting
-  refused_packet x e = go (read_record packets record_of m) e
+  refused_packet f e = go (read_record packets record_of m) e
     where
-      go : (o : Out (Packet × List ℕ)) → Refused' x ≡ answer_of o → answered (λ y. let n = first_tests ps s in cond (eqb n 0) (received (front ps) s y.0 y.1) (turned_away s (bare n))) (turned_away s) o ≡ turned_away s x
-      go (accepted q) e = let z : ◌≡◌ {A = ℕ} 0 1 = cc in absurd (omega arith)
-      go (refused n p) e = let k : shown n p ≡ x = cc in ap (turned_away s) k
+      go : (o : Out (Packet × List ℕ)) → out_of {R = Packet} (Err f) ≡ answer_of o → answered (λ y. let n = first_tests ps s in cond (eqb n 0) (received (front ps) s y.0 y.1) (turned_away s (bare n))) (turned_away s) o ≡ turned_away s (seen_refusal f)
+      go (accepted q) e = absurd cc
+      go (refused n p) e = ap (λ o. turned_away s (verdict_of o)) (sym e)
 
   module _ (r : Packet) (k : List ℕ) (reads : read_record packets record_of m ≡ accepted (r, k)) where
     pub refused_tests : (first_tests ps s ≡ 0 → ⊥) → accepting ps s m ≡ turned_away s (bare (first_tests ps s))
@@ -59,16 +84,16 @@ module _ (ps : List Place) (s m : List ℕ) where
 
 -- where the row of places is too short
 
-pub too_few_good : (m : List ℕ) (r : Packet) → Reads m (Good r) → Refused (bare 6) ≡ Refused (unplaced m)
+pub too_few_good : (m : List ℕ) (r : Packet) → Reads m (Ok r) → bare 6 ≡ unplaced m
 too_few_good m r e = go (read_record packets record_of m) e
   where
-    go : (o : Out (Packet × List ℕ)) → Good r ≡ answer_of o → Refused (bare 6) ≡ Refused (answered (λ x. bare 6) (λ refusal. refusal) o)
+    go : (o : Out (Packet × List ℕ)) → out_of (Ok r) ≡ answer_of o → bare 6 ≡ answered (λ x. bare 6) (λ refusal. refusal) o
     go (accepted q) e = refl
-    go (refused n p) e = let z : ◌≡◌ {A = ℕ} 0 1 = cc in absurd (omega arith)
+    go (refused n p) e = absurd cc
 
-pub too_few_refused : (m : List ℕ) (x : Verdict) → Reads m (Refused' x) → Refused x ≡ Refused (unplaced m)
-too_few_refused m x e = go (read_record packets record_of m) e
+pub too_few_refused : (m : List ℕ) (f : Refusal) → Reads m (Err f) → seen_refusal f ≡ unplaced m
+too_few_refused m f e = go (read_record packets record_of m) e
   where
-    go : (o : Out (Packet × List ℕ)) → Refused' x ≡ answer_of o → Refused x ≡ Refused (answered (λ x. bare 6) (λ refusal. refusal) o)
-    go (accepted q) e = let z : ◌≡◌ {A = ℕ} 0 1 = cc in absurd (omega arith)
-    go (refused n p) e = let k : x ≡ shown n p = cc in ap Refused k
+    go : (o : Out (Packet × List ℕ)) → out_of {R = Packet} (Err f) ≡ answer_of o → seen_refusal f ≡ answered (λ x. bare 6) (λ refusal. refusal) o
+    go (accepted q) e = absurd cc
+    go (refused n p) e = ap verdict_of e

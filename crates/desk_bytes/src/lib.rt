@@ -2,13 +2,15 @@
 #![tactic(auto)]
 
 ghost use Rattle.std.specs.Prelude.{◌≡◌, cond, ◌≤◌, ◌<◌, length};
+ghost use Rattle.format.specs.Refusals.{told_of};
 ghost use Rattle.places.specs.Desk.{laid};
+ghost use Rattle.places.specs.Replies.{said};
 ghost use Rattle.places.specs.Places.{four_places};
 ghost use Rattle.desk_bytes.specs.Bytes.{begins, total_behind, place_in, row_in, bytes_of};
 ghost use Rattle.desk_bytes.specs.Promises.{again_of, count_of, language_of, AcceptsIn, AsksIn, DropsIn};
 ghost use Rattle.desk_bytes.specs.Laws.Fits.{moves};
 
-use format::Refusal;
+use format::{Reason, Refusal};
 use packet::MOST;
 use places::{PLACES, Place, Reply, Turn};
 
@@ -18,17 +20,22 @@ const SIZES: usize = 4;
 const PLACE: usize = SIZES + MOST;
 
 // A packet comes in; `again` is 1 where it came before, 0 where it is new.
-pub fn accept(places: &mut [u8], store: &mut [u8], packet: &[u8], again: &mut u8) -> Refusal
-    ensures { AcceptsIn places.old store.old packet.now again.old result places.new store.new again.new }
+pub fn accept(
+    places: &mut [u8],
+    store: &mut [u8],
+    packet: &[u8],
+    again: &mut u8,
+) -> Result<(), Refusal>
+    ensures { AcceptsIn places.old store.old packet.now again.old (told_of result) places.new store.new again.new }
 {
     if places.len() < PLACES * PLACE {
-        return desk::accepting::unplaced(packet).refusal();
+        return Err(desk::accepting::unplaced(packet));
     }
     let four = row(places);
-    let turn = desk::accepting::accept(&four, store, packet);
+    let turn = desk::accepting::accept(&four, store, packet)?;
     *again = again_of(turn.reply, *again);
     settle(places, turn);
-    turn.reply.refusal()
+    turn.reply.told()
 }
 
 // A notice is asked for: its bytes into the front of `notice`, or the missing numbers into the front of `missing`, and how many they are into `count`.
@@ -40,30 +47,30 @@ pub fn ask(
     missing: &mut [u16],
     count: &mut usize,
     language: &mut u8,
-) -> Refusal
-    ensures { AsksIn places.old store.now number notice.old missing.old count.old language.old result places.new notice.new missing.new count.new language.new }
+) -> Result<(), Refusal>
+    ensures { AsksIn places.old store.now number notice.old missing.old count.old language.old (told_of result) places.new notice.new missing.new count.new language.new }
 {
     if places.len() < PLACES * PLACE {
-        return Refusal::ROOM;
+        return Err(Reason::Room.into());
     }
     let four = row(places);
-    let turn = desk::asking::ask(&four, store, number, notice, missing);
+    let turn = desk::asking::ask(&four, store, number, notice, missing)?;
     *count = count_of(turn.reply, *count);
     *language = language_of(turn.reply, *language);
     settle(places, turn);
-    turn.reply.refusal()
+    turn.reply.told()
 }
 
-pub fn drop(places: &mut [u8], store: &[u8], number: u8) -> Refusal
-    ensures { DropsIn places.old store.now number result places.new }
+pub fn drop(places: &mut [u8], store: &[u8], number: u8) -> Result<(), Refusal>
+    ensures { DropsIn places.old store.now number (told_of result) places.new }
 {
     if places.len() < PLACES * PLACE {
-        return Refusal::ROOM;
+        return Err(Reason::Room.into());
     }
     let four = row(places);
-    let turn = desk::asking::drop(&four, store, number);
+    let turn = desk::asking::drop(&four, store, number)?;
     settle(places, turn);
-    turn.reply.refusal()
+    turn.reply.told()
 }
 
 // ---- places from bytes, and back
@@ -103,7 +110,7 @@ fn total_behind(mark: u8, total: u8) -> u8
 // Puts the place that changed back into its bytes.
 fn settle(s: &mut [u8], turn: Turn)
     requires { (turn.at < four_places) × (begins four_places ≤ length s.old) }
-    ensures { s.new ≡ cond (moves turn.reply) (laid s.old (begins turn.at) (bytes_of turn.place)) s.old }
+    ensures { s.new ≡ cond (moves (said turn.reply)) (laid s.old (begins turn.at) (bytes_of turn.place)) s.old }
 {
     if moves(turn.reply) {
         put(s, turn.at, turn.place);
@@ -126,13 +133,13 @@ fn put(s: &mut [u8], i: usize, p: Place)
 
 // Whether a place changed.
 fn moves(reply: Reply) -> bool
-    ensures { result ≡ moves reply }
+    ensures { result ≡ moves (said reply) }
 {
     matches!(reply, Reply::Done | Reply::Joined(_, _))
 }
 
 fn again_of(reply: Reply, before: u8) -> u8
-    ensures { result ≡ again_of reply before }
+    ensures { result ≡ again_of (said reply) before }
 {
     match reply {
         Reply::Done => 0,
@@ -142,7 +149,7 @@ fn again_of(reply: Reply, before: u8) -> u8
 }
 
 fn count_of(reply: Reply, before: usize) -> usize
-    ensures { result ≡ count_of reply before }
+    ensures { result ≡ count_of (said reply) before }
 {
     match reply {
         Reply::Joined(n, _) | Reply::Missing(n) => n,
@@ -151,7 +158,7 @@ fn count_of(reply: Reply, before: usize) -> usize
 }
 
 fn language_of(reply: Reply, before: u8) -> u8
-    ensures { result ≡ language_of reply before }
+    ensures { result ≡ language_of (said reply) before }
 {
     match reply {
         Reply::Joined(_, language) => language,

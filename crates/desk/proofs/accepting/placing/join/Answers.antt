@@ -1,14 +1,15 @@
 -- `join` meets its contract: each way of the packet in turn.
 use mathlib.Core.Path.{◌≡◌, refl, sym, ap, ◌∙◌}
 use mathlib.Core.Bool.{true}
+use mathlib.Core.List.{[], ◌∷◌}
 use Prim.Native.Nat.{◌+◌, ◌-◌}
 use native.Mathlib.Omega.{arith}
 use lib.Dec.{lit<}
 use lib.ListN.{length, take, drop}
 use Rattle.format.specs.Refusals.{bare}
 use Rattle.places.specs.Places.{held, holding}
-use Rattle.places.specs.Desk.{alike, turned_away, taken, stays, cell}
-use Rattle.places.specs.Replies.{Done, Again}
+use Rattle.places.specs.Desk.{alike, turned_away, taken, stays, turn_of, cell}
+use Rattle.places.specs.Replies.{Done, Again, Refused}
 use Rattle.places.specs.Laws.Four.{settled}
 use Rattle.places.specs.Laws.Laid.{laid_within_lem}
 use Rattle.desk.proofs.Joins.{agree, other_head, not_held, held_again, other_content}
@@ -18,7 +19,7 @@ use Rattle.desk.proofs.accepting.placing.join.Goals as goal
 pub returns-then-not-agrees : goal.returns-then-not-agrees
 returns-then-not-agrees c =
     let a = c.args in
-    settled a.first _ (turned_away a.store.now (bare 7)) _ _ (other_head a.store.now a.i a.p a.r a.content.now (sym c.agrees.ensures ∙ c.if-not-agrees.true)) c.staying.ensures (lit< tt) refl
+    settled a.first _ (turned_away a.store.now (bare 7)) _ _ (other_head a.store.now a.i a.p a.r a.content.now (sym c.agrees.ensures ∙ c.if-not-agrees.true)) (ap (λ v. turn_of (a.first ∷ []) (Refused v) stays) c.into.ensures) (lit< tt) refl
 
 -- behind the first test language and total are the same
 agreed : (g : After-agrees) → g.agrees.result ≡ true → let a = g.args in agree a.store.now a.i a.p a.r a.content.now ≡ true
@@ -38,7 +39,7 @@ returns-then-same c =
     let size : held a.p a.r.own ≡ cell a.i a.r.own + held a.p a.r.own - cell a.i a.r.own = omega arith in
     settled a.first _ (record { reply = Again; change = stays; store = a.store.now }) _ _
     (held_again a.store.now a.i a.p a.r a.content.now (agreed (goal.at.returns-then-same c).After-agrees c.if-not-agrees.false) c.if-size-eq0.false
-    (ap (λ n. alike (take n (drop (cell a.i a.r.own) a.store.now)) a.content.now) size ∙ sym c.same.ensures ∙ c.if-same.true)) c.staying-then-same.ensures (lit< tt) refl
+    (ap (λ n. alike (take n (drop (cell a.i a.r.own) a.store.now)) a.content.now) size ∙ sym c.same.ensures ∙ c.if-same.true)) c.staying.ensures (lit< tt) refl
 
 pub returns : goal.returns
 returns c =
@@ -46,4 +47,4 @@ returns c =
     let size : held a.p a.r.own ≡ cell a.i a.r.own + held a.p a.r.own - cell a.i a.r.own = omega arith in
     settled a.first _ (turned_away a.store.now (bare 7)) _ _
     (other_content a.store.now a.i a.p a.r a.content.now (agreed (goal.at.returns c).After-agrees c.if-not-agrees.false) c.if-size-eq0.false
-    (ap (λ n. alike (take n (drop (cell a.i a.r.own) a.store.now)) a.content.now) size ∙ sym c.same.ensures ∙ c.if-same.false)) c.staying-2.ensures (lit< tt) refl
+    (ap (λ n. alike (take n (drop (cell a.i a.r.own) a.store.now)) a.content.now) size ∙ sym c.same.ensures ∙ c.if-same.false)) (ap (λ v. turn_of (a.first ∷ []) (Refused v) stays) c.into-2.ensures) (lit< tt) refl

@@ -1,9 +1,10 @@
 -- `hand_out` meets its contract: the buffer is too short for the packets, or they stand in it.
 use mathlib.Core.Path.{refl, ap}
-use mathlib.Core.List.{[]}
+use mathlib.Core.List.{[], ◌∷◌}
 use native.Mathlib.Omega.{arith}
-use Rattle.places.specs.Replies.{Turn}
-use Rattle.places.specs.Laws.Four.{first_again}
+use lib.Dec.{lit<}
+use Rattle.places.specs.Desk.{turn_of, stays}
+use Rattle.places.specs.Replies.{Refused, Turn}
 use Rattle.desk.proofs.Answers.{answered, buffer_short, handed}
 use Rattle.desk.proofs.asking.answering.hand_out.Goals as goal
 
@@ -11,11 +12,10 @@ pub returns-then-bytes-notice : goal.returns-then-bytes-notice
 returns-then-bytes-notice c =
     let a = c.args in
     let e = buffer_short a.store.now a.i a.p a.notice.now c.requires.0 c.requires.1 c.requires.2 c.count_bytes-bytes.result c.count_bytes-bytes.ensures (omega (arith, c.if-bytes-notice.true)) in
-    let again = c.staying.ensures in
-    answered a.first _ _ c.staying.result a.notice.now [] e (again, first_again c.staying.result a.first _ again, refl, refl)
+    answered a.first _ _ _ a.notice.now [] e (ap (λ v. turn_of (a.first ∷ []) (Refused v) stays) c.into.ensures, lit< tt, refl, refl)
 
 pub returns : goal.returns
 returns c =
     let a = c.args in
     let e = handed a.store.now a.i a.p a.notice.now c.requires.0 c.requires.1 c.requires.2 c.count_bytes-bytes.result c.count_bytes-bytes.ensures (omega (arith, c.if-bytes-notice.false)) in
-    answered a.first _ _ c.handed.result _ [] e (c.handed.ensures, omega (arith, ap (λ (t : Turn). t.at) c.handed.ensures, c.requires.1), c.join.ensures, refl)
+    answered a.first _ _ _ _ [] e (c.handed.ensures, omega (arith, ap (λ (t : Turn). t.at) c.handed.ensures, c.requires.1), c.join.ensures, refl)
