@@ -58,18 +58,11 @@ fn behind(sought: Option<usize>, m: usize) -> Option<usize>
 fn reach(len: usize, at: usize, n: u64) -> usize
     ensures { (result ≤ n) × (result * 4 ≤ 210 - (at / 8 + 1)) × (result * 4 ≤ len - (at / 8 + 1)) }
 {
-    let first = at / 8 + 1;
     if len > Tide::GREATEST {
         return 0;
     }
-    if len < first {
-        return 0;
-    }
-    let there = (len - first) / BYTES;
-    if n < there as u64 {
-        return n as usize;
-    }
-    there
+    let there = len.saturating_sub(at / 8 + 1) / BYTES;
+    n.min(there as u64) as usize
 }
 
 // How many of n entries stand before a field that is sought.
