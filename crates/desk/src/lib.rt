@@ -12,6 +12,12 @@ use places::{PLACES, Place, Reply};
 pub mod accepting;
 pub mod asking;
 
+// What asking and dropping are refused by where the row is too short.
+const SHORT: Refusal = Refusal {
+    reason: Reason::Room,
+    bit: 0,
+};
+
 // A packet comes in. Its own refusal comes before that of a row too short.
 pub fn accept(places: &mut [Place], store: &mut [u8], packet: &[u8]) -> Result<Reply, Refusal>
     ensures { Accepts places.old store.old packet.now (replied result) places.new store.new }
@@ -36,7 +42,7 @@ pub fn ask(
     ensures { Asks places.old store.now number notice.old missing.old (replied result) places.new notice.new missing.new }
 {
     if places.len() < PLACES {
-        return Err(Reason::Room.into());
+        return Err(SHORT);
     }
     let four = front(places);
     let asked = crate::asking::ask(&four, store, number, notice, missing)?;
@@ -49,7 +55,7 @@ pub fn drop(places: &mut [Place], store: &[u8], number: u8) -> Result<Reply, Ref
     ensures { Drops places.old store.now number (replied result) places.new }
 {
     if places.len() < PLACES {
-        return Err(Reason::Room.into());
+        return Err(SHORT);
     }
     let four = front(places);
     let dropped = crate::asking::drop(&four, store, number)?;

@@ -1,10 +1,10 @@
 -- `drop` goes by the places by value: the row's first four are read, and the one that may change is stored.
-use mathlib.Core.Path.{◌≡◌, sym, subst, subst₂}
+use mathlib.Core.Path.{◌≡◌, subst₂}
 use Rattle.std.specs.Prelude.{Result, Ok, Err, set}
 use Rattle.format.specs.declared.Refusal.{Refusal}
 use Rattle.places.specs.Places.{place_at}
 use Rattle.places.specs.Promises.{Drops, DropTurn}
-use Rattle.places.specs.Replies.{Refused, turned}
+use Rattle.places.specs.Replies.{turned}
 use Rattle.places.specs.declared.Turn.{Turn}
 use Rattle.places.specs.Laws.Row.{drops_short, drops_row}
 use Rattle.desk.proofs.Ways.{refused_reply, first_stays}
@@ -12,7 +12,7 @@ use Rattle.desk.proofs.drop.Goals.{After-drop}
 use Rattle.desk.proofs.drop.Goals as goal
 
 pub returns-then-places-lt-PLACES : goal.returns-then-places-lt-PLACES
-returns-then-places-lt-PLACES c = let a = c.args in subst (λ v. Drops a.places.now a.store.now a.number (Refused v) a.places.now) (sym c.into.ensures) (drops_short a.places.now a.store.now a.number c.if-places-lt-PLACES.true)
+returns-then-places-lt-PLACES c = let a = c.args in drops_short a.places.now a.store.now a.number c.if-places-lt-PLACES.true
 
 -- what the places by value answer, over the row
 over : (c : After-drop) → (r : Result Turn Refusal) → c.drop.result ≡ r → let a = c.args in let t = turned (place_at a.places.now 0) r in Drops a.places.now a.store.now a.number t.reply (set a.places.now t.at t.place)
