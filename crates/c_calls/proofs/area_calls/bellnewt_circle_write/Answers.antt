@@ -1,8 +1,9 @@
 -- `bellnewt_circle_write` writes the area of the record of its numbers: the signed ones fit, so they stand in it as they are.
 use mir.Syntax.{w32}
 use mir.ValLaws.{to_z-of_z}
+use Rattle.format.specs.Refusals.{told_of}
 use Rattle.c_calls.proofs.area_calls.bellnewt_circle_write.Goals as goal
 
 pub returns : goal.returns
 returns c =
-    (c.written.result, c.packed.ensures, rw (to_z-of_z w32 c.args.longitude c.ranges.longitude, to_z-of_z w32 c.args.latitude c.ranges.latitude) at c.written.ensures)
+    (told_of c.written.result, c.packed.ensures, rw (to_z-of_z w32 c.args.longitude c.ranges.longitude, to_z-of_z w32 c.args.latitude c.ranges.latitude) at c.written.ensures)
