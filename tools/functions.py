@@ -5,7 +5,7 @@ from dataclasses import dataclass, field
 
 HEAD = re.compile(
     r"(?m)^(?P<indent>[ \t]*)(?P<attributes>(?:#\[[^\]]*\]\s*)*)"
-    r"pub\s+(?:const\s+)?(?P<c>extern\s+\"C\"\s+)?fn\s+(?P<name>\w+)\s*\("
+    r"pub\s+(?:const\s+)?(?P<c>extern\s+\"C\"\s+)?fn\s+(?P<name>\w+)\s*(?:<(?:[^()]|\([^()]*\))*?>\s*)?\("
 )
 
 
