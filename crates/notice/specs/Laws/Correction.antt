@@ -1,5 +1,5 @@
 -- The notice with one field changed has the values with that one changed: what may be corrected is no count, no kind and no text, so the row has as many numbers as before. Assumes nothing.
-use Rattle.std.specs.Prelude.{◌≡◌, refl, Bool, true, false, List, [], ◌∷◌, ◌++◌, ℕ, zero, suc, ◌-◌, ◌<◌, leb, length, drop, get_or, set}
+use Rattle.std.specs.Prelude.{◌≡◌, refl, Bool, true, false, cond, List, [], ◌∷◌, ◌++◌, ℕ, zero, suc, ◌-◌, ◌<◌, leb, ltb, length, drop, get_or, set}
 use Rattle.std.proofs.Common.{sym, ap, ◌∙◌, subst, arith, leb-true, leb-false, length-append, length-drop, length-set, take_at}
 use Rattle.std.proofs.Math.ListN.{get_or-append}
 use Rattle.std.proofs.lemmas.List.{set-append_left}
@@ -7,7 +7,7 @@ use Rattle.bits.specs.Bits.{Bytes}
 use Rattle.format.specs.Fmt.{end, Spot, none, found, spot}
 use Rattle.format.specs.Laws.Correct.{none_clash}
 use Rattle.format.specs.Laws.Past.{Past, past_filled, past_found, filled_set}
-use Rattle.format.specs.Laws.Spots.{spots_along, spot_along}
+use Rattle.format.specs.Laws.Spots.{spots_along, spot_along, Unnamed, unnamed}
 use Rattle.format.specs.Laws.Groups.{told_exact, exact_told}
 use Rattle.notice_fields.specs.Laws.Instances.{some_areas}
 use Rattle.notice_fields.specs.Row.{areas_long, areas_told}
@@ -32,6 +32,10 @@ unfolding notice spots_along
 head_stands terms r us i l =
     let before = r.count ∷ r.expiry ∷ r.subtype ∷ r.kind ∷ r.year ∷ r.serial ∷ r.station ∷ r.source ∷ [] in
     spot_along (notice terms) (headed r us) i ∙ get_or-append spots (spots_along (rest terms r.count) before us 63) none i l
+
+-- a number that names none of them is one behind it, or finds nothing
+pub not_head : (i : ℕ) (x : Spot) → Unnamed Unit spots 0 i → cond (ltb i 8) (get_or spots i none) x ≡ cond (ltb i 8) none x
+not_head i x z = ap (λ y. cond (ltb i 8) y x) (unnamed spots i z)
 
 -- nothing that may be corrected stands behind the areas
 unplaced : (l : List Spot) (i : ℕ) → get_or (l ++ (none ∷ none ∷ [])) i none ≡ get_or l i none
