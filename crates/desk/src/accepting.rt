@@ -20,10 +20,7 @@ pub fn accept(places: &[Place; PLACES], store: &mut [u8], packet: &[u8]) -> Resu
     places::first_tests(places, store)?;
     let content = &packet[Packet::CONTENT..];
     match places::open_at(places, r.number) {
-        Some(i) => {
-            let p = places::place_at(places, i);
-            placing::join(places[0], i, p, store, r, content)
-        },
+        Some(i) => placing::join(places, i, store, r, content),
         None => placing::begin(places, store, r, content),
     }
 }

@@ -10,18 +10,18 @@ use format::{Reason, Refusal};
 use packet::{JOINED, MOST, PART, Packet};
 use places::{PLACES, Place, Reply, Turn};
 
-// The packet's notice is open in place `i`, which is `p`.
+// The packet's notice is open in place `i`.
 pub(crate) fn join(
-    first: Place,
+    places: &[Place; PLACES],
     i: usize,
-    p: Place,
     store: &mut [u8],
     r: Packet,
     content: &[u8],
 ) -> Result<Turn, Refusal>
-    requires { (i < four_places) × (store_bytes ≤ length store.old) × (held p r.own ≤ part_bytes_of) × (r.own < most_packets) × (length content.now ≤ part_bytes_of) }
-    ensures { Gives first (joins store.old i p r content.now) (turned first result) store.new }
+    requires { (i < four_places) × (store_bytes ≤ length store.old) × (held (place_at places.now i) r.own ≤ part_bytes_of) × (r.own < most_packets) × (length content.now ≤ part_bytes_of) }
+    ensures { Gives (place_at places.now 0) (joins store.old i (place_at places.now i) r content.now) (turned (place_at places.now 0) result) store.new }
 {
+    let p = &places[i];
     if !agrees(r, p) {
         return Err(Reason::Contradicts.into());
     }
@@ -32,19 +32,19 @@ pub(crate) fn join(
         places::lay(store, at, content);
         return Ok(Turn {
             at: i,
-            place: holding(p, own, content.len() as u8),
+            place: holding(*p, own, content.len() as u8),
             reply: Reply::Done,
         });
     }
     if same(&store[at..at + size], content) {
-        return Ok(Turn::staying(first, Reply::Again));
+        return Ok(Turn::staying(places[0], Reply::Again));
     }
     Err(Reason::Contradicts.into())
 }
 
 // Whether the packet has the language and the total of its notice.
-fn agrees(r: Packet, p: Place) -> bool
-    ensures { result ≡ (eqb r.language p.language && eqb r.total p.total) }
+fn agrees(r: Packet, p: &Place) -> bool
+    ensures { result ≡ (eqb r.language p.now.language && eqb r.total p.now.total) }
 {
     r.language == p.language && r.total == p.total
 }

@@ -1,5 +1,5 @@
 -- `accept` meets its contract: the packet, the first tests, then the way to its notice.
-use mathlib.Core.Path.{◌≡◌, refl, sym, ap, ◌∙◌, subst, subst₂}
+use mathlib.Core.Path.{◌≡◌, refl, sym, ◌∙◌, subst}
 use mathlib.Core.List.{List}
 use Prim.Native.Nat.{ℕ, ◌-◌, ◌≤◌, ◌<◌}
 use borrow.Author.Rules.{rules}
@@ -14,11 +14,11 @@ use Rattle.places.specs.Places.{place_at, open_at, held, four_places}
 use Rattle.places.specs.Desk.{joins, turned_away}
 use Rattle.places.specs.Replies.{turned}
 use Rattle.places.specs.Promises.{Gives}
-use Rattle.places.specs.Laws.Four.{last_of_four, settled, one_some, one_none}
+use Rattle.places.specs.Laws.Four.{settled, one_some, one_none}
 use Rattle.packet.specs.Laws.Accepted.{Fit, read_good}
 use Rattle.places.specs.Laws.Good.{open_sized, tests_passed}
 use Rattle.desk.proofs.Ways.{refused_turn, handed_on, tests_turn, of_four, refused_packet, refused_tests, joins_open, opens_free}
-use Rattle.desk.proofs.accepting.accept.Goals.{After-place_at-p, In_ok-r}
+use Rattle.desk.proofs.accepting.accept.Goals.{In-Some, In_ok-r}
 use Rattle.desk.proofs.accepting.accept.Goals as goal
 
 -- ---- what is known of a packet that was read well
@@ -54,37 +54,31 @@ slice_bounds-content-count c = omega (arith, (good (goal.at.slice_bounds-content
 pub slice_bounds-content-start : goal.slice_bounds-content-start
 slice_bounds-content-start c = omega (arith, (good (goal.at.slice_bounds-content-start c).In_ok-r).0)
 
--- the open place of the packet's number, and which it is
-here : (k : After-place_at-p) → let a = k.args in let n = open_at a.places.now k.in_ok-r.r.number in (k.in-Some.i ≡ n) × (n < four_places) × (k.place_at-p.result ≡ place_at a.places.now n)
-here k =
-    let (there, low) = one_some k.in-Some.i (open_at k.args.places.now k.in_ok-r.r.number) (sym k.in-Some.is ∙ k.open_at.ensures) in
-    (there, low, k.place_at-p.ensures ∙ ap (place_at k.args.places.now) (last_of_four k.in-Some.i (omega (arith, there, low)) ∙ there))
+-- the open place of the packet's number
+here : (k : In-Some) → let n = open_at k.args.places.now k.in_ok-r.r.number in (k.in-Some.i ≡ n) × (n < four_places)
+here k = one_some k.in-Some.i (open_at k.args.places.now k.in_ok-r.r.number) (sym k.in-Some.is ∙ k.open_at.ensures)
 
 pub join-requires : goal.join-requires
 join-requires c =
-    let k = (goal.at.join-requires c).After-place_at-p in
     let a = c.args in
     let r = c.in_ok-r.r in
     let fit = (good (goal.at.join-requires c).In_ok-r).2 in
-    let zero = sym c.in_ok-first_tests.ensures in
-    let (deep, good) = tests_passed a.places.now a.store.now zero in
-    let (there, low, is) = here k in
+    let (deep, good) = tests_passed a.places.now a.store.now (sym c.in_ok-first_tests.ensures) in
+    let (there, low) = here (goal.at.join-requires c).In-Some in
     let sized = open_sized a.places.now r.number good low in
     let own = fit.own in
     let total = fit.total in
-    (omega (arith, there, low), deep, subst (λ p. held p r.own ≤ part_bytes_of) (sym is) (sized.small r.own (omega arith)), omega arith, fit.few)
+    (omega (arith, there, low), deep, subst (λ i. held (place_at a.places.now i) r.own ≤ part_bytes_of) (sym there) (sized.small r.own (omega arith)), omega arith, fit.few)
 
 pub returns-in-Some : goal.returns-in-Some
 returns-in-Some c =
-    let k = (goal.at.returns-in-Some c).After-place_at-p in
     let m = (goal.at.returns-in-Some c).In_ok-r in
     let a = c.args in
     let r = c.in_ok-r.r in
     let (long, reads, fit) = good m in
-    let zero = sym c.in_ok-first_tests.ensures in
-    let (there, low, is) = here k in
-    of_four a.places.now a.store.now a.packet.now _ _ _ (joins_open a.places.now a.store.now a.packet.now r (content m) reads (search rules) zero low)
-    (subst₂ (λ i p. Gives (place_at a.places.now 0) (joins a.store.now i p r (content m)) (turned (place_at a.places.now 0) c.join.result) c.join.new.store) there is c.join.ensures)
+    let (there, low) = here (goal.at.returns-in-Some c).In-Some in
+    of_four a.places.now a.store.now a.packet.now _ _ _ (joins_open a.places.now a.store.now a.packet.now r (content m) reads (search rules) (sym c.in_ok-first_tests.ensures) low)
+    (subst (λ i. Gives (place_at a.places.now 0) (joins a.store.now i (place_at a.places.now i) r (content m)) (turned (place_at a.places.now 0) c.join.result) c.join.new.store) there c.join.ensures)
 
 pub begin-requires : goal.begin-requires
 begin-requires c =
