@@ -8,7 +8,8 @@ use format::Refusal;
 use warning::Warning;
 use warning::bodies::Body;
 
-// A body's numbers in the paper's order, and 0 where the body has no more.
+// A body's numbers in the paper's order, and 0 where the body has no more. By name and not in an array: each goes to an entry of the
+// row, which C names too.
 #[derive(Clone, Copy)]
 struct Seven {
     first: u16,

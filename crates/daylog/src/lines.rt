@@ -29,7 +29,7 @@ pub fn line(
     at
 }
 
-// The number and the bit of a call's outcome.
+// The number and the bit of a call's outcome: from here on they are what the line shows, and no refusal.
 fn told(outcome: Result<(), Refusal>) -> (u8, usize)
     ensures { (result.0 ≡ (told_of outcome).code) × (result.1 ≡ (told_of outcome).bit) }
 {

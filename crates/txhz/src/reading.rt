@@ -21,7 +21,7 @@ pub struct Receipt {
     pub receipt_minute: u8,
 }
 
-// All five receipts, those past the count too.
+// All five receipts, those past the count too. By name, as C has them: an array would be taken apart again where it is read and written.
 #[derive(Clone, Copy)]
 pub struct Txhz {
     pub address: u32,

@@ -70,7 +70,7 @@ pub enum Body {
 }
 
 impl Body {
-    // Its warning type.
+    // Its warning type: an enum whose cases carry values has no cast to a number.
     pub fn kind(self) -> u8
         ensures { result ≡ type_of (body_kind self) }
     {
@@ -84,7 +84,8 @@ impl Body {
     }
 }
 
-// ---- reading
+// ---- reading: each body by the paragraph of its own; those alike in shape differ in names, widths and limits, which one function
+// over a table of numbers would hide
 
 // The body of a warning of type `kind`, and the walk past it; one of no type is read as the last.
 pub(crate) fn read(s: &[u8], kind: u64, w: Walk) -> (Walk, Body)

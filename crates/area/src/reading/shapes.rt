@@ -30,7 +30,7 @@ pub enum Shape {
 }
 
 impl Shape {
-    // Its number in the message.
+    // Its number in the message: an enum whose cases carry values has no cast to a number.
     pub fn kind(self) -> u8
         ensures { result ≡ type_of (shape_kind self) }
     {
