@@ -1,4 +1,4 @@
--- A packet's ways to its notice, where the four places are ps, and what is answered where the row of places is too short.
+-- What a refusal that is handed on leaves; a packet's ways to its notice, where the four places are ps; what is answered where the row of places is too short.
 use mathlib.Core.Path.{◌≡◌, refl, sym, ap, ◌∙◌}
 use mathlib.Core.Bool.{cond}
 use mathlib.Core.List.{List, [], ◌∷◌}
@@ -39,10 +39,11 @@ pub refused_reply : (x : Result Reply Refusal) (f : Refusal) → IsErrAnd x (λ 
 refused_reply (Ok a) f h = absurd h
 refused_reply (Err g) f h = ap (λ f. Refused (seen_refusal f)) (sym h)
 
--- and where the tests refuse, or the row of places is read from its front
+-- the same where the first tests refuse
 pub tests_turn : (p : Place) (x : Result Handed Refusal) (r : Reason) (n : ℕ) → IsErrAnd x (λ f. seen_refusal f ≡ bare (number r)) → number r ≡ n → turned p x ≡ turn_of (p ∷ []) (Refused (bare n)) stays
 tests_turn p x r n h e = refused_turn p x (bare (number r)) h ∙ ap (λ n. turn_of (p ∷ []) (Refused (bare n)) stays) e
 
+-- storing the first place again changes nothing
 pub first_stays : (ps : List Place) → set ps 0 (place_at ps 0) ≡ ps
 first_stays ps = set-get_or ps 0 blank
 
