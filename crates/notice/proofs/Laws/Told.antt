@@ -1,5 +1,5 @@
 -- The record of a head's, areas' and text's values is these; the three ways in which reading answers; and what the walk over a notice is: reading's answer. Assumes nothing.
-use Rattle.std.specs.Prelude.{◌≡◌, ◌≤◌, Bool, Result, List, [], ◌++◌, ℕ, ltb, length, get_or}
+use Rattle.std.specs.Prelude.{◌≡◌, ◌≤◌, Bool, Result, List, [], ◌++◌, ℕ, leb, ltb, length, get_or}
 use Rattle.std.proofs.Math.Path.{refl, sym, subst⁻¹}
 use Rattle.std.proofs.Common.{ap, ◌∙◌, ltb-true, eqb-true, le-leb}
 use Rattle.std.proofs.Math.Bool.{true, false, cond}
@@ -7,7 +7,7 @@ use native.Mathlib.Omega.{arith}
 use Rattle.std.proofs.Math.Dec.{eqb}
 use Rattle.std.proofs.lemmas.Bool.{eqb-false}
 use Rattle.format.specs.Fmt.{accepted, refused, check, also, none, spot}
-use Rattle.format.specs.Message.{fault, told as Message·told, read_message}
+use Rattle.format.specs.Message.{between, fault, told as Message·told, read_message}
 use Rattle.format.specs.Promises.{read_record}
 use Rattle.format.specs.Refusals.{Verdict, shown, told_of}
 use Rattle.format.specs.declared.Refusal.{Refusal}
@@ -15,7 +15,7 @@ use Rattle.bits.specs.Bits.{bytes_at}
 use Rattle.bits.specs.Laws.Runs.{bytes_run}
 use Rattle.format.specs.Correcting.{standing}
 use Rattle.format.specs.Laws.Round.{accepted_inj}
-use Rattle.format.specs.Laws.Lead.{read_first, held_back}
+use Rattle.format.specs.Laws.Lead.{read_first, read_led, held_back}
 use Rattle.walk.specs.Walk.{begun}
 use Rattle.walk.specs.Laws.Step.{clear, stuck}
 use Rattle.walk.specs.Laws.Walked.{same_values}
@@ -110,6 +110,13 @@ module _ (english : Bool) (i : ℕ) (s : List ℕ) (f : Course) (d : f ≡ cours
       go : f.walk.code ≡ 0 → (b : Bool) → ltb i 8 ≡ b → spot (notice (ours english)) [] whole i ≡ cond b (get_or spots i none) (standing f.walk.spot f.walk.width)
       go c true e = head_stands (ours english) f.notice _ i (ltb-true i 8 e)
       go c false e = x.walked.spots c
+
+  -- what was read has a good size, and so has all that is as long
+  pub fields_again : f.walk.code ≡ 0 → (t : List ℕ) → length t ≡ length s → read_message (notices (ours english)) t ≡ fields_read english t
+  unfolding notices
+  fields_again z t e =
+      let size : sizes s ≡ 0 = read_led (notices (ours english)) s (sym walked_code ∙ z) in
+      read_on english t (ap (λ n. cond (leb 8 n) (cond (between 8 joined n) 0 1) 1) e ∙ size)
 
 -- what reads the fields of a message of a good size tells what their reading does
 pub fields_told : (english : Bool) (t : List ℕ) (d : Result Declared Refusal) → 8 ≤ length t → length t ≤ joined → Gives (course_of english 0 t) d → told_of d ≡ Message·told (fields_read english t)

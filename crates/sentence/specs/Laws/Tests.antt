@@ -192,6 +192,21 @@ module _ (ds : List ℕ) where
   unfolding address_like
   address_digits l z e = rw (e, ne_eqb (get_or ds 0 0) 48 z, le-leb 1 (spelt 0 ds) (spelt_some ds l e z)) refl
 
+-- where a number is 0 for none: 0 is no address
+pub address_none : (ds : List ℕ) (n : ℕ) → n ≡ cond (address_like ds) (spelt 0 ds) 0 → n ≡ 0 → address_like ds ≡ false
+address_none ds n e z = go (address_like ds) refl e
+  where
+    go : (x : Bool) → address_like ds ≡ x → n ≡ cond x (spelt 0 ds) 0 → address_like ds ≡ false
+    go false f e = f
+    go true f e = absurd (omega (arith, (addressed ds f).least))
+
+pub address_some : (ds : List ℕ) (n : ℕ) → n ≡ cond (address_like ds) (spelt 0 ds) 0 → (n ≡ 0 → ⊥) → (address_like ds ≡ true) × (n ≡ spelt 0 ds)
+address_some ds n e z = go (address_like ds) refl e
+  where
+    go : (x : Bool) → address_like ds ≡ x → n ≡ cond x (spelt 0 ds) 0 → (address_like ds ≡ true) × (n ≡ spelt 0 ds)
+    go false f e = absurd (z e)
+    go true f e = (f, e)
+
 pub pattern_is : (s : List ℕ) {x y z : Bool} → same_bytes (inner_part s) inner_mark ≡ x → all_digits 16 (hex_part s) ≡ y → address_like (address_part s) ≡ z
     → pattern_like s ≡ x && (y && z)
 unfolding pattern_like
