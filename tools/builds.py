@@ -84,16 +84,17 @@ def parts(path, text):
     module = re.sub(r"(^|/)(lib|main|mod)$", "", path.split("/src/")[1][:-3]).replace("/", "::")
     text = re.sub(r"(?s)/\*.*?\*/", "", re.sub(r"(?m)//.*$", "", text))
     found, done, kind, kind_end = {"": ""}, 0, "", 0
-    for head in re.finditer(r"\bimpl(?:<[^>]*>)? (\w+)[^{]*\{|\bfn (\w+)", text):
+    for head in re.finditer(r"\bimpl(?:<[^>]*>)? (\w+)(?:<(\w+)>)?(?: for (\w+))?[^{]*\{|\bfn (\w+)", text):
         if head[1]:
-            kind, kind_end = head[1], closing(text, head.end() - 1)
+            # a trait's functions stand below the type, the trait and what it is of: RefusalFromReason
+            kind, kind_end = (head[3] or "") + head[1] + (head[2] or "" if head[3] else ""), closing(text, head.end() - 1)
         elif done <= head.start():
             brace = text.index("{", head.end())
             while re.search(r"\b(requires|ensures|ghost)(\s+\w+)?\s*$", text[head.end() : brace]):
                 brace = text.index("{", closing(text, brace))
             found[""] += text[done:brace]
             done = closing(text, brace)
-            found[(module, kind if head.start() < kind_end else "", head[2])] = text[brace:done]
+            found[(module, kind if head.start() < kind_end else "", head[4])] = text[brace:done]
     found[""] += text[done:]
     # A private constant that one function alone names is a part of that function's body.
     alone = () if re.search(r"(?m)^(pub )?mod ", text) else re.finditer(r"(?m)^const (\w+): [^=]*= [^;]*;", text)
