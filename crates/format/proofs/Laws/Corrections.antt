@@ -23,7 +23,7 @@ use Rattle.format.proofs.Laws.Zero.{read_zero_message}
 use Rattle.format.specs.Laws.Corrections.{inside}
 
 -- The fields of a message that has a good size are not refused for theirs.
-good_size : (l : Layout) (t : List ℕ) → l.least ≤ length t → length t ≤ l.most
+pub good_size : (l : Layout) (t : List ℕ) → l.least ≤ length t → length t ≤ l.most
     → fields_of l.fmt (inside l.seal l.least) (inside l.seal l.most) (body l.seal t) ≡ read l.fmt [] 0 (bits_of (body l.seal t))
 good_size l t least most = sized_fields l.fmt (inside l.seal l.least) (inside l.seal l.most) (body l.seal t) (go l.seal).0 (go l.seal).1
   where
@@ -68,13 +68,17 @@ module _ {l : Layout} {R A : Type 0} {Lent : R → Type 0} {values_of : R → Li
 
 -- ---- the same, as the code does it: what reading refuses is handed on, and the rest is `InPlace`
 
--- what reading told of s, by its answer
-read_told : {R : Type 0} (l : Layout) (record_of : List ℕ → R) (s : List ℕ) {o : Out R} → o ≡ plain (read_record l record_of s) → verdict_of o ≡ told (read_message l s)
-read_told l record_of s e = ap verdict_of e ∙ numbered accepted refused_by record_of verdict_of (λ r. refl) (λ c. refl) (read_message l s)
+-- what a reading tells, by its answer, whatever the record that it makes
+pub outcome_told : {R : Type 0} (record_of : List ℕ → R) (o : Out (List ℕ)) {x : Out R} → x ≡ plain (also record_of o) → verdict_of x ≡ told o
+outcome_told record_of o e = ap verdict_of e ∙ numbered accepted refused_by record_of verdict_of (λ r. refl) (λ c. refl) o
+
+-- where it was refused, and its refusal was handed on
+pub exit_told : {R A : Type 0} (record_of : List ℕ → R) (o : Out (List ℕ)) (x : Result A Refusal) (f : Refusal) → IsErrAnd x (λ g. g ≡ f) → refused_by (seen_refusal f) ≡ plain (also record_of o) → told_of x ≡ told o
+exit_told record_of o x f h e = told_exit x f h ∙ outcome_told record_of o e
 
 pub family_exit : {R : Type 0} (l : Layout) (record_of : List ℕ → R) (s : List ℕ) (i v : ℕ) {A : Type 0} (x : Result A Refusal) (f : Refusal) → IsErrAnd x (λ g. g ≡ f) → refused_by (seen_refusal f) ≡ plain (read_record l record_of s)
     → Corrects l s i v (told_of x) s
-family_exit l record_of s i v x f h e = subst (λ c. Corrects l s i v c s) (sym (told_exit x f h)) (own_refusal l s i v (read_told l record_of s e) (number_some f.reason))
+family_exit l record_of s i v x f h e = subst (λ c. Corrects l s i v c s) (sym (told_exit x f h)) (own_refusal l s i v (outcome_told record_of (read_message l s) e) (number_some f.reason))
 
 -- The record r of s was read, and its field i stands at p; the fields anew tell what their reading tells.
 pub family_in_place : {l : Layout} {R : Type 0} {Lent : R → Type 0} {values_of : R → List ℕ} {record_of : List ℕ → R} {changed : ℕ → ℕ → R → R} (F : Family l R Lent values_of record_of changed)
@@ -88,7 +92,7 @@ family_in_place {l} {R} {Lent} {values_of} {record_of} {changed} F s fine i v p 
     a = admitted (bare 0) p w v
 
     reads : bare 0 ≡ told (read_message l s)
-    reads = read_told l record_of s good
+    reads = outcome_told record_of (read_message l s) good
 
     found_so : (vs : List ℕ) → read_message l s ≡ accepted vs → spot l.fmt [] vs i ≡ standing p w
     found_so vs e = rw (← record_values F s vs e) (stands (record_of vs) (ap (also record_of) e))
@@ -116,8 +120,8 @@ family_in_place {l} {R} {Lent} {values_of} {record_of} {changed} F s fine i v p 
 pub fields_told : {R : Type 0} (l : Layout) (record_of : List ℕ → R) (t : List ℕ) (x : Result R Refusal) → l.least ≤ length t → length t ≤ l.most
     → out_of x ≡ plain (also record_of (fields_of l.fmt (inside l.seal l.least) (inside l.seal l.most) (body l.seal t))) → told_of x ≡ told (read l.fmt [] 0 (bits_of (body l.seal t)))
 fields_told l record_of t x least most e =
-    told_out x ∙ ap verdict_of e ∙ numbered accepted refused_by record_of verdict_of (λ r. refl) (λ c. refl) (fields_of l.fmt (inside l.seal l.least) (inside l.seal l.most) (body l.seal t)) ∙ ap told (good_size l t least most)
+    told_out x ∙ outcome_told record_of (fields_of l.fmt (inside l.seal l.least) (inside l.seal l.most) (body l.seal t)) e ∙ ap told (good_size l t least most)
 
 -- and where they are read whatever it is
 pub fields_told_at_once : {R : Type 0} (l : Layout) (record_of : List ℕ → R) (t : List ℕ) (x : Result R Refusal) → out_of x ≡ plain (also record_of (read l.fmt [] 0 (bits_of t))) → told_of x ≡ told (read l.fmt [] 0 (bits_of t))
-fields_told_at_once l record_of t x e = told_out x ∙ ap verdict_of e ∙ numbered accepted refused_by record_of verdict_of (λ r. refl) (λ c. refl) (read l.fmt [] 0 (bits_of t))
+fields_told_at_once l record_of t x e = told_out x ∙ outcome_told record_of (read l.fmt [] 0 (bits_of t)) e
