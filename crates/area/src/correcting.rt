@@ -9,7 +9,7 @@ ghost use Rattle.area.specs.Changed.{spot_of, own_spot, field_of};
 ghost use Rattle.area.specs.Shapes.{circle, rectangle, kind_of};
 
 use crate::reading::{Area, fields, read};
-use change::correcting::in_place;
+use change::correcting::{Rereads, in_place};
 use format::Refusal;
 use walk::walk::Spot;
 
@@ -50,7 +50,22 @@ pub fn correct(buf: &mut [u8], field: usize, value: u64) -> Result<(), Refusal>
 {
     read(buf)?;
     let spot = stands(bits::get(buf, 92, 2), field);
-    in_place(buf, false, spot, value, fields)
+    in_place(buf, false, spot, value, &Fields)
+}
+
+// The fields, read anew behind the change.
+struct Fields;
+
+impl Rereads for Fields {
+    ghost use Rattle.format.specs.Message.{fields_of, told};
+    ghost use Rattle.area.specs.Area.{area};
+
+    ghost tells = { λ it s. told (fields_of area 31 31 s) };
+
+    fn reread(&self, s: &[u8]) -> Result<(), Refusal> {
+        fields(s)?;
+        Ok(())
+    }
 }
 
 // Where each field that may be corrected stands in an area whose shape has the number `kind`, and its width.

@@ -7,7 +7,7 @@ ghost use Rattle.format.specs.Refusals.{told_of};
 ghost use Rattle.walk.specs.Walk.{at_of, width_of};
 
 use crate::reading::{Report, fields, read};
-use change::correcting::in_place;
+use change::correcting::{Rereads, in_place};
 use format::Refusal;
 use walk::walk::Spot;
 
@@ -39,7 +39,22 @@ pub fn correct(buf: &mut [u8], field: usize, value: u64) -> Result<(), Refusal>
 {
     read(buf)?;
     let spot = stands(field);
-    in_place(buf, false, spot, value, fields)
+    in_place(buf, false, spot, value, &Fields)
+}
+
+// The fields, read anew behind the change.
+struct Fields;
+
+impl Rereads for Fields {
+    ghost use Rattle.distress.specs.Report.{report};
+    ghost use Rattle.format.specs.Message.{fields_of, told};
+
+    ghost tells = { λ it s. told (fields_of report 17 17 s) };
+
+    fn reread(&self, s: &[u8]) -> Result<(), Refusal> {
+        fields(s)?;
+        Ok(())
+    }
 }
 
 // Where each field that may be corrected stands in every report, and its width.

@@ -7,7 +7,7 @@ ghost use Rattle.gljc.specs.Changed.{spot_of};
 ghost use Rattle.gljc.specs.Gljc.{gljcs};
 
 use crate::reading::{Gljc, fields, read};
-use change::correcting::in_place;
+use change::correcting::{Rereads, in_place};
 use format::Refusal;
 use walk::walk::Spot;
 
@@ -24,7 +24,22 @@ pub fn correct(buf: &mut [u8], field: usize, value: u64) -> Result<(), Refusal>
 {
     read(buf)?;
     let spot = stands(field);
-    in_place(buf, true, spot, value, fields)
+    in_place(buf, true, spot, value, &Fields)
+}
+
+// The fields, read anew behind the change.
+struct Fields;
+
+impl Rereads for Fields {
+    ghost use Rattle.format.specs.Message.{fields_of, told};
+    ghost use Rattle.gljc.specs.Gljc.{gljc};
+
+    ghost tells = { λ it s. told (fields_of gljc 11 11 s) };
+
+    fn reread(&self, s: &[u8]) -> Result<(), Refusal> {
+        fields(s)?;
+        Ok(())
+    }
 }
 
 // Where each field that may be corrected stands in every frame, and its width.

@@ -7,7 +7,7 @@ ghost use Rattle.packet.specs.Changed.{spot_of};
 ghost use Rattle.packet.specs.Packet.{packets};
 
 use crate::reading::{Packet, fields, read};
-use change::correcting::in_place;
+use change::correcting::{Rereads, in_place};
 use format::Refusal;
 use walk::walk::Spot;
 
@@ -28,7 +28,22 @@ pub fn correct(buf: &mut [u8], field: usize, value: u64) -> Result<(), Refusal>
 {
     read(buf)?;
     let spot = stands(field);
-    in_place(buf, false, spot, value, fields)
+    in_place(buf, false, spot, value, &Fields)
+}
+
+// The fields, read anew behind the change.
+struct Fields;
+
+impl Rereads for Fields {
+    ghost use Rattle.format.specs.Message.{fields_of, told};
+    ghost use Rattle.packet.specs.Packet.{packet, greatest};
+
+    ghost tells = { λ it s. told (fields_of packet 5 greatest s) };
+
+    fn reread(&self, s: &[u8]) -> Result<(), Refusal> {
+        fields(s)?;
+        Ok(())
+    }
 }
 
 // Where each field that may be corrected stands in every packet, and its width. Code, version and content may not be.

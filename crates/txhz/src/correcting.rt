@@ -9,7 +9,7 @@ ghost use Rattle.txhz.specs.Changed.{spots};
 ghost use Rattle.txhz.specs.Txhz.{txhzs};
 
 use crate::reading::{Txhz, fields, read};
-use change::correcting::in_place;
+use change::correcting::{Rereads, in_place};
 use format::Refusal;
 use walk::walk::Spot;
 
@@ -31,7 +31,22 @@ pub fn correct(buf: &mut [u8], field: usize, value: u64) -> Result<(), Refusal>
 {
     let was = read(buf)?;
     let spot = stands(was.count, field);
-    in_place(buf, true, spot, value, fields)
+    in_place(buf, true, spot, value, &Fields)
+}
+
+// The fields, read anew behind the change.
+struct Fields;
+
+impl Rereads for Fields {
+    ghost use Rattle.format.specs.Message.{fields_of, told};
+    ghost use Rattle.txhz.specs.Txhz.{txhz};
+
+    ghost tells = { λ it s. told (fields_of txhz 34 34 s) };
+
+    fn reread(&self, s: &[u8]) -> Result<(), Refusal> {
+        fields(s)?;
+        Ok(())
+    }
 }
 
 // Where each field that may be corrected stands in a frame that counts `count` receipts, and its width.

@@ -9,7 +9,7 @@ ghost use Rattle.txxx.specs.Changed.{spot_by};
 ghost use Rattle.txxx.specs.Txxx.{txxxs};
 
 use crate::reading::{Txxx, fields, read};
-use change::correcting::in_place;
+use change::correcting::{Rereads, in_place};
 use format::Refusal;
 use walk::walk::Spot;
 
@@ -34,7 +34,25 @@ pub fn correct(buf: &mut [u8], field: usize, value: u64) -> Result<(), Refusal>
 {
     read(buf)?;
     let spot = stands(mark(buf.len()), field);
-    in_place(buf, true, spot, value, fields)
+    in_place(buf, true, spot, value, &Fields)
+}
+
+// The fields, read anew behind the change.
+struct Fields;
+
+impl Rereads for Fields {
+    ghost use Rattle.std.specs.Prelude.{[]};
+    ghost use Rattle.bits.specs.Bits.{bits_of};
+    ghost use Rattle.format.specs.Fmt.{read as Fmt·read};
+    ghost use Rattle.format.specs.Message.{told};
+    ghost use Rattle.txxx.specs.Txxx.{txxx};
+
+    ghost tells = { λ it s. told (Fmt·read txxx [] 0 (bits_of s)) };
+
+    fn reread(&self, s: &[u8]) -> Result<(), Refusal> {
+        fields(s)?;
+        Ok(())
+    }
 }
 
 // Where each field that may be corrected stands in a frame whose mark stands at bit `mark`, and its width. Bit length, content and fill may not be.

@@ -9,7 +9,7 @@ ghost use Rattle.warning.specs.Warning.{warnings};
 ghost use Rattle.warning.specs.Changed.{spot_of, own_spot, field_of};
 
 use crate::reading::{Warning, fields, read};
-use change::correcting::in_place;
+use change::correcting::{Rereads, in_place};
 use format::Refusal;
 use walk::walk::Spot;
 
@@ -74,7 +74,22 @@ pub fn correct(buf: &mut [u8], field: usize, value: u64) -> Result<(), Refusal>
 {
     read(buf)?;
     let spot = stands(bits::get(buf, 56, 4), field);
-    in_place(buf, false, spot, value, fields)
+    in_place(buf, false, spot, value, &Fields)
+}
+
+// The fields, read anew behind the change.
+struct Fields;
+
+impl Rereads for Fields {
+    ghost use Rattle.format.specs.Message.{fields_of, told};
+    ghost use Rattle.warning.specs.Warning.{warning};
+
+    ghost tells = { λ it s. told (fields_of warning 23 23 s) };
+
+    fn reread(&self, s: &[u8]) -> Result<(), Refusal> {
+        fields(s)?;
+        Ok(())
+    }
 }
 
 // Where each field that may be corrected stands in a warning of type `kind`, and its width.

@@ -1,9 +1,7 @@
 -- `correct` is the correction in place of every family, with the report's fields read before and behind the change and where `stands` found the field.
-use Rattle.format.specs.Fmt.{also}
-use Rattle.format.specs.Message.{fields_of}
-use Rattle.format.specs.Promises.{plain}
-use Rattle.format.proofs.Laws.Corrections.{family_exit, family_in_place, fields_told}
-use Rattle.distress.specs.Report.{report, reports, report_of}
+use Rattle.format.specs.Message.{told}
+use Rattle.format.proofs.Laws.Corrections.{family_exit, family_in_place, good_size}
+use Rattle.distress.specs.Report.{reports, report_of}
 use Rattle.distress.specs.Laws.Correction.{spotted}
 use Rattle.distress.proofs.Laws.Demands.{family}
 use Rattle.std.proofs.Common.{ap, ◌∙◌}
@@ -23,4 +21,4 @@ returns c =
     let (there, slim) = c.stands-spot.ensures in
     family_in_place family a.buf.now (λ i. (c.slice_known-1.given i).fits) a.field a.value _ _ _ c.in_ok-read.ensures
     (λ r e. spotted r a.field ∙ there) slim
-    (λ t d least most z. fields_told reports report_of t d least most (z.1 ∙ ap (λ b. plain (also report_of (fields_of report 17 17 b))) z.2)) c.in_place.ensures
+    (λ t d least most z. z ∙ ap told (good_size reports t least most)) c.in_place.ensures

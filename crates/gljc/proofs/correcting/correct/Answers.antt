@@ -1,10 +1,8 @@
 -- `correct` is the correction in place of every family, with the frame's fields read before and behind the change and where `stands` found the field.
 use Rattle.std.proofs.Common.{ap, ◌∙◌}
-use Rattle.format.specs.Fmt.{also}
-use Rattle.format.specs.Message.{fields_of}
-use Rattle.format.specs.Promises.{plain}
-use Rattle.format.proofs.Laws.Corrections.{family_exit, family_in_place, fields_told}
-use Rattle.gljc.specs.Gljc.{gljc, gljcs, record_of}
+use Rattle.format.specs.Message.{told}
+use Rattle.format.proofs.Laws.Corrections.{family_exit, family_in_place, good_size}
+use Rattle.gljc.specs.Gljc.{gljcs, record_of}
 use Rattle.gljc.specs.Laws.Correction.{spotted}
 use Rattle.gljc.specs.Laws.Demands.{family}
 use Rattle.gljc.proofs.correcting.correct.Goals as goal
@@ -23,4 +21,4 @@ returns c =
     let (there, slim) = c.stands-spot.ensures in
     family_in_place family a.buf.now (λ i. (c.slice_known-1.given i).fits) a.field a.value _ _ _ c.in_ok-read.ensures
     (λ r e. spotted r a.field ∙ there) slim
-    (λ t d least most z. fields_told gljcs record_of t d least most (z.1 ∙ ap (λ b. plain (also record_of (fields_of gljc 11 11 b))) z.2)) c.in_place.ensures
+    (λ t d least most z. z ∙ ap told (good_size gljcs t least most)) c.in_place.ensures

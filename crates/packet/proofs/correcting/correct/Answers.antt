@@ -1,11 +1,11 @@
 -- `correct` is the correction in place of every family, with the packet's fields read before and behind the change and where `stands` found the field.
 use Rattle.std.proofs.Common.{sym, refl, ap, ◌∙◌}
-use Rattle.format.specs.Fmt.{accepted, also}
-use Rattle.format.specs.Message.{read_message, fields_of}
+use Rattle.format.specs.Fmt.{accepted}
+use Rattle.format.specs.Message.{told, read_message}
 use Rattle.format.specs.Promises.{read_record, refused_by, plain}
 use Rattle.format.specs.Laws.Answers.{good_accepts}
-use Rattle.format.proofs.Laws.Corrections.{family_exit, family_in_place, fields_told}
-use Rattle.packet.specs.Packet.{greatest, packet, packets, record_of, answer_of}
+use Rattle.format.proofs.Laws.Corrections.{family_exit, family_in_place, good_size}
+use Rattle.packet.specs.Packet.{packets, record_of}
 use Rattle.packet.specs.Laws.Correction.{spotted}
 use Rattle.packet.specs.Laws.Demands.{family}
 use Rattle.packet.specs.Laws.Heads.{head_of, heads}
@@ -27,4 +27,4 @@ returns c =
     let (r, is, same) = good_accepts accepted refused_by (λ o. o) (λ q. refl) (λ c. refl) (λ r. r.0) (read_record packets record_of s) c.in_ok-read.ensures in
     family_in_place family s (λ i. (c.slice_known-1.given i).fits) a.field a.value _ _ r (ap plain (sym is))
     (λ r e. spotted r a.field ∙ there) slim
-    (λ t d least most z. fields_told packets head_of t d least most (z.1 ∙ ap (λ b. answer_of (also record_of (fields_of packet 5 greatest b))) z.2 ∙ sym (heads (fields_of packet 5 greatest t)))) c.in_place.ensures
+    (λ t d least most z. z ∙ ap told (good_size packets t least most)) c.in_place.ensures

@@ -1,11 +1,9 @@
 -- `correct` is the correction in place of every family, with the frame's fields read before and behind the change and where its fields stand by its count.
 use Rattle.std.proofs.Common.{refl, ap, ◌∙◌}
 use Rattle.std.specs.Prelude.{Ok}
-use Rattle.format.specs.Fmt.{also}
-use Rattle.format.specs.Message.{fields_of}
-use Rattle.format.specs.Promises.{plain}
-use Rattle.format.proofs.Laws.Corrections.{family_exit, family_in_place, fields_told}
-use Rattle.txhz.specs.Txhz.{txhz, txhzs, record_of}
+use Rattle.format.specs.Message.{told}
+use Rattle.format.proofs.Laws.Corrections.{family_exit, family_in_place, good_size}
+use Rattle.txhz.specs.Txhz.{txhzs, record_of}
 use Rattle.txhz.specs.Laws.Correction.{looked_stands}
 use Rattle.txhz.specs.Laws.Demands.{family}
 use Rattle.txhz.proofs.correcting.correct.Goals as goal
@@ -23,4 +21,4 @@ returns c =
     let (there, slim) = c.stands-spot.ensures in
     family_in_place family s (λ i. (c.slice_known-1.given i).fits) a.field a.value _ _ _ c.in_ok-was.ensures
     (looked_stands s a.field _ _ (Ok _) c.in_ok-was.ensures refl there) slim
-    (λ t d least most z. fields_told txhzs record_of t d least most (z.1 ∙ ap (λ b. plain (also record_of (fields_of txhz 34 34 b))) z.2)) c.in_place.ensures
+    (λ t d least most z. z ∙ ap told (good_size txhzs t least most)) c.in_place.ensures

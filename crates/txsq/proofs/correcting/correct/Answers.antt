@@ -1,12 +1,10 @@
 -- `correct` is the correction in place of every family, with the frame's fields read before and behind the change and where `stands` found the field.
-use Rattle.std.proofs.Common.{sym, ap, ◌∙◌, []}
-use Rattle.bits.specs.Bits.{bits_of}
+use Rattle.std.proofs.Common.{sym, ◌∙◌}
 use Rattle.frame.specs.Laws.Alone.{alone, beside}
-use Rattle.format.specs.Fmt.{also, read}
-use Rattle.format.specs.Message.{body, read_message}
-use Rattle.format.specs.Promises.{plain, read_record}
-use Rattle.format.proofs.Laws.Corrections.{family_exit, family_in_place, fields_told_at_once}
-use Rattle.txsq.specs.Txsq.{txsq, txsqs, record_of}
+use Rattle.format.specs.Message.{read_message}
+use Rattle.format.specs.Promises.{read_record}
+use Rattle.format.proofs.Laws.Corrections.{family_exit, family_in_place}
+use Rattle.txsq.specs.Txsq.{txsqs, record_of}
 use Rattle.txsq.specs.Laws.Correction.{spotted}
 use Rattle.txsq.specs.Laws.Demands.{family}
 use Rattle.txsq.proofs.correcting.correct.Goals as goal
@@ -26,6 +24,4 @@ returns c =
     let (x, good) = beside (read_record txsqs record_of a.buf.now) _ c.in_ok-read.ensures in
     family_in_place family a.buf.now (λ i. (c.slice_known-1.given i).fits) a.field a.value _ _ _ good
     (λ r e. spotted r a.field ∙ there) slim
-    (λ t d least most z. fields_told_at_once txsqs (λ vs. (record_of vs).0) (body txsqs.seal t) d
-    (z.1 ∙ ap (λ b. plain (also (λ r. r.0) (also record_of (read txsq [] 0 (bits_of b))))) z.2 ∙ sym (alone record_of (read txsq [] 0 (bits_of (body txsqs.seal t))))))
-    c.in_place.ensures
+    (λ t d least most z. z) c.in_place.ensures

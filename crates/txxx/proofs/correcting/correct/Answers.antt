@@ -1,13 +1,11 @@
 -- `correct` is the correction in place of every family, with the frame's fields read before and behind the change and where `stands` found the field, the mark by the size.
-use Rattle.std.proofs.Common.{sym, ap, ◌∙◌, []}
-use Rattle.bits.specs.Bits.{bits_of}
+use Rattle.std.proofs.Common.{sym, ap, ◌∙◌}
 use Rattle.frame.specs.Laws.Alone.{alone, beside}
-use Rattle.format.specs.Fmt.{also, read}
-use Rattle.format.specs.Message.{body, read_message}
-use Rattle.format.specs.Promises.{plain, read_record}
-use Rattle.format.proofs.Laws.Corrections.{family_exit, family_in_place, fields_told_at_once}
+use Rattle.format.specs.Message.{read_message}
+use Rattle.format.specs.Promises.{read_record}
+use Rattle.format.proofs.Laws.Corrections.{family_exit, family_in_place}
 use Rattle.txxx.specs.Changed.{spot_by}
-use Rattle.txxx.specs.Txxx.{txxx, txxxs, record_of}
+use Rattle.txxx.specs.Txxx.{txxxs, record_of}
 use Rattle.txxx.specs.Laws.Correction.{spotted}
 use Rattle.txxx.specs.Laws.Demands.{family}
 use Rattle.txxx.specs.Laws.Shown.{mark_stands}
@@ -28,6 +26,4 @@ returns c =
     let (x, good) = beside (read_record txxxs record_of a.buf.now) _ c.in_ok-read.ensures in
     family_in_place family a.buf.now (λ i. (c.slice_known-1.given i).fits) a.field a.value _ _ _ good
     (λ r e. spotted r a.field ∙ ap (λ m. spot_by m a.field) (sym (c.mark.ensures ∙ mark_stands a.buf.now r e)) ∙ there) slim
-    (λ t d least most z. fields_told_at_once txxxs (λ vs. (record_of vs).0) (body txxxs.seal t) d
-    (z.1 ∙ ap (λ b. plain (also (λ r. r.0) (also record_of (read txxx [] 0 (bits_of b))))) z.2 ∙ sym (alone record_of (read txxx [] 0 (bits_of (body txxxs.seal t))))))
-    c.in_place.ensures
+    (λ t d least most z. z) c.in_place.ensures

@@ -1,11 +1,9 @@
 -- `correct` is the correction in place of every family, with the warning's fields read before and behind the change and where `stands` found the field.
 use Rattle.std.proofs.Common.{ap, ◌∙◌}
 use Rattle.bits.specs.Bits.{Bytes, field_at}
-use Rattle.format.specs.Fmt.{also}
-use Rattle.format.specs.Message.{fields_of}
-use Rattle.format.specs.Promises.{plain}
-use Rattle.format.proofs.Laws.Corrections.{family_exit, family_in_place, fields_told}
-use Rattle.warning.specs.Warning.{warning, warnings, record_of}
+use Rattle.format.specs.Message.{told}
+use Rattle.format.proofs.Laws.Corrections.{family_exit, family_in_place, good_size}
+use Rattle.warning.specs.Warning.{warnings, record_of}
 use Rattle.warning.specs.Changed.{field_of}
 use Rattle.warning.specs.Laws.Demands.{family, looked_stands}
 use Rattle.warning.proofs.correcting.correct.Goals as goal
@@ -26,4 +24,4 @@ returns c =
     let fine : Bytes s = λ i. (c.slice_known-1.given i).fits in
     family_in_place family s fine (field_of (field_at s 56 4) a.field) a.value _ _ _ c.in_ok-read.ensures
     (looked_stands s a.field c.get.result fine c.get.ensures there) slim
-    (λ t d least most z. fields_told warnings record_of t d least most (z.1 ∙ ap (λ b. plain (also record_of (fields_of warning 23 23 b))) z.2)) c.in_place.ensures
+    (λ t d least most z. z ∙ ap told (good_size warnings t least most)) c.in_place.ensures
