@@ -90,8 +90,12 @@ def parts(path, text):
             kind, kind_end = (head[3] or "") + head[1] + (head[2] or "" if head[3] else ""), closing(text, head.end() - 1)
         elif done <= head.start():
             brace = text.index("{", head.end())
-            while re.search(r"\b(requires|ensures|ghost)(\s+\w+)?\s*$", text[head.end() : brace]):
-                brace = text.index("{", closing(text, brace))
+            behind = ""
+            while not behind.startswith(";") and re.search(r"\b(requires|ensures|ghost)(\s+\w+)?\s*$", text[head.end() : brace]):
+                end = closing(text, brace) + 1
+                brace, behind = text.index("{", end), text[end:].lstrip()
+            if behind.startswith(";"):
+                continue  # a trait's function has a contract alone
             found[""] += text[done:brace]
             done = closing(text, brace)
             found[(module, kind if head.start() < kind_end else "", head[4])] = text[brace:done]

@@ -9,7 +9,7 @@ ghost use Rattle.notice.specs.Notice.{ours, notices};
 ghost use Rattle.walk.specs.Walk.{at_of, width_of};
 
 use crate::reading::{Notice, fields};
-use change::correcting::in_place;
+use change::correcting::{Rereads, in_place};
 use format::Refusal;
 use walk::walk::Spot;
 
@@ -39,7 +39,25 @@ pub fn correct(buf: &mut [u8], english: bool, field: usize, value: u64) -> Resul
 {
     let course = fields(buf, field, english)?;
     let spot = stands(field, course.walk.spot);
-    in_place(buf, false, spot, value, |s| fields(s, 0, english))
+    in_place(buf, false, spot, value, &Fields { english })
+}
+
+// The fields, read anew behind the change, in the same language.
+#[derive(Drop)]
+struct Fields {
+    english: bool,
+}
+
+impl Rereads for Fields {
+    ghost use Rattle.format.specs.Refusals.{shown};
+    ghost use Rattle.notice.specs.Steps.{course_of};
+
+    ghost tells = { λ it s. let w = (course_of it.english 0 s).walk in shown w.code w.offset };
+
+    fn reread(&self, s: &[u8]) -> Result<(), Refusal> {
+        fields(s, 0, self.english)?;
+        Ok(())
+    }
 }
 
 // Where each field that may be corrected stands, and its width: those of the head are the same in every notice, and an entry of the

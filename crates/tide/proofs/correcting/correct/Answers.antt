@@ -1,15 +1,11 @@
 -- `correct` is the correction in place of every family, with the tide's walk before the change and the fields' behind it, and where the walk found the field.
-use Rattle.std.specs.Prelude.{◌≡◌, ◌≤◌, refl, [], List, ℕ, length, Result}
-use Rattle.std.proofs.Common.{rules, sym, ap, ◌∙◌, subst}
+use Rattle.std.specs.Prelude.{◌≡◌, refl, [], List, ℕ}
+use Rattle.std.proofs.Common.{sym, ap, ◌∙◌, subst}
 use Rattle.format.specs.Codes.{headed}
 use Rattle.format.specs.Correcting.{standing}
 use Rattle.format.specs.Fmt.{accepted, spot}
 use Rattle.format.specs.Message.{told, read_message}
 use Rattle.format.specs.Promises.{plain, read_record, Corrects}
-use Rattle.format.specs.Refusals.{shown, told_of}
-use Rattle.format.specs.declared.Refusal.{Refusal}
-use Rattle.walk.specs.Walk.{seen}
-use Rattle.tide.specs.declared.reading.Course.{Course as Declared}
 use Rattle.format.specs.Laws.Correcting.{own_refusal}
 use Rattle.format.specs.Laws.Outcomes.{number_some, told_exit}
 use Rattle.format.specs.Laws.Round.{also_inv}
@@ -17,7 +13,7 @@ use Rattle.format.proofs.Laws.Corrections.{family_in_place}
 use Rattle.format.proofs.Laws.Family.{record_values}
 use Rattle.tide.specs.Record.{Whole, values_of, record_of}
 use Rattle.tide.specs.Standing.{front, records_at}
-use Rattle.tide.specs.Steps.{Course, course, course_of, behind, head_read, fields_read}
+use Rattle.tide.specs.Steps.{Course, course, course_of}
 use Rattle.tide.specs.Tide.{tides}
 use Rattle.tide.specs.Laws.Demands.{family}
 use Rattle.tide.specs.Laws.Told.{fields_passed, walked_told, stands, fields_again, fields_are}
@@ -28,10 +24,6 @@ found_so : (i : ℕ) (s : List ℕ) (f : Course) → f ≡ course_of i s → (q 
 found_so i s f d q e =
     let (vs, m, k) = also_inv record_of (read_message tides s) e in
     ap (λ vs. spot tides.fmt [] vs i) (ap values_of (sym k) ∙ record_values family s vs m) ∙ stands i s f d vs m
-
--- what the fields anew tell
-again : (t : List ℕ) (d : Result Unit Refusal) → length t ≤ 210 → (g : Declared) → course g ≡ behind t (head_read 0 t) → told_of d ≡ shown (seen g.walk).code (seen g.walk).offset → told_of d ≡ told (fields_read t)
-again t d small g is e = e ∙ fields_again t small is
 
 pub returns-in_err-was : goal.returns-in_err-was
 returns-in_err-was c =
@@ -51,4 +43,4 @@ returns c =
     let good = fields_passed i s c.in_ok-was.was' x.told x.passed in
     family_in_place family s (λ i. (c.slice_known-1.given i).fits) i a.value _ _ (f.tide, records_at s f.tide.count front) (ap plain (sym good))
     (found_so i s f x.passed) (fields_are i s x.passed).walked.slim
-    (λ t d least most z. search (rules, again t d most)) c.in_place.ensures
+    (λ t d least most z. z ∙ fields_again t most refl) c.in_place.ensures
