@@ -69,12 +69,8 @@ module _ {l : Layout} {R A : Type 0} {Lent : R → Type 0} {values_of : R → Li
 -- ---- the same, as the code does it: what reading refuses is handed on, and the rest is `InPlace`
 
 -- what a reading tells, by its answer, whatever the record that it makes
-pub outcome_told : {R : Type 0} (record_of : List ℕ → R) (o : Out (List ℕ)) {x : Out R} → x ≡ plain (also record_of o) → verdict_of x ≡ told o
+outcome_told : {R : Type 0} (record_of : List ℕ → R) (o : Out (List ℕ)) {x : Out R} → x ≡ plain (also record_of o) → verdict_of x ≡ told o
 outcome_told record_of o e = ap verdict_of e ∙ numbered accepted refused_by record_of verdict_of (λ r. refl) (λ c. refl) o
-
--- where it was refused, and its refusal was handed on
-pub exit_told : {R A : Type 0} (record_of : List ℕ → R) (o : Out (List ℕ)) (x : Result A Refusal) (f : Refusal) → IsErrAnd x (λ g. g ≡ f) → refused_by (seen_refusal f) ≡ plain (also record_of o) → told_of x ≡ told o
-exit_told record_of o x f h e = told_exit x f h ∙ outcome_told record_of o e
 
 pub family_exit : {R : Type 0} (l : Layout) (record_of : List ℕ → R) (s : List ℕ) (i v : ℕ) {A : Type 0} (x : Result A Refusal) (f : Refusal) → IsErrAnd x (λ g. g ≡ f) → refused_by (seen_refusal f) ≡ plain (read_record l record_of s)
     → Corrects l s i v (told_of x) s
