@@ -13,7 +13,7 @@ use Rattle.notice_fields.specs.PartsSteps.{latitude_judged, longitude_judged}
 
 -- a walk at the first area: nothing is refused, and no field is sought
 abbrev pub fresh : Walk
-fresh = record { at = front; code = 0; offset = 0; v = 0; seek = false; left = 0; spot = 0; width = 0 }
+fresh = record { at = front; code = 0; offset = 0; v = 0; seek = false; left = 0; found = false; spot = 0; width = 0 }
 
 -- the point that begins with number k of the row
 abbrev pub point_judged : List ℕ → ℕ → Walk → Walk

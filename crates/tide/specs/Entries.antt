@@ -33,6 +33,7 @@ passed s (suc m) r = record {
   v = got s (r.at + m * entry_bits + 22) 10;
   seek = r.seek;
   left = r.left - suc m * 3;
+  found = r.found;
   spot = r.spot;
   width = r.width;
 }

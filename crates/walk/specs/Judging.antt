@@ -26,6 +26,7 @@ beyond w c r = record {
   v = 0;
   seek = r.seek;
   left = r.left;
+  found = r.found;
   spot = r.spot;
   width = r.width;
 }

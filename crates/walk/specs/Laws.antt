@@ -1,4 +1,5 @@
 -- The walk reads and judges as every layout says.
+pub mod Seen
 pub mod Step
 pub mod Reading
 pub mod Along

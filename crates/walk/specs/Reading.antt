@@ -48,6 +48,7 @@ ended s r = let c = closes s r.at in let x = sticks c (cond (c == 5) 0 (pad r.at
   v = 0;
   seek = false;
   left = 0;
+  found = cond r.seek false r.found;
   spot = cond r.seek 0 r.spot;
   width = cond r.seek 0 r.width;
 }

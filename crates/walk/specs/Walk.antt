@@ -6,7 +6,8 @@ use Rattle.walk.specs.declared.walk.Walk.{Walk as Declared}
 use Rattle.walk.specs.declared.making.Stepped.{Stepped as DeclaredStepped}
 
 -- where the next field starts; the number of the first refusal, 0 for none, and its bit; the value of the field just walked; whether
--- a field is still sought, and how many fields before it are left; where it stood, and its width, 0 for none that may be corrected
+-- a field is still sought, and how many fields before it are left; whether it was found and may be corrected, where it stood, and its width,
+-- 0 for both where there is none
 pub record Walk : Type 0 where
   pub at : ℕ
   pub code : ℕ
@@ -14,6 +15,7 @@ pub record Walk : Type 0 where
   pub v : ℕ
   pub seek : Bool
   pub left : ℕ
+  pub found : Bool
   pub spot : ℕ
   pub width : ℕ
 
@@ -38,12 +40,13 @@ seen w = record {
   v = w.v;
   seek = is_some w.sought;
   left = left_of w.sought;
+  found = is_some w.spot;
   spot = at_of w.spot;
   width = width_of w.spot;
 }
 
 abbrev pub begun : ℕ → ℕ → Walk
-begun code want = record { at = 0; code = code; offset = 0; v = 0; seek = true; left = want; spot = 0; width = 0 }
+begun code want = record { at = 0; code = code; offset = 0; v = 0; seek = true; left = want; found = false; spot = 0; width = 0 }
 
 -- the first refusal, behind the fault c (0 for none) of what stands i bits on
 abbrev pub sticks : ℕ → ℕ → Walk → Verdict
@@ -62,6 +65,7 @@ onward w free v c i r = record {
   v = v;
   seek = r.seek && cond (r.left == 0) false true;
   left = r.left - 1;
+  found = cond (hits r) free r.found;
   spot = cond (hits r) (cond free r.at 0) r.spot;
   width = cond (hits r) (cond free w 0) r.width;
 }

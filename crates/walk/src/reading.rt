@@ -1,5 +1,5 @@
 // Reading: each kind of field, from the bytes.
-ghost use Rattle.std.specs.Prelude.{◌≡◌, ◌^◌, ◌<◌, true, false, cond};
+ghost use Rattle.std.specs.Prelude.{◌≡◌, ◌^◌, ◌<◌, true, false, cond, is_some};
 ghost use Rattle.format.specs.Refusals.{number, code_of};
 ghost use Rattle.walk.specs.Faults.{wholly};
 ghost use Rattle.walk.specs.Reading.{given, carried, blanked, ranged, signedly, ended};
@@ -118,6 +118,7 @@ impl Walk {
 
     // Where the sought field stood, behind all fields: none where it is still sought.
     fn spot_found(self) -> Option<Spot>
+        ensures found { is_some result ≡ cond (seen self).seek false (is_some self.spot) }
         ensures place { at_of result ≡ cond (seen self).seek 0 (at_of self.spot) }
         ensures width { width_of result ≡ cond (seen self).seek 0 (width_of self.spot) }
     {

@@ -82,6 +82,7 @@ impl Walk {
 
     // Where the sought field stood, behind this one, of w bits.
     fn spot_behind(self, w: usize, free: bool) -> Option<Spot>
+        ensures found { is_some result ≡ cond (hits (seen self)) free (is_some self.spot) }
         ensures place { at_of result ≡ cond (hits (seen self)) (cond free self.at 0) (at_of self.spot) }
         ensures width { width_of result ≡ cond (hits (seen self)) (cond free w 0) (width_of self.spot) }
     {

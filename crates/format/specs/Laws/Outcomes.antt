@@ -56,6 +56,12 @@ one_told (Ok a) (Err g) e = absurd (number_some g.reason (sym (ap (λ v. v.code)
 one_told (Err f) (Ok b) e = absurd (number_some f.reason (ap (λ v. v.code) e))
 one_told (Err f) (Err g) e = ap Err (one_refusal f g e)
 
+pub one_code : (x y : Result Unit Reason) → code_of x ≡ code_of y → x ≡ y
+one_code (Ok a) (Ok b) e = refl
+one_code (Ok a) (Err r) e = absurd (number_some r (sym e))
+one_code (Err r) (Ok b) e = absurd (number_some r e)
+one_code (Err q) (Err r) e = ap Err (one_number q r e)
+
 pub one_outcome : {R : Type 0} (x y : Result R Refusal) → out_of x ≡ out_of y → x ≡ y
 one_outcome (Ok a) (Ok b) e = let same : a ≡ b = cc in ap Ok same
 one_outcome (Ok a) (Err g) e = absurd cc

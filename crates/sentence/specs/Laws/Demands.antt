@@ -6,17 +6,18 @@ use Rattle.format.specs.Fmt.{Out, accepted, refused, or_bad, check, also}
 use Rattle.format.specs.Message.{write_message}
 use Rattle.format.proofs.Laws.Family.{never_read, never_written, written_record}
 use Rattle.format.specs.Promises.{read_record, out_of, plain, verdict_of}
-use Rattle.format.specs.Laws.Outcomes.{one_refusal}
+use Rattle.format.specs.Laws.Outcomes.{one_refusal, one_number}
 use Rattle.format.specs.Laws.Round.{clash, accepted_inj, refused_inj}
 use Rattle.distress.proofs.Laws.Demands.{family}
 use Rattle.distress.specs.Promises.{Reads}
 use Rattle.distress.specs.Report.{reports, values_of, report_of}
-use Rattle.sentence.specs.Pattern.{sentence, address_good, around_so}
+use Rattle.sentence.specs.Pattern.{sentence, address_good, around_so, told_around}
 use Rattle.sentence.specs.Sentence.{read_sentence, write_sentence, room_for, sent_of, laid_over, Hears, SendsOut, Sends}
 use Rattle.sentence.specs.Laws.Calls.{heard_fails, heard_as, heard_inside, bytewise}
 use Rattle.sentence.specs.Laws.Parts.{sentence_accepted}
 use Rattle.sentence.specs.Laws.Tests.{never_around}
 use Rattle.distress.specs.declared.reading.Report.{Report}
+use Rattle.format.specs.declared.Reason.{Reason}
 use Rattle.format.specs.declared.Refusal.{Refusal}
 
 -- ---- answers are decided
@@ -26,6 +27,12 @@ one_answer (Ok a) (Ok b) e = ap Ok (accepted_inj e)
 one_answer (Ok a) (Err g) e = clash (sym e)
 one_answer (Err f) (Ok b) e = clash e
 one_answer (Err f) (Err g) e = let same = refused_inj e in ap Err (one_refusal f g (λ i. record { code = same.0 i; bit = same.1 i }))
+
+pub one_around : (x y : Result ℕ Reason) → told_around x ≡ told_around y → x ≡ y
+one_around (Ok a) (Ok b) e = ap Ok (accepted_inj e)
+one_around (Ok a) (Err r) e = clash (sym e)
+one_around (Err q) (Ok b) e = clash e
+one_around (Err q) (Err r) e = ap Err (one_number q r (refused_inj e).0)
 
 pub one_hearing : (s : List ℕ) (x y : Result (ℕ × Report) Refusal) → Hears s x → Hears s y → x ≡ y
 one_hearing s x y d e = one_answer x y (d ∙ sym e)

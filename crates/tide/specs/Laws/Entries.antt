@@ -28,7 +28,7 @@ use Rattle.tide.specs.Laws.Word.{word_there}
 -- ---- one step, where nothing was refused before and the field is not sought
 
 abbrev moved : ℕ → ℕ → Walk → Walk
-moved w v r = record { at = r.at + w; code = 0; offset = 0; v = v; seek = r.seek; left = r.left - 1; spot = r.spot; width = r.width }
+moved w v r = record { at = r.at + w; code = 0; offset = 0; v = v; seek = r.seek; left = r.left - 1; found = r.found; spot = r.spot; width = r.width }
 
 onward_good : (w v i c : ℕ) (r : Walk) → r.code ≡ 0 → c ≡ 0 → r.at + w < 2 ^ 64 → Unsought 1 r → onward w true v c i r ≡ moved w v r
 unfolding onward
@@ -132,13 +132,14 @@ module _ (s : List ℕ) where
     clear : q.code ≡ 0
     seeking : q.seek ≡ r.seek
     fewer : q.left ≡ r.left - m * 3
+    found : q.found ≡ r.found
     spot : q.spot ≡ r.spot
     width : q.width ≡ r.width
 
   behind : (m : ℕ) (r : Walk) → r.code ≡ 0 → Behind m r (passed s m r)
   unfolding passed
-  behind zero r z = record { here = omega arith; clear = z; seeking = refl; fewer = omega arith; spot = refl; width = refl }
-  behind (suc m) r z = record { here = refl; clear = refl; seeking = refl; fewer = refl; spot = refl; width = refl }
+  behind zero r z = record { here = omega arith; clear = z; seeking = refl; fewer = omega arith; found = refl; spot = refl; width = refl }
+  behind (suc m) r z = record { here = refl; clear = refl; seeking = refl; fewer = refl; found = refl; spot = refl; width = refl }
 
   one_more : (m : ℕ) (r : Walk) → r.code ≡ 0 → r.at + suc m * entry_bits < 2 ^ 64 → Good (got s (r.at + m * entry_bits) 32) → Unsought (suc m * 3) r → entry_read s (passed s m r) ≡ passed s (suc m) r
   unfolding passed
@@ -149,7 +150,7 @@ module _ (s : List ℕ) where
       let value : q.at + 21 + 1 ≡ r.at + m * entry_bits + 22 = omega (arith, b.here) in
       let left : q.left - 1 - 1 - 1 ≡ r.left - suc m * 3 = omega (arith, b.fewer) in
       entry_good_lem q b.clear (omega (arith, b.here)) (subst⁻¹ (λ p. Good (got s p 32)) b.here g) (λ e. let n = u (sym b.seeking ∙ e) in omega (arith, b.fewer))
-      ∙ (λ i. record { at = at i; code = 0; offset = 0; v = got s (value i) 10; seek = b.seeking i; left = left i; spot = b.spot i; width = b.width i })
+      ∙ (λ i. record { at = at i; code = 0; offset = 0; v = got s (value i) 10; seek = b.seeking i; left = left i; found = b.found i; spot = b.spot i; width = b.width i })
 
   -- m good entries, and k behind them
   pub all_passed : (next : Walk → Walk) (m k : ℕ) (r : Walk) → r.code ≡ 0 → r.at + m * entry_bits < 2 ^ 64 → AllGood s r.at m → Unsought (m * 3) r
@@ -165,12 +166,12 @@ module _ (s : List ℕ) where
 
   -- the same as the code makes it
   pub passed_as : (m : ℕ) (r : Walk) {v left : ℕ} {seek : Bool} → 1 ≤ m → v ≡ got s (r.at + m * entry_bits - 10) 10 → seek ≡ r.seek → left ≡ r.left - m * 3
-      → record { at = r.at + m * entry_bits; code = 0; offset = 0; v = v; seek = seek; left = left; spot = r.spot; width = r.width } ≡ passed s m r
+      → record { at = r.at + m * entry_bits; code = 0; offset = 0; v = v; seek = seek; left = left; found = r.found; spot = r.spot; width = r.width } ≡ passed s m r
   unfolding passed
   passed_as zero r l x k y = absurd (omega arith)
   passed_as (suc m) r l x k y =
       let last : r.at + suc m * entry_bits - 10 ≡ r.at + m * entry_bits + 22 = omega arith in
-      λ i. record { at = r.at + suc m * entry_bits; code = 0; offset = 0; v = (x ∙ ap (λ p. got s p 10) last) i; seek = k i; left = y i; spot = r.spot; width = r.width }
+      λ i. record { at = r.at + suc m * entry_bits; code = 0; offset = 0; v = (x ∙ ap (λ p. got s p 10) last) i; seek = k i; left = y i; found = r.found; spot = r.spot; width = r.width }
 
   pub run_passes : (n m : ℕ) (r : Walk) {q : Walk} → 1 ≤ m → m ≤ n → r.code ≡ 0 → r.at + m * entry_bits < 2 ^ 64 → AllGood s r.at m → Unsought (m * 3) r → q ≡ passed s m r → Passes s n r (record { walk = q; count = m })
   run_passes n m r {q} some few z reach g u e = (

@@ -12,4 +12,4 @@ returns c =
     let into = c.past-into.ensures ∙ ap (λ x. cond (eqb x 5) 0 (pad r.at)) c.closing-closed.ensures in
     let verdict = c.judged.ensures ∙ ap₂ (λ x i. sticks x i (seen r)) c.closing-closed.ensures into in
     let spot = c.spot_found.ensures in
-    λ i. record { at = r.at; code = (verdict i).code; offset = (verdict i).bit; v = 0; seek = false; left = 0; spot = spot.place i; width = spot.width i }
+    λ i. record { at = r.at; code = (verdict i).code; offset = (verdict i).bit; v = 0; seek = false; left = 0; found = spot.found i; spot = spot.place i; width = spot.width i }

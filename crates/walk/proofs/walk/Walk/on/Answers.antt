@@ -19,6 +19,7 @@ returns c =
       v = a.v;
       seek = sought.seek i;
       left = sought.left i;
+      found = spot.found i;
       spot = spot.place i;
       width = spot.width i;
     }
