@@ -8,7 +8,7 @@ ghost use Rattle.notice.specs.Changed.{spots};
 ghost use Rattle.notice.specs.Notice.{ours, notices};
 ghost use Rattle.walk.specs.Walk.{at_of, width_of};
 
-use crate::reading::{Notice, fields};
+use crate::reading::{Notice, passed_fields};
 use change::correcting::in_place;
 use format::Refusal;
 use walk::walk::Spot;
@@ -37,9 +37,9 @@ impl Notice {
 pub fn correct(buf: &mut [u8], english: bool, field: usize, value: u64) -> Result<(), Refusal>
     ensures { Corrects (notices (ours english)) buf.old field value (told_of result) buf.new }
 {
-    let course = fields(buf, field, english)?;
+    let course = passed_fields(buf, field, english)?;
     let spot = stands(field, course.walk.spot);
-    in_place(buf, false, spot, value, |s| fields(s, 0, english))
+    in_place(buf, false, spot, value, |s| passed_fields(s, 0, english))
 }
 
 // Where each field that may be corrected stands, and its width: those of the head are the same in every notice, and an entry of the
