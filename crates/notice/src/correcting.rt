@@ -8,7 +8,7 @@ ghost use Rattle.notice.specs.Changed.{spots};
 ghost use Rattle.notice.specs.Notice.{ours, notices};
 ghost use Rattle.walk.specs.Walk.{at_of, width_of};
 
-use crate::reading::{Notice, fields};
+use crate::reading::{Notice, passed_fields};
 use change::correcting::{Rereads, in_place};
 use format::Refusal;
 use walk::walk::Spot;
@@ -37,7 +37,7 @@ impl Notice {
 pub fn correct(buf: &mut [u8], english: bool, field: usize, value: u64) -> Result<(), Refusal>
     ensures { Corrects (notices (ours english)) buf.old field value (told_of result) buf.new }
 {
-    let course = fields(buf, field, english)?;
+    let course = passed_fields(buf, field, english)?;
     let spot = stands(field, course.walk.spot);
     in_place(buf, false, spot, value, &Fields { english })
 }
@@ -55,7 +55,7 @@ impl Rereads for Fields {
     ghost tells = { λ it s. let w = (course_of it.english 0 s).walk in shown w.code w.offset };
 
     fn reread(&self, s: &[u8]) -> Result<(), Refusal> {
-        fields(s, 0, self.english)?;
+        passed_fields(s, 0, self.english)?;
         Ok(())
     }
 }

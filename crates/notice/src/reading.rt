@@ -3,10 +3,10 @@ ghost use Rattle.std.specs.Prelude.{◌≡◌, ◌≤◌, ◌&&◌, cond, length
 ghost use Rattle.bits.specs.Answers.{spanned};
 ghost use Rattle.bits.specs.Bits.{bytes_at};
 ghost use Rattle.format.specs.Message.{told, read_message};
-ghost use Rattle.format.specs.Refusals.{code_of, told_of};
+ghost use Rattle.format.specs.Refusals.{number, code_of, told_of};
 ghost use Rattle.notice.specs.Notice.{ours, notices, sizes};
 ghost use Rattle.notice.specs.Promises.{Reads};
-ghost use Rattle.notice.specs.Steps.{opening, opening_of, ending, ending_of, course_of, Gives};
+ghost use Rattle.notice.specs.Steps.{opening, opening_of, ending, ending_of, unread_by, course, course_of, Gives};
 ghost use Rattle.packet.specs.Packet.{joined};
 ghost use Rattle.text.specs.Text.{in_language};
 ghost use Rattle.walk.specs.Walk.{seen};
@@ -80,7 +80,7 @@ pub struct Course {
 pub fn read(s: &[u8], english: bool, areas: &mut [u32], text: &mut [u8]) -> Result<Told, Refusal>
     ensures { Reads (ours english) s.now areas.old text.old result areas.new text.new }
 {
-    let f = fields(s, 0, english)?;
+    let f = passed_fields(s, 0, english)?;
     let notice = f.notice;
     let n = f.text;
     if text.len() < n {
@@ -103,28 +103,65 @@ pub fn read(s: &[u8], english: bool, areas: &mut [u32], text: &mut [u8]) -> Resu
 pub fn refusal(s: &[u8], english: bool) -> Result<(), Refusal>
     ensures { told_of result ≡ told (read_message (notices (ours english)) s.now) }
 {
-    fields(s, 0, english)?;
+    passed_fields(s, 0, english)?;
     Ok(())
 }
 
-// The size, then the fields in bit order; on the way, field number `want` is found. Of another size nothing is walked.
-pub fn fields(s: &[u8], want: usize, english: bool) -> Result<Course, Refusal>
+// The fields that `fields` walked, if none was refused.
+pub fn passed_fields(s: &[u8], want: usize, english: bool) -> Result<Course, Refusal>
     ensures { Gives (course_of english want s.now) result }
 {
-    lead(s)?;
+    let f = fields(s, want, english);
+    f.walk.passed()?;
+    Ok(f)
+}
+
+// The size, then the fields in bit order; on the way, field number `want` is found. Of another size nothing is walked. A refused course
+// has its record as far as its bits tell, and where the walk was refused.
+pub fn fields(s: &[u8], want: usize, english: bool) -> Course
+    ensures { course result ≡ course_of english want s.now }
+{
+    if let Err(reason) = lead(s) {
+        return unread(reason);
+    }
     let head = head(s, want);
     let notice = head.notice;
     let front = head.walk;
     let areas = notice_fields::areas::walk(s, front, notice.count);
     let ending = close(s, areas, english);
     let walk = ending.walk;
-    walk.passed()?;
-    Ok(Course {
+    Course {
         walk,
         notice,
         at: areas.at,
         text: ending.text,
-    })
+    }
+}
+
+// No walk, no record: what the first test refused.
+fn unread(reason: Reason) -> Course
+    ensures { course result ≡ unread_by (number reason) }
+{
+    let walk = Walk {
+        verdict: Err(reason.into()),
+        ..Walk::begin(0)
+    };
+    let notice = Notice {
+        source: 0,
+        station: 0,
+        serial: 0,
+        year: 0,
+        kind: 0,
+        subtype: 0,
+        expiry: 0,
+        count: 0,
+    };
+    Course {
+        walk,
+        notice,
+        at: 0,
+        text: 0,
+    }
 }
 
 // The first test: the size.

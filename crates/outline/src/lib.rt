@@ -18,7 +18,7 @@ pub mod angles;
 pub fn outline(s: &[u8], english: bool, row: &mut [i32]) -> Result<usize, Refusal>
     ensures { Outlines english s.now row.old result row.new }
 {
-    let f = notice::reading::fields(s, 0, english)?;
+    let f = notice::reading::passed_fields(s, 0, english)?;
     let notice = f.notice;
     let extent = notice_fields::row::measure(s, notice.count);
     let points = extent.points;

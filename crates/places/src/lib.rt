@@ -42,7 +42,7 @@ pub enum Reply {
 }
 
 // What a call makes of the places: place `at` becomes `place`, and no other changes.
-// Where none changes it is the first one again, and no Option: `refused_accept_turn` and its like (`Laws/Ends`) speak of
+// Where none changes it is the first one again, and no Option: `refused_accept_turn` and its like (`proofs/Laws/Refused`) speak of
 // `place` stored at `at` then too, and the wrong builds `second_place_stays` and `anothers_place_stays` of which place it is.
 #[derive(Clone, Copy)]
 pub struct Turn {
