@@ -89,6 +89,10 @@ fn decimal(out: &mut [u8], at: usize, number: u64) -> usize
     requires { at + length (Text·decimal number) ≤ length out.old }
     ensures { Stores out.old at (Text·decimal number) result out.new }
 {
+    // Most columns have one digit: it is neither counted nor divided.
+    if number < 10 {
+        return mark(out, at, digit(number));
+    }
     let end = at + digit_count(number);
     let mut rest = number;
     for i in (at..end).rev() {
@@ -137,9 +141,10 @@ fn put(out: &mut [u8], at: usize, bytes: &[u8]) -> usize
     requires { at + length bytes.now ≤ length out.old }
     ensures { Stores out.old at bytes.now result out.new }
 {
-    let end = at + bytes.len();
-    out[at..end].copy_from_slice(bytes);
-    end
+    for (i, byte) in bytes.iter().enumerate() {
+        out[at + i] = *byte;
+    }
+    at + bytes.len()
 }
 
 fn mark(out: &mut [u8], at: usize, byte: u8) -> usize

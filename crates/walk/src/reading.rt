@@ -71,6 +71,7 @@ impl Walk {
     }
 
     // Fill of up to 64 bits, looked at in two halves.
+    #[inline]
     pub fn blank(self, s: &[u8], w: u32) -> Self
         ensures { seen result ≡ blanked s.now w (seen self) }
     {

@@ -54,17 +54,17 @@ impl Walk {
         }
     }
 
-    // The verdict with one more judgement, of what stands `into` bits on: the first refusal stays.
+    // The verdict with one more judgement, of what stands `into` bits on: the first refusal stays. What is good is not asked for the
+    // verdict so far, so that good fields cost one test each.
     pub(crate) fn judged(self, judged: Result<(), Reason>, into: usize) -> Result<(), Refusal>
         ensures { told_of result ≡ sticks (code_of judged) into (seen self) }
     {
-        self.verdict?;
         match judged {
-            Ok(()) => Ok(()),
-            Err(reason) => Err(Refusal {
+            Err(reason) if self.verdict.is_ok() => Err(Refusal {
                 reason,
                 bit: std::num::wrapping_add_usize(self.at, into),
             }),
+            _ => self.verdict,
         }
     }
 

@@ -1,9 +1,18 @@
 -- `decimal` stores the last digit first: the digits of what is left, stored before those that stand, give the whole.
-use Rattle.std.proofs.Common.{⊎_elim, ◌≡◌, ◌+◌, ◌-◌, ◌<◌, ◌≤◌, length, ◌/◌, refl, ◌∙◌, arith}
+use Rattle.std.proofs.Common.{⊎_elim, ◌≡◌, ◌+◌, ◌-◌, ◌<◌, ◌≤◌, length, ◌/◌, ◌∷◌, [], refl, sym, ap, ◌∙◌, arith, subst}
 use Rattle.std.proofs.lemmas.Bool.{cases_lt}
 use Rattle.daylog.specs.LinesText.{decimal}
-use Rattle.daylog.specs.Laws.Text.{digits_small, digits_some, digits_more, decimal_turn, decimal_end}
+use Rattle.daylog.specs.Stores.{Stores}
+use Rattle.daylog.specs.Laws.Text.{decimal_small, digits_small, digits_some, digits_more, decimal_turn, decimal_end}
 use Rattle.daylog.proofs.lines.decimal.Goals as goal
+
+pub mark-requires : goal.mark-requires
+mark-requires c = omega (arith, digits_small c.args.number c.if-number-lt10.true)
+
+pub returns-then-number-lt10 : goal.returns-then-number-lt10
+returns-then-number-lt10 c =
+    let a = c.args in
+    subst (λ text. Stores a.out.now a.at text c.mark.result c.mark.new.out) (ap (λ d. d ∷ []) c.digit.ensures ∙ sym (decimal_small a.number c.if-number-lt10.true)) c.mark.ensures
 
 pub loop-i-init : goal.loop-i-init
 loop-i-init c =
@@ -24,8 +33,8 @@ loop-i-preserved c =
     record {
       within = omega arith;
       ends = λ h. omega (arith, digits_more n (long h));
-      more = λ h. decimal_turn out a.at i n c.digit.result c.digit.ensures last (long h) ∙ more;
-      done = λ e. decimal_end out a.at i n c.digit.result c.digit.ensures last (short e) ∙ more;
+      more = λ h. decimal_turn out a.at i n c.digit-in-loop-i.result c.digit-in-loop-i.ensures last (long h) ∙ more;
+      done = λ e. decimal_end out a.at i n c.digit-in-loop-i.result c.digit-in-loop-i.ensures last (short e) ∙ more;
     }
 
 pub returns : goal.returns

@@ -1,17 +1,17 @@
--- `put` stores all bytes at once, which is what it is to store them one by one.
-use Rattle.std.proofs.Common.{◌≡◌, ℕ, ◌+◌, ◌-◌, ◌≤◌, List, ◌++◌, length, take, drop, refl, sym, ◌∙◌, arith, append_assoc, drop-drop}
-use Rattle.std.proofs.lemmas.List.Edits.{sets, sets-eq}
+-- `put` stores byte by byte: what is left to store, stored where the loop stands, gives the whole.
+use Rattle.std.proofs.Common.{refl, ◌∙◌, arith, length-set}
+use Rattle.daylog.specs.Laws.Text.{sets_start, sets_turn, sets_end}
 use Rattle.daylog.proofs.lines.put.Goals as goal
 
-stored : (out bytes : List ℕ) (at : ℕ) → at + length bytes ≤ length out → take at out ++ (bytes ++ drop (at + length bytes) out) ≡ sets out at bytes
-stored out bytes at h = sym (sets-eq bytes out at h ∙ append_assoc (take at out) bytes (drop (at + length bytes) out))
+pub loop-i-init : goal.loop-i-init
+loop-i-init c = (refl, sets_start c.args.out.now c.args.at c.args.bytes.now)
+
+pub loop-i-preserved : goal.loop-i-preserved
+loop-i-preserved c =
+    let a = c.args in
+    (simp length-set c.loop-i.invariant.0, sets_turn c.loop-i.out a.at c.loop-i.i a.bytes.now (omega arith) ∙ c.loop-i.invariant.1)
 
 pub returns : goal.returns
 returns c =
     let a = c.args in
-    let n = length a.bytes.now in
-    let count : a.at + n - a.at ≡ n = omega arith in
-    record {
-      ends = refl;
-      leaves = rw (c.copy_from_slice.ensures.after, count, drop-drop n a.at a.out.now) (stored a.out.now a.bytes.now a.at (omega arith));
-    }
+    record { ends = refl; leaves = sets_end c.loop-i.out a.at c.loop-i.i a.bytes.now (omega arith) ∙ c.loop-i.invariant.1 }
