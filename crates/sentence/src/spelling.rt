@@ -2,25 +2,16 @@
 ghost use Rattle.std.specs.Prelude.{◌≡◌, ◌/◌, ◌<◌};
 ghost use Rattle.sentence.specs.Spelling.{figure_of, digit_value, all_digits, Spells, hex_of, unhexed_so, closing_of};
 
-// What a digit counts, `0` to `9` or `a` to `f`: 16 for any other byte. Test by test, since of a `match` over ranges the compiler makes
-// branches, which cost twice the time where digits and letters alternate.
+// What a digit counts, `0` to `9` or `a` to `f`: 16 for any other byte.
 #[tactic(auto, unfolding(crate::specs::Spelling::digit_value))]
 pub fn digit_value(c: u8) -> u8
     ensures { result ≡ digit_value c }
 {
-    if c < b'0' {
-        return 16;
+    match c {
+        b'0'..=b'9' => c - b'0',
+        b'a'..=b'f' => c - b'a' + 10,
+        _ => 16,
     }
-    if c <= b'9' {
-        return c - b'0';
-    }
-    if c < b'a' {
-        return 16;
-    }
-    if c <= b'f' {
-        return c - 87;
-    }
-    16
 }
 
 // The digit of n: `0` to `9`, then the letters from `ten` on.
