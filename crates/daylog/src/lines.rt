@@ -83,8 +83,7 @@ fn columns(
     mark(out, at, b'\n')
 }
 
-// The number's decimal digits, the last one first. The loop goes by what is left of the number; a `for` over the places would have to
-// be left just where nothing is.
+// The number's decimal digits, the last one first, as many as are counted beforehand.
 fn decimal(out: &mut [u8], at: usize, number: u64) -> usize
     requires { at + length (Text·decimal number) ≤ length out.old }
     ensures { Stores out.old at (Text·decimal number) result out.new }
@@ -137,6 +136,7 @@ pub fn has_room(len: usize, at: usize, n: usize) -> bool
     at <= len && n <= len - at
 }
 
+// Byte by byte: a word is short, and a call of `memcpy` costs more than its bytes.
 fn put(out: &mut [u8], at: usize, bytes: &[u8]) -> usize
     requires { at + length bytes.now ≤ length out.old }
     ensures { Stores out.old at bytes.now result out.new }
