@@ -23,11 +23,13 @@ fn figure(n: u8, ten: u8) -> u8
     if n < 10 { b'0' + n } else { ten + (n - 10) }
 }
 
-// Whether each byte is a digit of the base.
+// Whether each byte is a digit of the base. Every byte is looked at: with `all`, which may stop early, the compiler branches on
+// whether each digit is above `9`, and no processor guesses that of a report's digits.
 pub fn all_digits(part: &[u8], base: u8) -> bool
     ensures { result ≡ all_digits base part.now }
 {
-    part.iter().all(|c| digit_value(*c) < base)
+    part.iter()
+        .fold(true, |all, c| all & (digit_value(*c) < base))
 }
 
 // Ten characters, of which those from `from` on are a number's digits and the others 0.

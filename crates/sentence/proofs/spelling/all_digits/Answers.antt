@@ -1,18 +1,19 @@
--- `all_digits`: the test of each byte is the definition's.
-use Rattle.std.proofs.Common.{◌≡◌, ℕ, ltb, List, [], ◌∷◌, refl, sym, ◌∙◌, rules, tests}
+-- `all_digits`: a fold from the left is the definition's test of each byte.
+use Rattle.std.proofs.Common.{◌≡◌, ℕ, Bool, true, false, ltb, List, [], ◌∷◌, ◌&&◌, refl, ◌∙◌, rules, tests, fold}
 use Rattle.std.proofs.lemmas.Iterator.{YieldsList-from_slice}
-use Rattle.std.proofs.lemmas.Iterator.Search.{all_from_yields_List}
-use Rattle.std.specs.List.{list_all}
+use Rattle.std.proofs.lemmas.Iterator.Consumers.{fold_from_yields_List}
 use Rattle.sentence.specs.Spelling.{all_digits, digit_value}
 use Rattle.sentence.proofs.spelling.all_digits.Goals as goal
 
-all_is : (base : ℕ) (s : List ℕ) → all_digits base s ≡ list_all (λ c. ltb (digit_value c) base) s
+folded : (base : ℕ) (all : Bool) (s : List ℕ) → fold (λ a x. a && ltb (digit_value x) base) all s ≡ all && all_digits base s
 unfolding all_digits
-all_is base [] = refl
-all_is base (c ∷ s) = rw (all_is base s)
+folded base true [] = refl
+folded base false [] = refl
+folded base true (x ∷ s) = folded base (ltb (digit_value x) base) s
+folded base false (x ∷ s) = folded base false s
 
 pub returns : goal.returns
 returns c =
     let a = c.args in
-    all_from_yields_List (λ x. ltb (digit_value x) a.base) _ _ _ c.all.ensures.ran (YieldsList-from_slice a.part.now cc) (λ x b q k. search (rules, tests))
-    ∙ sym (all_is a.base a.part.now)
+    fold_from_yields_List _ (λ b x. b && ltb (digit_value x) a.base) true _ c.fold.ensures.ran (YieldsList-from_slice a.part.now cc) (λ b x r q k. search (rules, tests))
+    ∙ folded a.base true a.part.now
