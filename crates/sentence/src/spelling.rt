@@ -23,8 +23,8 @@ fn figure(n: u8, ten: u8) -> u8
     if n < 10 { b'0' + n } else { ten + (n - 10) }
 }
 
-// Whether each byte is a digit of the base. Every byte is looked at: with `all`, which may stop early, the compiler branches on
-// whether each digit is above `9`, and no processor guesses that of a report's digits.
+// Whether each byte is a digit of the base. Nothing leaves the loop early, so that the compiler takes many bytes at once; with
+// `all` it branches on whether a digit is above `9`, which no processor guesses of a report.
 pub fn all_digits(part: &[u8], base: u8) -> bool
     ensures { result ≡ all_digits base part.now }
 {
